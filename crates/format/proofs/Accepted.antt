@@ -1,0 +1,181 @@
+-- What acceptance says of an image, for the layers above, which never open the check. Assumes nothing.
+--     Header l            the header of an accepted image
+--     accepted-header     the header holds
+--     accepted-end        the last record ends where the image does
+--     record-formed       each record of a section is formed
+--     record-stands       and lies in the image, at its place
+--     place-next          the next record's place
+--     records-count       the section of the policy has as many records as the header counts
+--     records-given       claim RecordsGiven
+use Prim.Native.Nat.{ℕ, zero, suc, _+_, _-_, _≤_, _<_}
+use mathlib.Core.Path.{_≡_, refl, sym, subst, ap, _∙_}
+use mathlib.Core.Bool.{Bool, true, false, _&&_}
+use mathlib.Core.Option.{Option, none, some}
+use mathlib.Core.List.{List, [], List·Memᴰ}
+use native.Mathlib.Omega.{arith}
+use native.Mathlib.Numerals.{add-one}
+use lib.ListN.{length, getD, take, drop}
+use lib.Dec.{leb, ltb, eqb}
+use borrow.Author.Tests.{leb-true, ltb-true, eqb-true, lt-ltb}
+use Rattle.format.specs.declared.Section.{Section}
+use Rattle.format.specs.declared.Section.the-variants.{Groups, Rules, Constraints}
+use Rattle.format.specs.declared.Refusal.{Refusal}
+use Rattle.format.specs.Bytes.{wordAt}
+use Rattle.format.specs.Refusals.{refusal, need, _orElse_}
+use Rattle.format.specs.Format.{knownVersion, limitOf, countPlace, countOf, firstRecord}
+use Rattle.format.specs.Policy.{policyOf, recordsOf, recordAt, recordsAt, placeAfter, startOf, placeOf, endOf}
+use Rattle.format.specs.Check.{sectionFault, countFault, headerFault, bodyFault, check}
+use Rattle.format.specs.Give.{giveFault, unlessRefused, givenRecord}
+use Rattle.format.specs.Claims.{GivenAt, RecordsGiven}
+use Rattle.format.proofs.Tests.{both}
+use Rattle.format.proofs.Chain.{orElse-split, orElse-none, need-true, need-none}
+use Rattle.format.proofs.Shapes.{Formed, Stands, stands, record-part}
+use Rattle.format.proofs.Records.{place-snoc, records-length, records-nth, section-formed, section-rest}
+
+pub record Header (fits : ℕ → ℕ → Bool) (l : List ℕ) : Type 0 where
+  pub long : 9 ≤ length l
+  pub version : knownVersion (getD l 0 0) ≡ true
+  pub least : 9 ≤ wordAt l 1
+  pub fit : fits (wordAt l 1) (length l) ≡ true
+  pub few : (s : Section) → countOf l s ≤ limitOf s
+
+pub header-holds : (fits : ℕ → ℕ → Bool) (l : List ℕ) → headerFault fits l ≡ none → Header fits l
+unfolding headerFault countFault
+header-holds fits l e =
+    let e₁ = orElse-split (need (leb 9 (length l)) (refusal 1 0)) _ e in
+    let e₂ = orElse-split (need (knownVersion (getD l 0 0)) (refusal 2 0)) _ (e₁ .1) in
+    let e₃ = orElse-split (need (leb 9 (wordAt l 1) && fits (wordAt l 1) (length l)) (refusal 3 0)) _ (e₂ .1) in
+    let e₄ = orElse-split (countFault l Groups) _ (e₃ .1) in
+    let e₅ = orElse-split (countFault l Rules) (countFault l Constraints) (e₄ .1) in
+    let fit = both (leb 9 (wordAt l 1)) (fits (wordAt l 1) (length l)) (need-true _ _ (e₃ .0)) in
+    record {
+      long = leb-true 9 (length l) (need-true _ _ (e₁ .0));
+      version = need-true _ _ (e₂ .0);
+      least = leb-true 9 (wordAt l 1) (fit .0);
+      fit = fit .1;
+      few = few (e₄ .0) (e₅ .0) (e₅ .1);
+    }
+  where
+    few : countFault l Groups ≡ none → countFault l Rules ≡ none → countFault l Constraints ≡ none → (s : Section) → countOf l s ≤ limitOf s
+    few a b c Groups = leb-true (countOf l Groups) (limitOf Groups) (need-true _ _ a)
+    few a b c Rules = leb-true (countOf l Rules) (limitOf Rules) (need-true _ _ b)
+    few a b c Constraints = leb-true (countOf l Constraints) (limitOf Constraints) (need-true _ _ c)
+
+module _ (l : List ℕ) (e : check l ≡ none) where
+  pub accepted-header : Header eqb l
+  unfolding check
+  accepted-header = header-holds eqb l (orElse-split (headerFault eqb l) (bodyFault l) e .0)
+
+  pub accepted-length : wordAt l 1 ≡ length l
+  accepted-length = eqb-true (wordAt l 1) (length l) (accepted-header .fit)
+
+  pub accepted-body : bodyFault l ≡ none
+  unfolding check
+  accepted-body = orElse-split (headerFault eqb l) (bodyFault l) e .1
+
+pub section-inside : (l : List ℕ) (s : Section) (at n : ℕ) → at ≤ length l → sectionFault l s at n ≡ none → placeAfter l at n ≤ length l
+unfolding placeAfter
+section-inside l s at zero h e = h
+section-inside l s at (suc n) h e =
+    let f = stands l at (section-formed l s at (suc n) 0 (omega arith) e .shape) in
+    section-inside l s (at + getD l at 0) n (omega (arith, f .size, f .inside)) (section-rest l s at n e)
+
+module _ (l : List ℕ) (e : bodyFault l ≡ none) where
+  pub body-sections : (s : Section) → sectionFault l s (startOf l s) (countOf l s) ≡ none
+  unfolding bodyFault
+  body-sections Groups = orElse-split (sectionFault l Groups (startOf l Groups) (countOf l Groups)) _ e .0
+  body-sections Rules =
+      orElse-split (sectionFault l Rules (startOf l Rules) (countOf l Rules)) _
+      (orElse-split (sectionFault l Groups (startOf l Groups) (countOf l Groups)) _ e .1) .0
+  body-sections Constraints =
+      orElse-split (sectionFault l Constraints (startOf l Constraints) (countOf l Constraints)) _
+      (orElse-split (sectionFault l Rules (startOf l Rules) (countOf l Rules)) _
+      (orElse-split (sectionFault l Groups (startOf l Groups) (countOf l Groups)) _ e .1) .1) .0
+
+  body-end : length l ≤ endOf l
+  unfolding bodyFault
+  body-end =
+      leb-true (length l) (endOf l) (need-true _ _
+      (orElse-split (sectionFault l Constraints (startOf l Constraints) (countOf l Constraints)) _
+      (orElse-split (sectionFault l Rules (startOf l Rules) (countOf l Rules)) _
+      (orElse-split (sectionFault l Groups (startOf l Groups) (countOf l Groups)) _ e .1) .1) .1))
+
+  -- each section starts within the image
+  pub start-inside : 9 ≤ length l → (s : Section) → startOf l s ≤ length l
+  unfolding startOf
+  start-inside h Groups = h
+  start-inside h Rules = section-inside l Groups 9 (countOf l Groups) h (body-sections Groups)
+  start-inside h Constraints =
+      section-inside l Rules (placeAfter l 9 (countOf l Groups)) (countOf l Rules)
+      (section-inside l Groups 9 (countOf l Groups) h (body-sections Groups)) (body-sections Rules)
+
+  pub body-ends : 9 ≤ length l → endOf l ≡ length l
+  unfolding endOf placeOf
+  body-ends h =
+      let k = section-inside l Constraints (startOf l Constraints) (countOf l Constraints) (start-inside h Constraints) (body-sections Constraints) in
+      omega (arith, body-end)
+
+module _ (l : List ℕ) (e : check l ≡ none) where
+  pub accepted-end : endOf l ≡ length l
+  accepted-end = body-ends l (accepted-body l e) (accepted-header l e .long)
+
+  module _ (s : Section) (n : ℕ) (h : n < countOf l s) where
+    pub record-formed : Formed s (countOf l Groups) (recordAt l (placeOf l s n))
+    unfolding placeOf
+    record-formed = section-formed l s (startOf l s) (countOf l s) n h (body-sections l (accepted-body l e) s)
+
+    pub record-stands : Stands l (placeOf l s n) (recordAt l (placeOf l s n))
+    record-stands = stands l (placeOf l s n) (record-formed .shape)
+
+pub place-next : (l : List ℕ) (s : Section) (n : ℕ) → placeOf l s (n + 1) ≡ placeOf l s n + getD l (placeOf l s n) 0
+unfolding placeOf
+place-next l s n = rw add-one (place-snoc l (startOf l s) n)
+
+pub policy-records : (l : List ℕ) (s : Section) → recordsOf (policyOf l) s ≡ recordsAt l (startOf l s) (countOf l s)
+unfolding recordsOf policyOf
+policy-records l Groups = refl
+policy-records l Rules = refl
+policy-records l Constraints = refl
+
+pub record-nth : (l : List ℕ) (s : Section) (n : ℕ) → n < countOf l s → getD (recordsOf (policyOf l) s) n [] ≡ recordAt l (placeOf l s n)
+unfolding placeOf
+record-nth l s n h = ap (λ (rs : List (List ℕ)). getD rs n []) (policy-records l s) ∙ records-nth l (startOf l s) (countOf l s) n h
+
+pub records-count : (l : List ℕ) (s : Section) → length (recordsOf (policyOf l) s) ≡ countOf l s
+records-count l s = ap length (policy-records l s) ∙ records-length l (startOf l s) (countOf l s)
+
+module _ (l : List ℕ) (e : check l ≡ none) (s : Section) (n : ℕ) (h : n < countOf l s) where
+  pub give-none : giveFault l s n ≡ none
+  unfolding giveFault
+  give-none = orElse-none e (need-none _ (lt-ltb n (countOf l s) h))
+
+  pub record-is : givenRecord l s n ≡ recordAt l (placeOf l s n)
+  unfolding givenRecord unlessRefused
+  record-is = rw give-none (record-nth l s n h)
+
+pub records-given : RecordsGiven
+records-given l e s n k =
+    let h : n < countOf l s = rw (records-count l s) at k in
+    let is = record-is l e s n h in
+    let st = record-stands l e s n h in
+    record {
+      given = give-none l e s n h;
+      nth = is ∙ sym (record-nth l s n h);
+      nonempty = rw is (omega (arith, st .some));
+      inside = rw is (st .inside);
+      part = rw is (record-part l (placeOf l s n) st);
+    }
+
+-- what it says that nothing is refused, for the callers of `find` and `record`
+pub give-split : (l : List ℕ) (s : Section) (n : ℕ) → giveFault l s n ≡ none → (check l ≡ none) × (n < countOf l s)
+unfolding giveFault
+give-split l s n e =
+    let q = orElse-split (check l) (need (ltb n (countOf l s)) (refusal 14 0)) e in
+    (q .0, ltb-true n (countOf l s) (need-true _ _ (q .1)))
+
+pub given-at : (l : List ℕ) (s : Section) (n : ℕ) → giveFault l s n ≡ none → GivenAt l s n
+given-at l s n e = let q = give-split l s n e in records-given l (q .0) s n (rw (records-count l s) (q .1))
+
+pub given-none : (l : List ℕ) (s : Section) (n : ℕ) {f : Refusal} → giveFault l s n ≡ some f → givenRecord l s n ≡ []
+unfolding givenRecord unlessRefused
+given-none l s n e = rw e

@@ -1,0 +1,9 @@
+pub mod Tests
+pub mod Chain
+pub mod Bytes
+pub mod Shapes
+pub mod Records
+pub mod Accepted
+pub mod Fields
+pub mod Images
+pub mod References

@@ -1,0 +1,107 @@
+-- What is claimed of the definitions, and proved in proofs/. Well formed is said here a second time, in plain numbers
+-- and without the check's tests, as document 01's table of kinds says it.
+--     IsType g t          t is a basic type, or names one of g groups
+--     IsGroup, IsAllow, IsTransition, IsConstraint   a record of that kind
+--     IsRecord s g r      r is a record of a section, where there are g groups
+--     WellFormed p        the policy p meets the layout and its limits
+--     typeFields r        the type fields of a rule or of a constraint
+--     AcceptedIsWellFormed, WellFormedIsAccepted   accepted means well formed, both ways
+--     GivenAt, RecordsGiven   record n is the nth of its section, the last included, and a part of the image
+--     ReferencesHeld      a type field is a basic type, or names a group that the image has
+--     LongestImage        an accepted image has at most 55,561 bytes
+use Prim.Native.Nat.{ℕ, suc, _+_, _*_, _≤_, _<_}
+use mathlib.Core.Path.{_≡_}
+use mathlib.Core.Logic.{_⊎_}
+use mathlib.Core.Bool.{cond}
+use mathlib.Core.Option.{none}
+use mathlib.Core.List.{List, [], _∷_, List·Memᴰ}
+use lib.ListN.{length, getD, take, drop}
+use lib.Dec.{eqb}
+use Rattle.format.specs.declared.Section.{Section}
+use Rattle.format.specs.declared.Section.the-variants.{Groups, Rules, Constraints}
+use Rattle.format.specs.Bytes.{Bytes, wordAt, words}
+use Rattle.format.specs.Policy.{Policy, recordsOf, imageOf, policyOf, placeOf}
+use Rattle.format.specs.Check.{check}
+use Rattle.format.specs.Give.{giveFault, givenRecord}
+
+abbrev pub IsType : ℕ → ℕ → Type 0
+IsType g t = (t < 1024) ⊎ ((k : ℕ) × (k < g) × (t ≡ 32768 + k))
+
+-- kind 1: n basic types, strictly rising
+pub record IsGroup (r : List ℕ) (n : ℕ) : Type 0 where
+  pub size : (getD r 0 0 ≡ length r) × (length r ≡ 2 + 2 * n)
+  pub kind : getD r 1 0 ≡ 1
+  pub some : 1 ≤ n
+  pub most : n ≤ 64
+  pub basic : (i : ℕ) → i < n → wordAt r (2 + 2 * i) < 1024
+  pub rising : (i : ℕ) → suc i < n → wordAt r (2 + 2 * i) < wordAt r (2 + 2 * suc i)
+
+-- kind 2
+pub record IsAllow (g : ℕ) (r : List ℕ) : Type 0 where
+  pub size : (getD r 0 0 ≡ length r) × (length r ≡ 11)
+  pub kind : getD r 1 0 ≡ 2
+  pub source : IsType g (wordAt r 2)
+  pub dest : IsType g (wordAt r 4)
+  pub condition : getD r 10 0 ≤ 1
+
+-- kind 3
+pub record IsTransition (g : ℕ) (r : List ℕ) : Type 0 where
+  pub size : (getD r 0 0 ≡ length r) × (length r ≡ 8)
+  pub kind : getD r 1 0 ≡ 3
+  pub source : IsType g (wordAt r 2)
+  pub dest : IsType g (wordAt r 4)
+
+-- kind 4: n types in the list
+pub record IsConstraint (g : ℕ) (r : List ℕ) (n : ℕ) : Type 0 where
+  pub size : (getD r 0 0 ≡ length r) × (length r ≡ 11 + 2 * n)
+  pub kind : getD r 1 0 ≡ 4
+  pub first : IsType g (wordAt r 6)
+  pub second : IsType g (wordAt r 8)
+  pub predicate : getD r 10 0 ≤ 3
+  pub listed : getD r 10 0 ≡ 2 → 1 ≤ n
+  pub unlisted : (getD r 10 0 ≡ 2 → ⊥) → n ≡ 0
+  pub most : n ≤ 16
+  pub list : (i : ℕ) → i < n → IsType g (wordAt r (11 + 2 * i))
+
+unfoldable pub IsRecord : Section → ℕ → List ℕ → Type 0
+IsRecord Groups g r = (n : ℕ) × IsGroup r n
+IsRecord Rules g r = IsAllow g r ⊎ IsTransition g r
+IsRecord Constraints g r = (n : ℕ) × IsConstraint g r n
+
+pub record WellFormed (p : Policy) : Type 0 where
+  pub version : p .version ≡ 1
+  pub few-groups : length (p .groups) ≤ 256
+  pub few-rules : length (p .rules) ≤ 1024
+  pub few-constraints : length (p .constraints) ≤ 256
+  pub records : (s : Section) (r : List ℕ) → List·Memᴰ r (recordsOf p s) → IsRecord s (length (p .groups)) r
+  pub bytes : (s : Section) (r : List ℕ) → List·Memᴰ r (recordsOf p s) → Bytes r
+
+-- source and destination of a rule; first and second argument and the list of a constraint; a group has none
+unfoldable pub typeFields : List ℕ → List ℕ
+typeFields r =
+    cond (eqb (getD r 1 0) 1) []
+    (cond (eqb (getD r 1 0) 4) (wordAt r 6 ∷ wordAt r 8 ∷ words (drop 11 r)) (wordAt r 2 ∷ wordAt r 4 ∷ []))
+
+abbrev pub AcceptedIsWellFormed : Type 0
+AcceptedIsWellFormed = (l : List ℕ) → Bytes l → check l ≡ none → WellFormed (policyOf l) × (imageOf (policyOf l) ≡ l)
+
+abbrev pub WellFormedIsAccepted : Type 0
+WellFormedIsAccepted = (p : Policy) → WellFormed p → Bytes (imageOf p) × (check (imageOf p) ≡ none) × (policyOf (imageOf p) ≡ p)
+
+pub record GivenAt (l : List ℕ) (s : Section) (n : ℕ) : Type 0 where
+  pub given : giveFault l s n ≡ none
+  pub nth : givenRecord l s n ≡ getD (recordsOf (policyOf l) s) n []
+  pub nonempty : 0 < length (givenRecord l s n)
+  pub inside : placeOf l s n + length (givenRecord l s n) ≤ length l
+  pub part : givenRecord l s n ≡ take (length (givenRecord l s n)) (drop (placeOf l s n) l)
+
+abbrev pub RecordsGiven : Type 0
+RecordsGiven = (l : List ℕ) → check l ≡ none → (s : Section) (n : ℕ) → n < length (recordsOf (policyOf l) s) → GivenAt l s n
+
+abbrev pub ReferencesHeld : Type 0
+ReferencesHeld =
+    (l : List ℕ) → check l ≡ none → (s : Section) (r : List ℕ) → List·Memᴰ r (recordsOf (policyOf l) s)
+    → (t : ℕ) → List·Memᴰ t (typeFields r) → IsType (length (policyOf l .groups)) t
+
+abbrev pub LongestImage : Type 0
+LongestImage = (l : List ℕ) → check l ≡ none → length l ≤ 55561

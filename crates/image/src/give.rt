@@ -1,0 +1,89 @@
+// Record n of a section.
+use crate::checker::layout;
+use crate::word::wide;
+use crate::word::word_at;
+use format::Extent;
+use format::Found;
+use format::Refusal;
+use format::Section;
+use format::Sections;
+use format::Starts;
+ghost use mathlib.Core.Path.{_≡_};
+ghost use Prim.Native.Nat.{_≤_};
+ghost use lib.ListN.{length};
+ghost use Rattle.format.specs.Format.{countOf};
+ghost use Rattle.format.specs.Policy.{placeAfter};
+ghost use Rattle.format.specs.Answers.{outcome, foundOutcome, extent};
+ghost use Rattle.format.specs.Give.{giveFault, Given};
+ghost use Rattle.image.specs.Walk.{startIn, Hops};
+
+// How many records a section has.
+fn count_in(image: &[u8], section: Section) -> usize
+    requires { ⌜ 9 ≤ length (now image) ⌝ }
+    ensures { λ r. ⌜ r ≡ countOf (now (image .entry)) section ⌝ }
+{
+    match section {
+        Section::Groups => word_at(image, 3),
+        Section::Rules => word_at(image, 5),
+        Section::Constraints => word_at(image, 7),
+    }
+}
+
+// Where a section starts.
+fn start_in(starts: Starts, section: Section) -> usize
+    ensures { λ r. ⌜ r ≡ startIn starts section ⌝ }
+{
+    match section {
+        Section::Groups => 9,
+        Section::Rules => starts.rules,
+        Section::Constraints => starts.constraints,
+    }
+}
+
+// The place past so many records, from a place on: from each length byte to the next.
+fn place_after(image: &[u8], from: usize, count: usize) -> usize
+    requires { ⌜ Hops (now image) from count ⌝ }
+    ensures { λ r. ⌜ r ≡ placeAfter (now (image .entry)) from count ⌝ }
+{
+    let mut at = from;
+    for k in 0..count {
+        at += wide(image[at]);
+    }
+    at
+}
+
+// Where record n of a section stands; else the refusal, 1 to 7 and then 14.
+pub fn find(image: &[u8], section: Section, n: usize) -> Found
+    ensures { λ r. ⌜ foundOutcome r ≡ outcome (giveFault (now (image .entry)) section n) (extent (now (image .entry)) section n) ⌝ }
+{
+    match layout(image) {
+        Sections::Refused(f) => Found::Refused(f),
+        Sections::At(starts) => {
+            if count_in(image, section) <= n {
+                return Found::Refused(Refusal {
+                    number: 14,
+                    place: 0,
+                });
+            }
+            let place = place_after(image, start_in(starts, section), n);
+            Found::At(Extent {
+                place,
+                length: wide(image[place]),
+            })
+        }
+    }
+}
+
+// Record n of a section: its own bytes, a part of the image. On a refusal, which `find` tells, the part is empty.
+pub fn record(image: &[u8], section: Section, n: usize) -> &[u8]
+    ensures { λ r. ⌜ Given (image .entry) r section n ⌝ }
+{
+    match find(image, section, n) {
+        Found::Refused(_) => &image[..0],
+        Found::At(extent) => {
+            let from = extent.place;
+            let to = from + extent.length;
+            &image[from..to]
+        }
+    }
+}

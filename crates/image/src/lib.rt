@@ -1,0 +1,17 @@
+// Reading a policy image: the check, the record reader, and record n of a section.
+//
+// Each public function takes any bytes and says in its contract what it answers, by the definitions of the crate
+// `format`. Nothing lent is changed, and nothing is remembered from one call to the next.
+mod word; // word.rt: numbers in bytes
+mod kind; // kind.rt: kinds, lengths and the fields' single rules
+mod fields; // fields.rt: the fields of a record, by its kind
+mod reader; // reader.rt: the record at the front of a part
+mod checker; // checker.rt: the check of an image
+mod give; // give.rt: record n of a section
+
+pub use checker::check;
+pub use checker::layout;
+pub use give::find;
+pub use give::record;
+pub use kind::is_type;
+pub use reader::read_record;

@@ -1,0 +1,55 @@
+// A case's line: its label and what is answered.
+use format::Checked;
+use format::Found;
+use format::Refusal;
+use format::Section;
+use libc::STDOUT_FILENO;
+
+fn number(n: usize) {
+    io::write_all(STDOUT_FILENO, b" ");
+    io::print_decimal(STDOUT_FILENO, n as u64);
+}
+
+fn label_line(label: &[u8]) {
+    io::write_all(STDOUT_FILENO, label);
+    io::write_all(STDOUT_FILENO, b":");
+}
+
+fn refusal_line(f: Refusal) {
+    io::write_all(STDOUT_FILENO, b" R");
+    number(f.number as usize);
+    number(f.place);
+}
+
+// "accepted", or R with the number and the place.
+pub(crate) fn show_check(label: &[u8], part: &[u8]) {
+    label_line(label);
+    match image::check(part) {
+        Checked::Accepted => {
+            io::write_all(STDOUT_FILENO, b" accepted");
+        }
+        Checked::Refused(f) => {
+            refusal_line(f);
+        }
+    }
+    io::write_all(STDOUT_FILENO, b"\n");
+}
+
+// The place and the length of a record, or R with the number and the place; and how many bytes are given.
+pub(crate) fn show_record(label: &[u8], part: &[u8], section: Section, n: usize) {
+    label_line(label);
+    match image::find(part, section, n) {
+        Found::At(e) => {
+            io::write_all(STDOUT_FILENO, b" at");
+            number(e.place);
+            number(e.length);
+        }
+        Found::Refused(f) => {
+            refusal_line(f);
+        }
+    }
+    let given = image::record(part, section, n);
+    io::write_all(STDOUT_FILENO, b", given");
+    number(given.len());
+    io::write_all(STDOUT_FILENO, b"\n");
+}
