@@ -7,3 +7,4 @@ pub mod Accepted
 pub mod Fields
 pub mod Images
 pub mod References
+pub mod Sample

@@ -6,3 +6,4 @@ pub mod Check
 pub mod Give
 pub mod Answers
 pub mod Claims
+pub mod Sample

@@ -18,6 +18,7 @@ fn main() {
     constraint_fields();
     order();
     members();
+    most_rules();
     counts();
     longest();
     records();
@@ -123,48 +124,55 @@ fn members() {
     show_check(b"65 members", &longer);
 }
 
-// The sections' limits.
+// The most rules.
+fn most_rules() {
+    let mut space = io::large_buffer();
+    let image: &mut [u8] = &mut space[..8201];
+    repeat(image, 0, b"\x01\x20\x09\x00\x00\x04\x00\x00\x00", 1);
+    repeat(image, 9, b"\x08\x03\x00\x01\x00\x02\x00\x03", 1024);
+    show_check(b"1,024 rules", image);
+}
+
+// Counts over their limits.
 fn counts() {
-    let mut image = [0u8; 8201];
-    repeat(&mut image, 0, b"\x01\x20\x09\x00\x00\x04\x00\x00\x00", 1);
-    repeat(&mut image, 9, b"\x08\x03\x00\x01\x00\x02\x00\x03", 1024);
-    show_check(b"1,024 rules", &image);
-    let mut longer = [0u8; 8209];
-    repeat(&mut longer, 0, b"\x01\x20\x11\x00\x00\x04\x01\x00\x00", 1);
-    repeat(&mut longer, 9, b"\x08\x03\x00\x01\x00\x02\x00\x03", 1025);
-    show_check(b"1,025 rules", &longer);
-    repeat(&mut longer, 3, b"\x01\x01\x04\x01\x01\x01", 1);
-    show_check(b"257 groups, 1,025 rules, 257 constraints", &longer);
-    repeat(&mut longer, 3, b"\x00\x00\x04\x00\x01\x01", 1);
-    show_check(b"257 constraints", &longer);
+    let mut space = io::large_buffer();
+    let image: &mut [u8] = &mut space[..8209];
+    repeat(image, 0, b"\x01\x20\x11\x00\x00\x04\x01\x00\x00", 1);
+    repeat(image, 9, b"\x08\x03\x00\x01\x00\x02\x00\x03", 1025);
+    show_check(b"1,025 rules", image);
+    repeat(image, 3, b"\x01\x01\x04\x01\x01\x01", 1);
+    show_check(b"257 groups, 1,025 rules, 257 constraints", image);
+    repeat(image, 3, b"\x00\x00\x04\x00\x01\x01", 1);
+    show_check(b"257 constraints", image);
 }
 
 // The longest image: every section at its limit, every record as long as it can be.
 fn longest() {
-    let mut image = [0u8; 55561];
-    repeat(&mut image, 0, b"\x01\xD9\x09\x01\x00\x04\x00\x01\x00", 1);
-    repeat(&mut image, 9, &GROUP, 256);
+    let mut space = io::large_buffer();
+    let image: &mut [u8] = &mut space[..55561];
+    repeat(image, 0, b"\x01\xD9\x09\x01\x00\x04\x00\x01\x00", 1);
+    repeat(image, 9, &GROUP, 256);
     repeat(
-        &mut image,
+        image,
         33289,
         b"\x0B\x02\x80\xFF\x03\xFF\xFF\xFF\xFF\xFF\x01",
         1024,
     );
     repeat(
-        &mut image,
+        image,
         44553,
         b"\x2B\x04\x00\x05\x00\x01\x80\x00\x80\xFF\x02\x00\x00\x00\x01\x00\x02\x00\x03\x00\x04\x00\x05\x00\x06\x00\x07\x00\x08\x00\x09\x00\x0A\x00\x0B\x00\x0C\x00\x0D\x80\x00\x80\xFF",
         256,
     );
-    show_check(b"the longest image", &image);
-    show_record(b"its last constraint", &image, Section::Constraints, 255);
-    show_record(b"one past it", &image, Section::Constraints, 256);
-    repeat(&mut image, 55559, b"\x80\xFE", 1);
-    show_check(b"its last type group 254", &image);
-    repeat(&mut image, 55559, b"\x81\x00", 1);
-    show_check(b"its last type group 256", &image);
-    repeat(&mut image, 3, b"\x00\xFF", 1);
-    show_check(b"one group fewer counted", &image);
+    show_check(b"the longest image", image);
+    show_record(b"its last constraint", image, Section::Constraints, 255);
+    show_record(b"one past it", image, Section::Constraints, 256);
+    repeat(image, 55559, b"\x80\xFE", 1);
+    show_check(b"its last type group 254", image);
+    repeat(image, 55559, b"\x81\x00", 1);
+    show_check(b"its last type group 256", image);
+    repeat(image, 3, b"\x00\xFF", 1);
+    show_check(b"one group fewer counted", image);
 }
 
 // Record n of a section.
