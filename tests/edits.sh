@@ -1,6 +1,6 @@
 #!/usr/bin/env bash
 # Every must-fail edit was refused at a fact that no longer holds. Where the first error is that a proof file no longer
-# fits the code's shape, or that a name is not in scope, the edit shows nothing. Reads what `rt ci` left in target/.
+# fits the code's shape, or that a name or a field is not there, the edit shows nothing. Reads what `rt ci` left in target/.
 bad=0
 for edit in crates/*/must-fail/*.edit; do
     crate=${edit#crates/}
@@ -13,7 +13,7 @@ for edit in crates/*/must-fail/*.edit; do
     fi
     first=$(grep -a -m 1 ': error' "$log")
     case $first in
-        '' | *'that can be named from here'* | *'is not in scope'*)
+        '' | *'that can be named from here'* | *'is not in scope'* | *'has no field'*)
             echo "$edit: shows nothing: $first"
             bad=1
             ;;

@@ -1,5 +1,6 @@
 -- What acceptance says of an image, for the layers above, which never open the check. Assumes nothing.
 --     Header l            the header of an accepted image
+--     header-holds, holds-header   no refusal from 1 to 4, and its parts
 --     accepted-header     the header holds
 --     accepted-end        the last record ends where the image does
 --     record-formed       each record of a section is formed
@@ -16,18 +17,18 @@ use native.Mathlib.Omega.{arith}
 use native.Mathlib.Numerals.{add-one}
 use lib.ListN.{length, getD, take, drop}
 use lib.Dec.{leb, ltb, eqb}
-use borrow.Author.Tests.{leb-true, ltb-true, eqb-true, lt-ltb}
+use borrow.Author.Tests.{leb-true, ltb-true, eqb-true, le-leb, lt-ltb}
 use Rattle.format.specs.declared.Section.{Section}
 use Rattle.format.specs.declared.Section.the-variants.{Groups, Rules, Constraints}
 use Rattle.format.specs.declared.Refusal.{Refusal}
 use Rattle.format.specs.Bytes.{wordAt}
-use Rattle.format.specs.Refusals.{refusal, need, _orElse_}
+use Rattle.format.specs.Refusals.{refusal, need, _orElse_, unlessRefused}
 use Rattle.format.specs.Format.{knownVersion, limitOf, countPlace, countOf, firstRecord}
 use Rattle.format.specs.Policy.{policyOf, recordsOf, recordAt, recordsAt, placeAfter, startOf, placeOf, endOf}
 use Rattle.format.specs.Check.{sectionFault, countFault, headerFault, bodyFault, check}
-use Rattle.format.specs.Give.{giveFault, unlessRefused, givenRecord}
+use Rattle.format.specs.Give.{giveFault, givenRecord}
 use Rattle.format.specs.Claims.{GivenAt, RecordsGiven}
-use Rattle.format.proofs.Tests.{both}
+use Rattle.format.proofs.Tests.{both, and-true}
 use Rattle.format.proofs.Chain.{orElse-split, orElse-none, need-true, need-none}
 use Rattle.format.proofs.Shapes.{Formed, Stands, stands, record-part}
 use Rattle.format.proofs.Records.{place-snoc, records-length, records-nth, section-formed, section-rest}
@@ -60,6 +61,17 @@ header-holds fits l e =
     few a b c Groups = leb-true (countOf l Groups) (limitOf Groups) (need-true _ _ a)
     few a b c Rules = leb-true (countOf l Rules) (limitOf Rules) (need-true _ _ b)
     few a b c Constraints = leb-true (countOf l Constraints) (limitOf Constraints) (need-true _ _ c)
+
+pub holds-header : (fits : ℕ → ℕ → Bool) (l : List ℕ) → Header fits l → headerFault fits l ≡ none
+unfolding headerFault countFault
+holds-header fits l h =
+    orElse-none (need-none _ (le-leb 9 (length l) (h .long)))
+    (orElse-none (need-none _ (h .version))
+    (orElse-none (need-none _ (and-true (le-leb 9 (wordAt l 1) (h .least)) (h .fit)))
+    (orElse-none (few Groups) (orElse-none (few Rules) (few Constraints)))))
+  where
+    few : (s : Section) → countFault l s ≡ none
+    few s = need-none _ (le-leb (countOf l s) (limitOf s) (h .few s))
 
 module _ (l : List ℕ) (e : check l ≡ none) where
   pub accepted-header : Header eqb l

@@ -3,6 +3,8 @@
 --     Rising low ms             basic types, strictly rising, the first at least low
 --     members-rising, rising-members    badMember finds none in such a list, and in no other
 --     formed-is, is-formed      Formed and IsRecord
+--     field-inside              a bad field lies within its record
+--     formed-more               a record stays one where there are more groups
 use Prim.Native.Nat.{ℕ, zero, suc, _+_, _-_, _*_, _/_, _%_, _≤_, _<_}
 use mathlib.Core.Path.{_≡_, refl, sym, subst, ap, _∙_}
 use mathlib.Core.Logic.{_⊎_, inl, inr, ⊎-elim}
@@ -375,3 +377,40 @@ module _ (g : ℕ) (r : List ℕ) where
 
   pub field-inside : (i : ℕ) → shapeOk r ≡ true → badField g r ≡ some i → i < length r
   field-inside i e q = rw q at (below-field e)
+
+-- ---- what is a record where there are g groups is one where there are more
+
+type-more : (g g′ t : ℕ) → g ≤ g′ → IsType g t → IsType g′ t
+type-more g g′ t h (inl k) = inl k
+type-more g g′ t h (inr q) = inr (q .0, omega (arith, q .1), q .2)
+
+record-more : (g g′ : ℕ) (r : List ℕ) → g ≤ g′ → (s : Section) → IsRecord s g r → IsRecord s g′ r
+unfolding IsRecord
+record-more g g′ r h Groups q = q
+record-more g g′ r h Rules (inl f) =
+    inl (record { size = f .size; kind = f .kind; source = type-more g g′ _ h (f .source); dest = type-more g g′ _ h (f .dest); condition = f .condition })
+record-more g g′ r h Rules (inr f) =
+    inr (record { size = f .size; kind = f .kind; source = type-more g g′ _ h (f .source); dest = type-more g g′ _ h (f .dest) })
+record-more g g′ r h Constraints q =
+    let f = q .1 in (
+      q .0,
+      record {
+        size = f .size;
+        kind = f .kind;
+        first = type-more g g′ _ h (f .first);
+        second = type-more g g′ _ h (f .second);
+        predicate = f .predicate;
+        listed = f .listed;
+        unlisted = f .unlisted;
+        most = f .most;
+        list = λ i k. type-more g g′ _ h (f .list i k);
+      },
+    )
+
+pub formed-more : (g g′ : ℕ) (r : List ℕ) (s : Section) → g ≤ g′ → Formed s g r → Formed s g′ r
+formed-more g g′ r s h f = is-formed g′ r s (record-more g g′ r h s (formed-is g r s f))
+
+-- a group names no group
+pub group-any : (g g′ : ℕ) (r : List ℕ) → Formed Groups g r → Formed Groups g′ r
+unfolding IsRecord
+group-any g g′ r f = is-formed g′ r Groups (formed-is g r Groups f)

@@ -21,15 +21,15 @@ use Rattle.format.specs.Bytes.{Bytes, wordAt, putWord}
 use Rattle.format.specs.Refusals.{refusal, need, _orElse_}
 use Rattle.format.specs.Format.{knownVersion, limitOf, countPlace, countOf, kindIn, firstRecord, shapeOk, lengthOk}
 use Rattle.format.specs.Policy.{Policy, recordsOf, bodyOf, imageOf, recordAt, recordsAt, placeAfter, startOf, placeOf, endOf, policyOf}
-use Rattle.format.specs.Check.{sectionFault, countFault, headerFault, bodyFault, check}
+use Rattle.format.specs.Check.{sectionFault, headerFault, bodyFault, check}
 use Rattle.format.specs.Claims.{WellFormed, AcceptedIsWellFormed, WellFormedIsAccepted, LongestImage}
-use Rattle.format.proofs.Tests.{both, and-true}
+use Rattle.format.proofs.Tests.{both}
 use Rattle.format.proofs.Chain.{orElse-none, need-none}
 use Rattle.format.proofs.Bytes.{bytes-cons, bytes-append, bytes-drop, bytes-take, bytes-flatten, bytes-word, word-bytes, word-back}
 use Rattle.format.proofs.Shapes.{Formed, length-cases, shape-kind}
 use Rattle.format.proofs.Records.{records-mem, records-flatten, Runs, runs-records, runs-place, runs-fault, runs-flatten, Shaped}
 use Rattle.format.proofs.Fields.{formed-is, is-formed}
-use Rattle.format.proofs.Accepted.{accepted-header, accepted-length, accepted-end, record-formed, records-count, policy-records}
+use Rattle.format.proofs.Accepted.{holds-header, accepted-header, accepted-length, accepted-end, record-formed, records-count, policy-records}
 
 -- a policy that passes the check's tests
 pub record Sound (p : Policy) : Type 0 where
@@ -281,12 +281,12 @@ module _ (p : Policy) (w : Sound p) where
       (length-append (headerOf p) (flatten (p .groups)) ∙ ap (λ (n : ℕ). n + length (flatten (p .groups))) (header-nine p)))
       (shaped Constraints)
 
-  start-rules : startOf (imageOf p) Rules ≡ rules-start
-  unfolding startOf recordsOf
+  pub start-rules : startOf (imageOf p) Rules ≡ 9 + length (flatten (p .groups))
+  unfolding startOf recordsOf rules-start
   start-rules = ap (placeAfter (imageOf p) 9) (image-count p Groups) ∙ runs-place runs-groups
 
-  start-constraints : startOf (imageOf p) Constraints ≡ constraints-start
-  unfolding startOf recordsOf
+  pub start-constraints : startOf (imageOf p) Constraints ≡ 9 + length (flatten (p .groups)) + length (flatten (p .rules))
+  unfolding startOf recordsOf rules-start constraints-start
   start-constraints =
       ap (λ (at : ℕ). placeAfter (imageOf p) at (countOf (imageOf p) Rules)) start-rules
       ∙ ap (placeAfter (imageOf p) rules-start) (image-count p Rules)
@@ -294,7 +294,7 @@ module _ (p : Policy) (w : Sound p) where
 
   -- the records of each section run from where the section starts
   pub image-runs : (s : Section) → (e : ℕ) × Runs (imageOf p) (startOf (imageOf p) s) (recordsOf p s) e
-  unfolding startOf recordsOf
+  unfolding startOf recordsOf rules-start constraints-start
   image-runs Groups = (rules-start, runs-groups)
   image-runs Rules = (constraints-start, rw start-rules runs-rules)
   image-runs Constraints = (constraints-start + length (flatten (p .constraints)), rw start-constraints runs-constraints)
@@ -318,18 +318,17 @@ module _ (p : Policy) (w : Sound p) where
   unfolding policyOf recordsOf
   policy-of-image = λ i. record { version = image-version p i; groups = image-records Groups i; rules = image-records Rules i; constraints = image-records Constraints i }
 
-  count-passes : (s : Section) → countFault (imageOf p) s ≡ none
-  unfolding countFault
-  count-passes s = need-none _ (le-leb (countOf (imageOf p) s) (limitOf s) (rw (image-count p s) (w .few s)))
-
   header-passes : headerFault eqb (imageOf p) ≡ none
-  unfolding headerFault
   header-passes =
       let n : 9 ≤ length (imageOf p) = rw (image-length p) (omega arith) in
-      orElse-none (need-none _ (le-leb 9 (length (imageOf p)) n))
-      (orElse-none (need-none _ (rw (image-version p) (w .version)))
-      (orElse-none (need-none _ (and-true (le-leb 9 (wordAt (imageOf p) 1) (rw (image-length-field p) n)) (eq-eqb (wordAt (imageOf p) 1) (length (imageOf p)) (image-length-field p))))
-      (orElse-none (count-passes Groups) (orElse-none (count-passes Rules) (count-passes Constraints)))))
+      holds-header eqb (imageOf p)
+      (record {
+        long = n;
+        version = rw (image-version p) (w .version);
+        least = rw (image-length-field p) n;
+        fit = eq-eqb (wordAt (imageOf p) 1) (length (imageOf p)) (image-length-field p);
+        few = λ s. rw (image-count p s) (w .few s);
+      })
 
   body-passes : bodyFault (imageOf p) ≡ none
   unfolding bodyFault

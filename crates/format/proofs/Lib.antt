@@ -4,6 +4,7 @@ pub mod Bytes
 pub mod Shapes
 pub mod Records
 pub mod Accepted
+pub mod Front
 pub mod Fields
 pub mod Images
 pub mod References

@@ -7,11 +7,14 @@
 --     countFault l s         refusal 4, for one section
 --     bodyFault l            refusals 5 to 7, where l is the image to its last byte and no more
 --     check l                the first refusal of the image l, where there is one
+--     imageIn b              the image that a buffer starts with: the bytes up to its length field
+--     checkFront b           the first refusal of that image; there, 3 is a length field beyond the buffer
+--     leading b              the bytes that are to be checked: that image where there is one, else the buffer itself
 use Prim.Native.Nat.{ℕ, zero, suc, _+_}
 use mathlib.Core.Bool.{Bool, cond, _&&_}
 use mathlib.Core.Option.{Option, none, some}
 use mathlib.Core.List.{List}
-use lib.ListN.{length, getD, drop}
+use lib.ListN.{length, getD, take, drop}
 use lib.Dec.{leb, eqb}
 use Rattle.format.specs.declared.Section.{Section}
 use Rattle.format.specs.declared.Section.the-variants.{Groups, Rules, Constraints}
@@ -63,3 +66,12 @@ bodyFault l =
 
 unfoldable pub check : List ℕ → Option Refusal
 check l = headerFault eqb l orElse bodyFault l
+
+unfoldable pub imageIn : List ℕ → List ℕ
+imageIn b = take (wordAt b 1) b
+
+unfoldable pub checkFront : List ℕ → Option Refusal
+checkFront b = headerFault leb b orElse bodyFault (imageIn b)
+
+unfoldable pub leading : List ℕ → List ℕ
+leading b = cond (leb 9 (length b) && leb 9 (wordAt b 1) && leb (wordAt b 1) (length b)) (imageIn b) b

@@ -2,3 +2,4 @@ pub mod FieldLaws
 pub mod ReaderLaws
 pub mod WalkLaws
 pub mod BodyLaws
+pub mod FrontLaws

@@ -7,10 +7,13 @@ mod kind; // kind.rt: kinds, lengths and the fields' single rules
 mod fields; // fields.rt: the fields of a record, by its kind
 mod reader; // reader.rt: the record at the front of a part
 mod checker; // checker.rt: the check of an image
+mod front_part; // front_part.rt: the image that a buffer starts with
 mod give; // give.rt: record n of a section
 
 pub use checker::check;
 pub use checker::layout;
+pub use front_part::front;
+pub use front_part::leading;
 pub use give::find;
 pub use give::record;
 pub use kind::is_type;

@@ -1,0 +1,56 @@
+-- Laws of bytes moved up and written, by the turns of the loops. Assumes nothing.
+--     up-none, up-turn     a move, from the back: nothing is moved yet, and one byte more
+--     steps-insert         the four steps of an insertion, one after the other
+use Prim.Native.Nat.{ℕ, suc, _+_, _-_, _/_, _%_, _<_, _≤_}
+use mathlib.Core.Path.{_≡_, refl, sym, ap, _∙_}
+use mathlib.Core.List.{List, [], _∷_, _++_, append-assoc}
+use native.Mathlib.Omega.{arith}
+use native.Mathlib.Numerals.{add-one}
+use lib.ListN.{length, getD, take, drop, set, length-append, length-drop, length-set, take-append-drop, List·getD-append}
+use lib.Seq.{slice, slice-empty, slice-cons, length-slice, take-suc, append-snoc, set-at, drop-at, getD-take, length-take-le, take-append-le, take-take, take-length, paste}
+use Rattle.extension.specs.Splice.{putWordAt, spliced, inserted}
+use Rattle.extend.specs.Moves.{movedUp, pasted}
+
+pub up-none : (l : List ℕ) (to by : ℕ) → l ≡ movedUp l to to by
+unfolding movedUp
+up-none l to by = rw slice-empty (sym (take-append-drop (to + by) l))
+
+-- what lies below the bytes moved is as it was
+up-low : (l : List ℕ) (i to by : ℕ) → i ≤ to → to + by ≤ length l → (j : ℕ) → j < i + by → getD (movedUp l i to by) j 0 ≡ getD l j 0
+unfolding movedUp
+up-low l i to by h room j k =
+    List·getD-append (take (i + by) l) _ 0 j (omega (arith, length-take-le (i + by) l (omega arith))) ∙ getD-take (i + by) l j 0 k
+
+up-more : (l : List ℕ) (i to by : ℕ) → i < to → to + by ≤ length l → set (movedUp l (i + 1) to by) (i + by) (getD l i 0) ≡ movedUp l i to by
+unfolding movedUp
+up-more l i to by h room =
+    let e : i + 1 + by ≡ suc (i + by) = omega arith in
+    let t : take (i + 1 + by) l ≡ take (i + by) l ++ (getD l (i + by) 0 ∷ []) = ap (λ (n : ℕ). take n l) e ∙ take-suc l (i + by) 0 (omega arith) in
+    let s : slice i to l ≡ getD l i 0 ∷ slice (i + 1) to l = slice-cons i to l 0 h (omega arith) ∙ rw add-one in
+    rw (t, s, append-snoc (take (i + by) l) (getD l (i + by) 0) (slice (i + 1) to l ++ drop (to + by) l))
+    (set-at (take (i + by) l) (getD l (i + by) 0) _ (getD l i 0) (i + by) (length-take-le (i + by) l (omega arith)))
+
+pub up-turn :
+    (l b : List ℕ) (i to by : ℕ) → b ≡ movedUp l i to by → 0 < i → i ≤ to → to + by ≤ length l
+    → set b (i - 1 + by) (getD b (i - 1) 0) ≡ movedUp l (i - 1) to by
+up-turn l b i to by e p h room =
+    let q : b ≡ movedUp l (i - 1 + 1) to by = e ∙ ap (λ (n : ℕ). movedUp l n to by) (omega arith) in
+    rw (q, up-low l (i - 1 + 1) to by (omega arith) room (i - 1) (omega arith)) (up-more l (i - 1) to by (omega arith) room)
+
+-- what was moved up, with the part over what stood there, is the part spliced in
+splice-steps : (l r : List ℕ) (at size n : ℕ) → n ≡ length r → at ≤ size → size + n ≤ length l → pasted (movedUp l at size n) at r ≡ spliced l r at size
+unfolding pasted movedUp spliced
+splice-steps l r at size n e h room =
+    let k : length (take (at + n) l) ≡ at + n = length-take-le (at + n) l (omega arith) in
+    let t : take at (take (at + n) l ++ (slice at size l ++ drop (size + n) l)) ≡ take at l =
+        take-append-le at (take (at + n) l) _ (omega arith) ∙ take-take at (at + n) l (omega arith) in
+    let d : drop (at + n) (take (at + n) l ++ (slice at size l ++ drop (size + n) l)) ≡ slice at size l ++ drop (size + n) l =
+        drop-at (take (at + n) l) _ (at + n) k in
+    rw (← e, t, d, append-assoc) (rw e (rw take-length refl))
+
+pub steps-insert :
+    (l r b₁ b₂ b₃ b₄ : List ℕ) (at size field count n : ℕ) → n ≡ length r → at ≤ size → size + n ≤ length l
+    → b₁ ≡ movedUp l at size n → b₂ ≡ pasted b₁ at r → b₃ ≡ putWordAt b₂ 1 (size + n) → b₄ ≡ putWordAt b₃ field (count + 1)
+    → b₄ ≡ inserted l r at size field count
+unfolding inserted
+steps-insert l r b₁ b₂ b₃ b₄ at size field count n e h room e₁ e₂ e₃ e₄ = rw (e₄, e₃, e₂, e₁, splice-steps l r at size n e h room, e)

@@ -1,0 +1,177 @@
+-- Laws of the plan of an add, by the ways that the code goes. Assumes nothing.
+use Prim.Native.Nat.{ℕ, _+_, _-_, _≤_, _<_}
+use mathlib.Core.Path.{_≡_, refl, sym, ap, _∙_}
+use mathlib.Core.Bool.{Bool, true, false, _&&_, cond}
+use mathlib.Core.Option.{Option, none, some}
+use mathlib.Core.List.{List}
+use native.Mathlib.Omega.{arith}
+use lib.ListN.{length, getD, take}
+use lib.Seq.{take-length}
+use lib.Dec.{leb, ltb}
+use borrow.Author.Tests.{le-ltb, lt-ltb, le-leb, lt-leb}
+use Rattle.format.specs.declared.Section.{Section}
+use Rattle.format.specs.declared.Section.the-variants.{Groups, Rules, Constraints}
+use Rattle.format.specs.declared.Refusal.{Refusal}
+use Rattle.format.specs.declared.Read.{Read}
+use Rattle.format.specs.declared.Read.the-variants.{Whole, Malformed, BadField}
+use Rattle.format.specs.declared.Starts.{Starts}
+use Rattle.format.specs.Bytes.{Bytes, wordAt}
+use Rattle.format.specs.Refusals.{refusal, need, _orElse_}
+use Rattle.format.specs.Format.{limitOf, countPlace, countOf, kindIn, firstRecord, shapeOk, badField}
+use Rattle.format.specs.Policy.{startOf}
+use Rattle.format.specs.Check.{readFields, readOf, check, imageIn, checkFront}
+use Rattle.format.specs.Answers.{Outcome, gives, outcome, starts}
+use Rattle.format.proofs.Tests.{true-not-false}
+use Rattle.format.proofs.Chain.{orElse-split, orElse-next, orElse-first, need-none, need-some}
+use Rattle.format.proofs.Shapes.{Formed, length-least, length-cases, shape-length, shape-kind, read-whole, read-bad-field}
+use Rattle.format.proofs.Accepted.{accepted-header, accepted-body, start-inside}
+use Rattle.format.proofs.Records.{place-least}
+use Rattle.format.proofs.Front.{front-header, front-fits, front-accepted, front-length}
+use Rattle.format.proofs.Images.{longest-image}
+use Rattle.extension.specs.Add.{sectionOf, fieldFault, newNumber, ownFault, addFault}
+use Rattle.extension.specs.Splice.{endOfSection}
+use Rattle.extension.proofs.Adds.{section-of, OwnPasses, own-passes, passes-own}
+use Rattle.extend.specs.declared.plan.Slot.{Slot}
+use Rattle.extend.specs.Plans.{slotAt, slotOf}
+use Rattle.extend.specs.Moves.{Fits}
+
+-- ---- refusal 10
+
+pub own-shape : (b r : List ℕ) → (shapeOk r ≡ true → ⊥) → ownFault b r ≡ some (refusal 10 0)
+unfolding ownFault
+own-shape b r f = orElse-first _ (need-some _ (go (shapeOk r) refl))
+  where
+    go : (x : Bool) → shapeOk r ≡ x → shapeOk r ≡ false
+    go true e = absurd (f e)
+    go false e = e
+
+module _ (b r : List ℕ) where
+  pub own-tiny : length r < 2 → ownFault b r ≡ some (refusal 10 0)
+  own-tiny h = own-shape b r (λ e. (let n = length-least (getD r 1 0) (length r) (shape-kind r e) in omega arith))
+
+  pub own-length : (n : ℕ) → n ≡ getD r 0 0 → (n ≡ length r → ⊥) → ownFault b r ≡ some (refusal 10 0)
+  own-length n is h = own-shape b r (λ e. h (is ∙ sym (shape-length r e)))
+
+  pub own-kind : (k : ℕ) → k ≡ getD r 1 0 → (k ≡ 1 → ⊥) → (k ≡ 2 → ⊥) → (k ≡ 3 → ⊥) → (k ≡ 4 → ⊥) → ownFault b r ≡ some (refusal 10 0)
+  own-kind k is a₁ a₂ a₃ a₄ =
+      own-shape b r (λ e. length-cases (getD r 1 0) (length r) (shape-kind r e)
+      (λ j _ _ _. a₁ (is ∙ j)) (λ j _. a₂ (is ∙ j)) (λ j _. a₃ (is ∙ j)) (λ j _ _ _. a₄ (is ∙ j)))
+
+-- ---- a record whose length is its length byte, of a kind of the section
+
+module _ (b r : List ℕ) (s : Section) (size : getD r 0 0 ≡ length r) (kind : kindIn s (getD r 1 0) ≡ true) where
+  whole-first : firstRecord r ≡ r
+  unfolding firstRecord
+  whole-first = ap (λ (n : ℕ). take n r) size ∙ take-length r
+
+  is-section : sectionOf (getD r 1 0) ≡ s
+  is-section = section-of s (getD r 1 0) kind
+
+  no-malformed : (f : Option ℕ) (n : ℕ) → readFields f n ≡ Malformed → ⊥
+  unfolding readFields
+  no-malformed none n e = (let z : _≡_ {A = ℕ} 0 1 = cc in omega arith)
+  no-malformed (some i) n e = (let z : _≡_ {A = ℕ} 0 1 = cc in omega arith)
+
+  pub own-malformed : readOf s (countOf b Groups) r ≡ Malformed → ownFault b r ≡ some (refusal 10 0)
+  unfolding readOf
+  own-malformed e =
+      own-shape b r (λ h. no-malformed (badField (countOf b Groups) r) (length r) (simp (h, kind) at (rw whole-first at e)))
+
+  pub own-field : (i : ℕ) → readOf s (countOf b Groups) r ≡ BadField i → ownFault b r ≡ some (refusal 11 i)
+  unfolding ownFault fieldFault
+  own-field i e =
+      let q = rw whole-first at (read-bad-field s (countOf b Groups) i r e) in
+      orElse-next _ (need-none _ (q .0)) ∙ orElse-first _ (rw (q .1))
+
+  module _ (n : ℕ) (e : readOf s (countOf b Groups) r ≡ Whole n) where
+    whole-formed : Formed s (countOf b Groups) r
+    whole-formed = rw whole-first at (read-whole s (countOf b Groups) n r e .0)
+
+    pub own-full : limitOf s ≤ countOf b s → ownFault b r ≡ some (refusal 12 0)
+    unfolding ownFault fieldFault newNumber
+    own-full h =
+        orElse-next _ (need-none _ (whole-formed .shape)) ∙ orElse-next _ (rw (whole-formed .fields))
+        ∙ orElse-first _ (need-some _ (rw is-section (le-ltb (countOf b s) (limitOf s) h)))
+
+    module _ (few : countOf b s < limitOf s) where
+      pub own-short : length b < wordAt b 1 + length r → ownFault b r ≡ some (refusal 13 0)
+      unfolding ownFault fieldFault newNumber
+      own-short h =
+          orElse-next _ (need-none _ (whole-formed .shape)) ∙ orElse-next _ (rw (whole-formed .fields))
+          ∙ orElse-next _ (need-none _ (rw is-section (lt-ltb (countOf b s) (limitOf s) few)))
+          ∙ need-some _ (lt-leb (wordAt b 1 + length r) (length b) h)
+
+      pub own-none : wordAt b 1 + length r ≤ length b → ownFault b r ≡ none
+      own-none h = passes-own b r (record { formed = rw is-section whole-formed; few = rw is-section few; room = h })
+
+  -- the slot at the end of the section is the record's
+  pub slot-is : (at : ℕ) → at ≡ endOfSection (imageIn b) s → slotAt b s at ≡ slotOf b r
+  unfolding slotOf
+  slot-is at e = rw (is-section, e)
+
+-- ---- where the sections end
+
+module _ (b : List ℕ) (e : checkFront b ≡ none) (y : Starts) (is : y ≡ starts (imageIn b)) where
+  pub end-groups : y .rules ≡ endOfSection (imageIn b) Groups
+  unfolding endOfSection
+  end-groups = ap (λ z. z .rules) is
+
+  pub end-rules : y .constraints ≡ endOfSection (imageIn b) Rules
+  unfolding endOfSection
+  end-rules = ap (λ z. z .constraints) is
+
+pub end-constraints : (b : List ℕ) (n : ℕ) → checkFront b ≡ none → n ≡ wordAt b 1 → n ≡ endOfSection (imageIn b) Constraints
+unfolding endOfSection
+end-constraints b n e is = is ∙ sym (front-length b e)
+
+-- ---- the slot fits
+
+module _ (l : List ℕ) (e : check l ≡ none) where
+  end-inside : (s : Section) → endOfSection l s ≤ length l
+  unfolding endOfSection
+  end-inside Groups = start-inside l (accepted-body l e) (accepted-header l e .long) Rules
+  end-inside Rules = start-inside l (accepted-body l e) (accepted-header l e .long) Constraints
+  end-inside Constraints = omega arith
+
+  end-least : (s : Section) → 9 ≤ endOfSection l s
+  unfolding endOfSection startOf
+  end-least Groups = place-least l 9 (countOf l Groups)
+  end-least Rules =
+      let a = place-least l 9 (countOf l Groups) in
+      let b = place-least l (startOf l Rules) (countOf l Rules) in
+      omega arith
+  end-least Constraints = accepted-header l e .long
+
+limit-most : (s : Section) → limitOf s ≤ 1024
+unfolding limitOf
+limit-most Groups = omega arith
+limit-most Rules = omega arith
+limit-most Constraints = omega arith
+
+place-most : (s : Section) → countPlace s ≤ 7
+unfolding countPlace
+place-most Groups = omega arith
+place-most Rules = omega arith
+place-most Constraints = omega arith
+
+pub slot-fits : (b r : List ℕ) → Bytes r → addFault b r ≡ none → Fits b r (slotOf b r)
+unfolding addFault slotOf
+slot-fits b r bytes e =
+    let s : Section = sectionOf (getD r 1 0) in
+    let q = orElse-split (checkFront b) (ownFault b r) e in
+    let own = own-passes b r (q .1) in
+    let ok = front-accepted b (q .0) in
+    let n = front-length b (q .0) in
+    record {
+      low = end-least (imageIn b) ok s;
+      within = omega (arith, end-inside (imageIn b) ok s);
+      room = own .room;
+      size = omega (arith, longest-image (imageIn b) ok, shape-length r (own .formed .shape), bytes 0);
+      field = place-most s;
+      count = omega (arith, own .few, limit-most s)
+    }
+
+pub slot-made :
+    (b r : List ℕ) (s : Section) (at size field count : ℕ) → size ≡ wordAt b 1 → field ≡ countPlace s → count ≡ countOf b s → ownFault b r ≡ none
+    → gives (record { at = at; size = size; field = field; count = count }) ≡ outcome (ownFault b r) (slotAt b s at)
+slot-made b r s at size field count x y z e = rw (e, x, y, z)

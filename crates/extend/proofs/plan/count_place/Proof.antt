@@ -1,0 +1,31 @@
+-- `count_place` meets its contract. Assumes nothing.
+use native.Mathlib.Omega.{arith}
+use Rattle.format.specs.Format.{countPlace}
+use borrow.Author.Needs.{needs}
+use Rattle.extend.proofs.plan.count_place.Statement.{statement}
+use Rattle.extend.proofs.plan.count_place.Tie as tie
+
+enum-told : tie.Need-enum-told
+enum-told c = search needs
+
+enum-told-2 : tie.Need-enum-told-2
+enum-told-2 c = search needs
+
+enum-told-3 : tie.Need-enum-told-3
+enum-told-3 c = search needs
+
+returns : tie.Need-returns
+unfolding countPlace
+returns c = (simp (c .enum-told .given .1), omega arith)
+
+returns-2 : tie.Need-returns-2
+unfolding countPlace
+returns-2 c = (simp (c .enum-told2 .given .1), omega arith)
+
+returns-3 : tie.Need-returns-3
+unfolding countPlace
+returns-3 c = (simp (c .enum-told3 .given .1), omega arith)
+
+pub count-place-spec : {M : Type 1} → statement M
+count-place-spec =
+    tie.close (tie.spec enum-told enum-told-2 enum-told-3 returns returns-2 returns-3)

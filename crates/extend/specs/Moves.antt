@@ -1,0 +1,23 @@
+-- What the steps of an insertion do to a buffer.
+--     movedUp b from to by   the bytes of from..to again, some places further up
+--     pasted b at r          r over what stands from a place on
+--     Fits b r slot          there is room for r in the slot, and the numbers fit their fields
+use Prim.Native.Nat.{ℕ, _+_, _≤_, _<_}
+use mathlib.Core.List.{List, _++_}
+use lib.ListN.{length, take, drop}
+use lib.Seq.{slice, paste}
+use Rattle.extend.specs.declared.plan.Slot.{Slot}
+
+unfoldable pub movedUp : List ℕ → ℕ → ℕ → ℕ → List ℕ
+movedUp b from to by = take (from + by) b ++ (slice from to b ++ drop (to + by) b)
+
+unfoldable pub pasted : List ℕ → ℕ → List ℕ → List ℕ
+pasted b at r = paste b at r (length r)
+
+pub record Fits (b r : List ℕ) (slot : Slot) : Type 0 where
+  pub low : 9 ≤ slot .at
+  pub within : slot .at ≤ slot .size
+  pub room : slot .size + length r ≤ length b
+  pub size : slot .size + length r < 65536
+  pub field : slot .field ≤ 7
+  pub count : slot .count < 65535

@@ -1,0 +1,44 @@
+// Bytes moved up and written: no byte is moved twice.
+use crate::plan::Slot;
+use crate::word::put_word;
+ghost use mathlib.Core.Path.{_≡_};
+ghost use Prim.Native.Nat.{_+_, _≤_, _<_};
+ghost use lib.ListN.{length};
+ghost use Rattle.extension.specs.Splice.{inserted};
+ghost use Rattle.extend.specs.Moves.{movedUp, pasted, Fits};
+
+// The bytes of from..to go up by so many places, the last first.
+fn shift_up(buffer: &mut [u8], from: usize, to: usize, by: usize)
+    requires { ⌜ (from ≤ to) × (to + by ≤ length (now buffer)) ⌝ }
+    ensures { λ _. ⌜ now (buffer .exit) ≡ movedUp (now (buffer .entry)) from to by ⌝ }
+{
+    let mut i = to;
+    while from < i {
+        i -= 1;
+        buffer[i + by] = buffer[i];
+    }
+}
+
+// The bytes of part go to a place.
+fn copy_in(buffer: &mut [u8], part: &[u8], at: usize)
+    requires { ⌜ at + length (now part) ≤ length (now buffer) ⌝ }
+    ensures { λ _. ⌜ now (buffer .exit) ≡ pasted (now (buffer .entry)) at (now (part .entry)) ⌝ }
+{
+    let mut j = 0;
+    while j < part.len() {
+        buffer[at + j] = part[j];
+        j += 1;
+    }
+}
+
+// A record goes into its slot, and the length field and a count grow.
+pub(crate) fn insert(buffer: &mut [u8], part: &[u8], slot: Slot)
+    requires { ⌜ Fits (now buffer) (now part) slot ⌝ }
+    ensures { λ _. ⌜ now (buffer .exit) ≡ inserted (now (buffer .entry)) (now (part .entry)) (slot .at) (slot .size) (slot .field) (slot .count) ⌝ }
+{
+    let by = part.len();
+    shift_up(buffer, slot.at, slot.size, by);
+    copy_in(buffer, part, slot.at);
+    put_word(buffer, 1, slot.size + by);
+    put_word(buffer, slot.field, slot.count + 1);
+}

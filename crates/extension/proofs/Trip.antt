@@ -1,0 +1,213 @@
+-- The round trip: an accepted policy's records, added in order to the empty policy, give it back. Assumes nothing.
+--     add-section      a section's records added one after the other
+--     round-trip       claim RoundTrip
+use Prim.Native.Nat.{ℕ, suc, _+_, _≤_, _<_}
+use mathlib.Core.Path.{_≡_, refl, sym, subst, ap, ap₂, _∙_}
+use mathlib.Core.Bool.{true}
+use mathlib.Core.Option.{none}
+use mathlib.Core.List.{List, [], _∷_, _++_, flatten, append-assoc, append-nil, List·Memᴰ, List·Memᴰ·head, List·Memᴰ·tail, List·Memᴰ·not-nil}
+use native.Mathlib.Omega.{arith}
+use lib.ListN.{length, getD, drop, length-append, length-drop}
+use lib.Seq.{drop-drop, drop-append-add}
+use lib.Dec.{eqb}
+use borrow.Author.Tests.{eqb-true}
+use Rattle.format.specs.declared.Section.{Section}
+use Rattle.format.specs.declared.Section.the-variants.{Groups, Rules, Constraints}
+use Rattle.format.specs.Bytes.{Bytes, putWord}
+use Rattle.format.specs.Format.{knownVersion, limitOf}
+use Rattle.format.specs.Policy.{Policy, recordsOf, bodyOf, imageOf, policyOf}
+use Rattle.format.specs.Check.{check}
+use Rattle.format.specs.Sample.{empty}
+use Rattle.format.proofs.Shapes.{Formed}
+use Rattle.format.proofs.Fields.{formed-more, group-any}
+use Rattle.format.proofs.Images.{Sound, policy-sound, image-of-policy, image-length}
+use Rattle.extension.specs.Add.{withRecord, bufferAfter, overwrite}
+use Rattle.extension.specs.Claims.{addAll, allRecords, RoundTrip}
+use Rattle.extension.proofs.Adds.{with-records, with-groups, with-sound, with-length, add-image}
+
+add-append : (b : List ℕ) (xs ys : List (List ℕ)) → addAll b (xs ++ ys) ≡ addAll (addAll b xs) ys
+unfolding addAll
+add-append b [] ys = refl
+add-append b (x ∷ xs) ys = add-append (bufferAfter b x) xs ys
+
+-- a policy with the records rs at the end of a section
+withAll : Section → Policy → List (List ℕ) → Policy
+withAll s p [] = p
+withAll s p (r ∷ rs) = withAll s (withRecord s p r) rs
+
+record Section-added (s : Section) (p : Policy) (t : List ℕ) (rs : List (List ℕ)) : Type 0 where
+  buffer : addAll (imageOf p ++ t) rs ≡ imageOf (withAll s p rs) ++ drop (length (flatten rs)) t
+  sound : Sound (withAll s p rs)
+
+add-section :
+    (s : Section) (p : Policy) (t : List ℕ) (g : ℕ) (rs : List (List ℕ)) → Sound p → g ≤ length (p .groups)
+    → ((r : List ℕ) → List·Memᴰ r rs → Formed s g r) → ((r : List ℕ) → List·Memᴰ r rs → Bytes r)
+    → length (recordsOf p s) + length rs ≤ limitOf s → length (flatten rs) ≤ length t
+    → Section-added s p t rs
+unfolding addAll withAll flatten
+add-section s p t g [] w h f b few room = record { buffer = refl; sound = w }
+add-section s p t g (r ∷ rs) w h f b few room =
+    let n = length-append r (flatten rs) in
+    let k = length-append (imageOf p) t in
+    let fr : Formed s (length (p .groups)) r = formed-more g (length (p .groups)) r s h (f r (List·Memᴰ·head refl)) in
+    let lr : length (recordsOf p s) < limitOf s = omega arith in
+    let p₁ : Policy = withRecord s p r in
+    let t₁ : List ℕ = drop (length r) t in
+    let step : bufferAfter (imageOf p ++ t) r ≡ imageOf p₁ ++ t₁ = add-image p t s r w fr lr (omega arith) in
+    let few₁ : length (recordsOf p₁ s) + length rs ≤ limitOf s =
+    omega (arith, ap length (with-records p r s), length-append (recordsOf p s) (r ∷ [])) in
+    let room₁ : length (flatten rs) ≤ length t₁ = omega (arith, length-drop (length r) t) in
+    let rest = add-section s p₁ t₁ g rs (with-sound p r s w fr (b r (List·Memᴰ·head refl)) lr) (omega (arith, with-groups p r s))
+    (λ x m. f x (List·Memᴰ·tail m)) (λ x m. b x (List·Memᴰ·tail m)) few₁ room₁ in
+    record {
+      buffer =
+          ap (λ (x : List ℕ). addAll x rs) step ∙ rest .buffer
+          ∙ ap (λ (x : List ℕ). imageOf (withAll s p₁ rs) ++ x) (drop-drop (length (flatten rs)) (length r) t ∙ ap (λ (m : ℕ). drop m t) (sym n));
+      sound = rest .sound;
+    }
+
+-- ---- a section filled
+
+abbrev policyFor : ℕ → List (List ℕ) → List (List ℕ) → List (List ℕ) → Policy
+policyFor v gs rs cs = record { version = v; groups = gs; rules = rs; constraints = cs }
+
+module _ (v : ℕ) where
+  fill-groups : (gs rs cs xs : List (List ℕ)) → withAll Groups (policyFor v gs rs cs) xs ≡ policyFor v (gs ++ xs) rs cs
+  unfolding withAll withRecord
+  fill-groups gs rs cs [] = ap (λ (l : List (List ℕ)). policyFor v l rs cs) (sym (append-nil gs))
+  fill-groups gs rs cs (x ∷ xs) =
+      fill-groups (gs ++ (x ∷ [])) rs cs xs ∙ ap (λ (l : List (List ℕ)). policyFor v l rs cs) (append-assoc gs (x ∷ []) xs)
+
+  fill-rules : (gs rs cs xs : List (List ℕ)) → withAll Rules (policyFor v gs rs cs) xs ≡ policyFor v gs (rs ++ xs) cs
+  unfolding withAll withRecord
+  fill-rules gs rs cs [] = ap (λ (l : List (List ℕ)). policyFor v gs l cs) (sym (append-nil rs))
+  fill-rules gs rs cs (x ∷ xs) =
+      fill-rules gs (rs ++ (x ∷ [])) cs xs ∙ ap (λ (l : List (List ℕ)). policyFor v gs l cs) (append-assoc rs (x ∷ []) xs)
+
+  fill-constraints : (gs rs cs xs : List (List ℕ)) → withAll Constraints (policyFor v gs rs cs) xs ≡ policyFor v gs rs (cs ++ xs)
+  unfolding withAll withRecord
+  fill-constraints gs rs cs [] = ap (λ (l : List (List ℕ)). policyFor v gs rs l) (sym (append-nil cs))
+  fill-constraints gs rs cs (x ∷ xs) =
+      fill-constraints gs rs (cs ++ (x ∷ [])) xs ∙ ap (λ (l : List (List ℕ)). policyFor v gs rs l) (append-assoc cs (x ∷ []) xs)
+
+emptyPolicy : Policy
+emptyPolicy = policyFor 1 [] [] []
+
+empty-image : imageOf emptyPolicy ≡ empty
+unfolding emptyPolicy imageOf bodyOf putWord empty flatten
+empty-image = refl
+
+empty-length : length empty ≡ 9
+unfolding empty
+empty-length = refl
+
+module _ (q : Policy) (w : Sound q) (t : List ℕ) (room : length (bodyOf q) ≤ length t) where
+  version-one : q .version ≡ 1
+  unfolding knownVersion
+  version-one = eqb-true (q .version) 1 (w .version)
+
+  empty-sound : Sound emptyPolicy
+  unfolding emptyPolicy knownVersion recordsOf
+  empty-sound =
+      record {
+        version = refl;
+        few = λ s. few s;
+        formed = λ s r m. formed s r m;
+        bytes = λ s r m. bytes s r m;
+      }
+    where
+      few : (s : Section) → length (recordsOf emptyPolicy s) ≤ limitOf s
+      few Groups = omega arith
+      few Rules = omega arith
+      few Constraints = omega arith
+
+      formed : (s : Section) (r : List ℕ) → List·Memᴰ r (recordsOf emptyPolicy s) → Formed s 0 r
+      formed Groups r m = absurd (List·Memᴰ·not-nil m)
+      formed Rules r m = absurd (List·Memᴰ·not-nil m)
+      formed Constraints r m = absurd (List·Memᴰ·not-nil m)
+
+      bytes : (s : Section) (r : List ℕ) → List·Memᴰ r (recordsOf emptyPolicy s) → Bytes r
+      bytes Groups r m = absurd (List·Memᴰ·not-nil m)
+      bytes Rules r m = absurd (List·Memᴰ·not-nil m)
+      bytes Constraints r m = absurd (List·Memᴰ·not-nil m)
+
+  p₁ : Policy
+  p₁ = policyFor 1 (q .groups) [] []
+
+  p₂ : Policy
+  p₂ = policyFor 1 (q .groups) (q .rules) []
+
+  t₁ : List ℕ
+  t₁ = drop (length (flatten (q .groups))) t
+
+  t₂ : List ℕ
+  t₂ = drop (length (flatten (q .rules))) t₁
+
+  body-length : length (bodyOf q) ≡ length (flatten (q .groups)) + (length (flatten (q .rules)) + length (flatten (q .constraints)))
+  unfolding bodyOf
+  body-length =
+      length-append (flatten (q .groups)) (flatten (q .rules) ++ flatten (q .constraints))
+      ∙ ap (λ (n : ℕ). length (flatten (q .groups)) + n) (length-append (flatten (q .rules)) (flatten (q .constraints)))
+
+  groups-added : Section-added Groups emptyPolicy t (q .groups)
+  unfolding emptyPolicy recordsOf
+  groups-added =
+      add-section Groups emptyPolicy t 0 (q .groups) empty-sound (omega arith)
+      (λ r m. group-any (length (q .groups)) 0 r (w .formed Groups r m)) (w .bytes Groups)
+      (omega (arith, w .few Groups)) (omega (arith, body-length))
+
+  groups-full : withAll Groups emptyPolicy (q .groups) ≡ p₁
+  unfolding emptyPolicy p₁
+  groups-full = fill-groups 1 [] [] [] (q .groups)
+
+  rules-added : Section-added Rules p₁ t₁ (q .rules)
+  unfolding p₁ recordsOf t₁
+  rules-added =
+      add-section Rules p₁ t₁ (length (q .groups)) (q .rules) (subst Sound groups-full (groups-added .sound)) (omega arith)
+      (w .formed Rules) (w .bytes Rules)
+      (omega (arith, w .few Rules)) (omega (arith, body-length, length-drop (length (flatten (q .groups))) t))
+
+  rules-full : withAll Rules p₁ (q .rules) ≡ p₂
+  unfolding p₁ p₂
+  rules-full = fill-rules 1 (q .groups) [] [] (q .rules)
+
+  constraints-added : Section-added Constraints p₂ t₂ (q .constraints)
+  unfolding p₂ recordsOf t₁ t₂
+  constraints-added =
+      add-section Constraints p₂ t₂ (length (q .groups)) (q .constraints) (subst Sound rules-full (rules-added .sound)) (omega arith)
+      (w .formed Constraints) (w .bytes Constraints)
+      (omega (arith, w .few Constraints))
+      (omega (arith, body-length, length-drop (length (flatten (q .groups))) t, length-drop (length (flatten (q .rules))) t₁))
+
+  constraints-full : withAll Constraints p₂ (q .constraints) ≡ q
+  unfolding p₂
+  constraints-full = fill-constraints 1 (q .groups) (q .rules) [] (q .constraints) ∙ ap (λ (v : ℕ). policyFor v (q .groups) (q .rules) (q .constraints)) (sym version-one)
+
+  rest-is : drop (length (flatten (q .constraints))) t₂ ≡ drop (length (bodyOf q)) t
+  unfolding t₁ t₂
+  rest-is =
+      let g : ℕ = length (flatten (q .groups)) in
+      let r : ℕ = length (flatten (q .rules)) in
+      let c : ℕ = length (flatten (q .constraints)) in
+      drop-drop c r (drop g t) ∙ drop-drop (r + c) g t ∙ ap (λ (n : ℕ). drop n t) (sym body-length)
+
+  all-added : addAll (empty ++ t) (allRecords q) ≡ imageOf q ++ drop (length (bodyOf q)) t
+  unfolding allRecords t₁ t₂
+  all-added =
+      add-append (empty ++ t) (q .groups) (q .rules ++ q .constraints)
+      ∙ ap (λ (b : List ℕ). addAll b (q .rules ++ q .constraints))
+      (ap (λ (e : List ℕ). addAll (e ++ t) (q .groups)) (sym empty-image) ∙ groups-added .buffer ∙ ap (λ (p : Policy). imageOf p ++ t₁) groups-full)
+      ∙ add-append (imageOf p₁ ++ t₁) (q .rules) (q .constraints)
+      ∙ ap (λ (b : List ℕ). addAll b (q .constraints)) (rules-added .buffer ∙ ap (λ (p : Policy). imageOf p ++ t₂) rules-full)
+      ∙ constraints-added .buffer
+      ∙ ap₂ (λ (p : Policy) (x : List ℕ). imageOf p ++ x) constraints-full rest-is
+
+pub round-trip : RoundTrip
+unfolding overwrite
+round-trip l t b e room =
+    let q : Policy = policyOf l in
+    let is : imageOf q ≡ l = image-of-policy l b e in
+    let n : length l ≡ 9 + length (bodyOf q) = ap length (sym is) ∙ image-length q in
+    let k : length (bodyOf q) ≤ length t = omega (arith, n, length-append empty t, empty-length) in
+    all-added q (policy-sound l b e) t k
+    ∙ ap₂ _++_ is (sym (ap (λ (m : ℕ). drop m (empty ++ t)) (n ∙ ap (λ (m : ℕ). m + length (bodyOf q)) (sym empty-length)) ∙ drop-append-add empty t (length (bodyOf q))))

@@ -1,0 +1,42 @@
+-- What is claimed of adding, and proved in proofs/.
+--     addAll b rs       the buffer after adding records one after the other
+--     allRecords p      the records of a policy in order: groups, rules, constraints
+--     AddedAccepted     adding to an accepted image gives an accepted image, whose policy has the record last in its
+--                       section and is otherwise the same
+--     GroupsKept        and whose groups have their old numbers
+--     RoundTrip         adding an accepted policy's records in order to the empty policy, in a buffer that holds it,
+--                       gives it byte for byte, and the bytes past it stay
+use Prim.Native.Nat.{ℕ, _≤_, _<_}
+use mathlib.Core.Path.{_≡_}
+use mathlib.Core.Option.{none}
+use mathlib.Core.List.{List, [], _∷_, _++_}
+use lib.ListN.{length, getD}
+use Rattle.format.specs.Bytes.{Bytes}
+use Rattle.format.specs.Policy.{Policy, policyOf}
+use Rattle.format.specs.Check.{imageIn, check, checkFront}
+use Rattle.format.specs.Sample.{empty}
+use Rattle.extension.specs.Add.{sectionOf, withRecord, addFault, bufferAfter, overwrite}
+
+unfoldable pub addAll : List ℕ → List (List ℕ) → List ℕ
+addAll b [] = b
+addAll b (r ∷ rs) = addAll (bufferAfter b r) rs
+
+unfoldable pub allRecords : Policy → List (List ℕ)
+allRecords p = p .groups ++ (p .rules ++ p .constraints)
+
+abbrev pub AddedAccepted : Type 0
+AddedAccepted =
+    (b r : List ℕ) → Bytes b → Bytes r → addFault b r ≡ none
+    → (checkFront (bufferAfter b r) ≡ none)
+    × (policyOf (imageIn (bufferAfter b r)) ≡ withRecord (sectionOf (getD r 1 0)) (policyOf (imageIn b)) r)
+
+abbrev pub GroupsKept : Type 0
+GroupsKept =
+    (b r : List ℕ) → Bytes b → Bytes r → addFault b r ≡ none
+    → (n : ℕ) → n < length (policyOf (imageIn b) .groups)
+    → getD (policyOf (imageIn (bufferAfter b r)) .groups) n [] ≡ getD (policyOf (imageIn b) .groups) n []
+
+abbrev pub RoundTrip : Type 0
+RoundTrip =
+    (l t : List ℕ) → Bytes l → check l ≡ none → length l ≤ length (empty ++ t)
+    → addAll (empty ++ t) (allRecords (policyOf l)) ≡ overwrite l (empty ++ t)
