@@ -43,9 +43,9 @@ unfolding pasted movedUp spliced
 splice-steps l r at size n e h room =
     let k : length (take (at + n) l) ≡ at + n = length-take-le (at + n) l (omega arith) in
     let t : take at (take (at + n) l ++ (slice at size l ++ drop (size + n) l)) ≡ take at l =
-        take-append-le at (take (at + n) l) _ (omega arith) ∙ take-take at (at + n) l (omega arith) in
+    take-append-le at (take (at + n) l) _ (omega arith) ∙ take-take at (at + n) l (omega arith) in
     let d : drop (at + n) (take (at + n) l ++ (slice at size l ++ drop (size + n) l)) ≡ slice at size l ++ drop (size + n) l =
-        drop-at (take (at + n) l) _ (at + n) k in
+    drop-at (take (at + n) l) _ (at + n) k in
     rw (← e, t, d, append-assoc) (rw e (rw take-length refl))
 
 pub steps-insert :

@@ -168,7 +168,7 @@ slot-fits b r bytes e =
       room = own .room;
       size = omega (arith, longest-image (imageIn b) ok, shape-length r (own .formed .shape), bytes 0);
       field = place-most s;
-      count = omega (arith, own .few, limit-most s)
+      count = omega (arith, own .few, limit-most s);
     }
 
 pub slot-made :

@@ -40,7 +40,7 @@ pub leads-whole : (b : RefT (List ℕ)) → leading (now b) ≡ now b → Leads 
 leads-whole b e =
     record {
       bytes = sym e;
-      part = record { block = refl; offset = sym (add-zero _); inside = omega arith; bytes = sym (take-length (now b)) }
+      part = record { block = refl; offset = sym (add-zero _); inside = omega arith; bytes = sym (take-length (now b)) };
     }
 
 pub front-outcome : (b : List ℕ) → outcome (check (leading b)) (starts (leading b)) ≡ outcome (checkFront b) (starts (imageIn b))

@@ -39,7 +39,7 @@ same-length c = search needs
 returns : tie.Need-returns
 unfolding bufferAfter unlessRefused
 returns c = let f : addFault (now (c .before .before .before .before .before .before .before .args .buffer)) (now (c .before .before .before .before .before .before .before .args .part)) ≡ some (c .before .f .given .0 .0) =
-        outcome-refused _ _ (sym (ap planOutcome (c .before .f .given .1)) ∙ c .before .before .before .planned .ensures) in
+    outcome-refused _ _ (sym (ap planOutcome (c .before .f .given .1)) ∙ c .before .before .before .planned .ensures) in
     record { answer = rw f; buffer = rw f }
 
 same-length-2 : tie.Need-same-length-2
@@ -53,7 +53,7 @@ returns-2 c = let q = slotted (c .before .before .before .before .before) in
     let bytes : Bytes b = λ i. omega (arith, c .before .before .before .before .before .before .before .before .before .before .slice-known .given i) in
     record {
       answer = rw (q .0) (ap (λ x. gives (x .count)) (q .1));
-      buffer = c .before .before .insert .ensures ∙ ap (λ x. inserted b r (x .at) (x .size) (x .field) (x .count)) (q .1) ∙ buffer-inserted b r bytes (q .0)
+      buffer = c .before .before .insert .ensures ∙ ap (λ x. inserted b r (x .at) (x .size) (x .field) (x .count)) (q .1) ∙ buffer-inserted b r bytes (q .0);
     }
 
 pub add-spec : {M : Type 1} → statement M

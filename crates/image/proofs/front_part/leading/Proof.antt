@@ -32,7 +32,7 @@ returns-4 c = let b = now (c .before .before .before .before .before .before .ar
     let n : length (take w b) ≡ w = length-take-le w b (omega arith) in
     record {
       bytes = sym (leading-part b w (c .before .before .before .word-at .ensures .0) (omega arith) (omega arith) (omega arith));
-      part = record { block = refl; offset = sym (add-zero _); inside = omega arith; bytes = ap (λ k. take k b) (sym n) }
+      part = record { block = refl; offset = sym (add-zero _); inside = omega arith; bytes = ap (λ k. take k b) (sym n) };
     }
 
 pub leading-spec : {M : Type 1} → statement M

@@ -25,7 +25,7 @@ pub(crate) const GROUP: [u8; 130] = *b"\
     \x00\x30\x00\x31\x00\x32\x00\x33\x00\x34\x00\x35\x00\x36\x00\x37\
     \x00\x38\x00\x39\x00\x3A\x00\x3B\x00\x3C\x00\x3D\x00\x3E\x03\xFF";
 
-// The sample with one byte changed.
+// The sample with one byte changed, checked.
 pub(crate) fn with_byte(label: &[u8], place: usize, value: u8)
     requires { ⌜ place < 80 ⌝ }
 {

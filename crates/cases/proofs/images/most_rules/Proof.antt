@@ -3,8 +3,8 @@ use native.Mathlib.Omega.{arith}
 use mathlib.Core.Path.{sym}
 use lib.Seq.{length-take-le}
 use borrow.Author.Needs.{needs}
-use Rattle.image_cases.proofs.most_rules.Statement.{statement}
-use Rattle.image_cases.proofs.most_rules.Tie as tie
+use Rattle.cases.proofs.images.most_rules.Statement.{statement}
+use Rattle.cases.proofs.images.most_rules.Tie as tie
 
 large-buffer-requires : tie.Need-large-buffer-requires
 large-buffer-requires c κs = search needs

@@ -1,10 +1,10 @@
--- `longest` is safe: its buffer holds the longest image. Assumes nothing.
+-- `longest` is safe: its buffer holds the image. Assumes nothing.
 use native.Mathlib.Omega.{arith}
 use mathlib.Core.Path.{sym}
 use lib.Seq.{length-take-le}
 use borrow.Author.Needs.{needs}
-use Rattle.image_cases.proofs.longest.Statement.{statement}
-use Rattle.image_cases.proofs.longest.Tie as tie
+use Rattle.cases.proofs.images.longest.Statement.{statement}
+use Rattle.cases.proofs.images.longest.Tie as tie
 
 large-buffer-requires : tie.Need-large-buffer-requires
 large-buffer-requires c κs = search needs

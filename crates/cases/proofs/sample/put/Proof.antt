@@ -3,8 +3,8 @@ use native.Mathlib.Omega.{arith}
 use Prim.Native.Nat.{_-_, _≤_}
 use mathlib.Core.Path.{_≡_, refl}
 use lib.ListN.{length, length-set}
-use Rattle.image_cases.proofs.sample.put.Statement.{statement}
-use Rattle.image_cases.proofs.sample.put.Tie as tie
+use Rattle.cases.proofs.sample.put.Statement.{statement}
+use Rattle.cases.proofs.sample.put.Tie as tie
 
 abbrev Inv-loop : tie.InvT-loop
 Inv-loop buffer₀ at part i₀ i-end buffer i = (i ≤ length part) × (i-end ≡ length part) × (length buffer ≡ length buffer₀)

@@ -3,8 +3,8 @@ use native.Mathlib.Omega.{arith}
 use Prim.Native.Nat.{_-_, _≤_}
 use mathlib.Core.Path.{_≡_, refl}
 use lib.ListN.{length}
-use Rattle.image_cases.proofs.sample.repeat.Statement.{statement}
-use Rattle.image_cases.proofs.sample.repeat.Tie as tie
+use Rattle.cases.proofs.sample.repeat.Statement.{statement}
+use Rattle.cases.proofs.sample.repeat.Tie as tie
 
 abbrev Inv-loop : tie.InvT-loop
 Inv-loop buffer₀ from part times at₀ turn₀ buffer at turn = (turn ≤ times) × (length buffer ≡ length buffer₀)

@@ -1,17 +1,13 @@
-// Document 01's cases on images, run: each line is a case and what `image` answers. The file stdout beside src/ has
-// what the document says.
-mod sample; // sample.rt: the sample sheet, and images made from it
-mod show; // show.rt: a case's line
-
+// The check of an image, and its records.
+use crate::sample::GROUP;
+use crate::sample::SAMPLE;
+use crate::sample::repeat;
+use crate::sample::with_byte;
+use crate::show::show_check;
+use crate::show::show_record;
 use format::Section;
-use sample::GROUP;
-use sample::SAMPLE;
-use sample::repeat;
-use sample::with_byte;
-use show::show_check;
-use show::show_record;
 
-fn main() {
+pub(crate) fn run() {
     header();
     shapes();
     members_and_types();

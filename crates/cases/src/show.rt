@@ -1,4 +1,5 @@
 // A case's line: its label and what is answered.
+use extension::Added;
 use format::Checked;
 use format::Found;
 use format::Refusal;
@@ -32,7 +33,7 @@ pub(crate) fn show_check(label: &[u8], part: &[u8]) {
             refusal_line(f);
         }
     }
-    io::write_all(STDOUT_FILENO, b"\n");
+    end_line();
 }
 
 // The place and the length of a record, or R with the number and the place; and how many bytes are given.
@@ -51,5 +52,43 @@ pub(crate) fn show_record(label: &[u8], part: &[u8], section: Section, n: usize)
     let given = image::record(part, section, n);
     io::write_all(STDOUT_FILENO, b", given");
     number(given.len());
+    end_line();
+}
+
+// Adds a record and shows the answer: the record's number, the new length field and the check of the new image; or R
+// with the number and the place.
+pub(crate) fn show_add(label: &[u8], buffer: &mut [u8], part: &[u8]) {
+    label_line(label);
+    match extend::add(buffer, part) {
+        Added::Number(n) => {
+            number(n);
+            io::write_all(STDOUT_FILENO, b", length");
+            let new = image::leading(buffer);
+            number(new.len());
+            match image::check(new) {
+                Checked::Accepted => {
+                    io::write_all(STDOUT_FILENO, b", accepted");
+                }
+                Checked::Refused(f) => {
+                    refusal_line(f);
+                }
+            }
+        }
+        Added::Refused(f) => {
+            refusal_line(f);
+        }
+    }
+}
+
+pub(crate) fn end_line() {
     io::write_all(STDOUT_FILENO, b"\n");
+}
+
+// Ends a line with whether two parts hold the same bytes.
+pub(crate) fn show_same(a: &[u8], b: &[u8]) {
+    if check::same(a, b) {
+        io::write_all(STDOUT_FILENO, b", same bytes\n");
+    } else {
+        io::write_all(STDOUT_FILENO, b", other bytes\n");
+    }
 }
