@@ -1,0 +1,4 @@
+pub mod Sets
+pub mod Decide
+pub mod Order
+pub mod Cases

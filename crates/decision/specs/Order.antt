@@ -1,0 +1,76 @@
+-- The order rule (document 01), and totality.
+--     height d              NotPermitted < Permitted < UnKnown
+--     Holds rs₁ rs₂         document 01's "holds": each record of the first list is in the second, at any number
+--     Keeps gs₁ gs₂         the first list's groups under their old numbers
+--     NoCompanion cs        no constraint of the list is a companion
+--     Extends p₁ q₁ p₂ q₂   the terms: a second policy and query extend a first
+--     OrderRule             demand 3, on what the engine answers
+--     QueryOrder            the paper's order preservation: on one policy, a query within another is decided no lower
+--     NonDecreasing         the paper's non-decreasing property: more rules and constraints, no lower decision
+--     Decided               totality: every valid query on an accepted image gets one of the three decisions
+use Prim.Native.Nat.{ℕ, _≤_, _<_}
+use mathlib.Core.Path.{_≡_}
+use mathlib.Core.Logic.{_⊎_}
+use mathlib.Core.Bool.{true}
+use mathlib.Core.Option.{none}
+use mathlib.Core.List.{List, [], List·Memᴰ}
+use lib.ListN.{length, getD}
+use Rattle.format.specs.declared.Section.the-variants.{Groups}
+use Rattle.format.specs.Format.{isType, countOf}
+use Rattle.format.specs.Policy.{Policy, policyOf}
+use Rattle.format.specs.Check.{check}
+use Rattle.format.specs.Answers.{gives}
+use Rattle.decision.specs.declared.Query.{Query}
+use Rattle.decision.specs.Sets.{setOf, within}
+use Rattle.decision.specs.Decide.{Decision, notPermitted, permitted, unknown, answer}
+
+unfoldable pub height : Decision → ℕ
+height notPermitted = 0
+height (permitted r) = 1
+height (unknown r c) = 2
+
+abbrev pub Holds : List (List ℕ) → List (List ℕ) → Type 0
+Holds rs₁ rs₂ = (r : List ℕ) → List·Memᴰ r rs₁ → List·Memᴰ r rs₂
+
+pub record Keeps (gs₁ gs₂ : List (List ℕ)) : Type 0 where
+  pub count : length gs₁ ≤ length gs₂
+  pub same : (i : ℕ) → i < length gs₁ → getD gs₁ i [] ≡ getD gs₂ i []
+
+abbrev pub NoCompanion : List (List ℕ) → Type 0
+NoCompanion cs = (c : List ℕ) → List·Memᴰ c cs → getD c 10 0 ≡ 3 → ⊥
+
+pub record Extends (p₁ : Policy) (q₁ : Query) (p₂ : Policy) (q₂ : Query) : Type 0 where
+  pub rules : Holds (p₁ .rules) (p₂ .rules)
+  pub constraints : Holds (p₁ .constraints) (p₂ .constraints)
+  pub groups : Keeps (p₁ .groups) (p₂ .groups)
+  pub class : q₁ .class ≡ q₂ .class
+  pub action : q₁ .action ≡ q₂ .action
+  pub source : within (setOf (p₂ .groups) (q₂ .source)) (setOf (p₁ .groups) (q₁ .source)) ≡ true
+  pub dest : within (setOf (p₂ .groups) (q₂ .dest)) (setOf (p₁ .groups) (q₁ .dest)) ≡ true
+  -- no companion constraint in the first, or both hold the same rules
+  pub companions : NoCompanion (p₁ .constraints) ⊎ Holds (p₂ .rules) (p₁ .rules)
+
+abbrev pub OrderRule : Type 0
+OrderRule =
+    (l₁ l₂ : List ℕ) (q₁ q₂ : Query) (d₁ d₂ : Decision) → answer l₁ q₁ ≡ gives d₁ → answer l₂ q₂ ≡ gives d₂
+    → Extends (policyOf l₁) q₁ (policyOf l₂) q₂ → height d₁ ≤ height d₂
+
+abbrev pub QueryOrder : Type 0
+QueryOrder =
+    (l : List ℕ) (q₁ q₂ : Query) (d₁ d₂ : Decision) → answer l q₁ ≡ gives d₁ → answer l q₂ ≡ gives d₂
+    → q₁ .class ≡ q₂ .class → q₁ .action ≡ q₂ .action
+    → within (setOf (policyOf l .groups) (q₂ .source)) (setOf (policyOf l .groups) (q₁ .source)) ≡ true
+    → within (setOf (policyOf l .groups) (q₂ .dest)) (setOf (policyOf l .groups) (q₁ .dest)) ≡ true
+    → height d₁ ≤ height d₂
+
+abbrev pub NonDecreasing : Type 0
+NonDecreasing =
+    (l₁ l₂ : List ℕ) (q : Query) (d₁ d₂ : Decision) → answer l₁ q ≡ gives d₁ → answer l₂ q ≡ gives d₂
+    → Holds (policyOf l₁ .rules) (policyOf l₂ .rules) → Holds (policyOf l₁ .constraints) (policyOf l₂ .constraints)
+    → Keeps (policyOf l₁ .groups) (policyOf l₂ .groups) → NoCompanion (policyOf l₁ .constraints)
+    → height d₁ ≤ height d₂
+
+abbrev pub Decided : Type 0
+Decided =
+    (l : List ℕ) (q : Query) → check l ≡ none → isType (countOf l Groups) (q .source) ≡ true → isType (countOf l Groups) (q .dest) ≡ true
+    → (d : Decision) × (answer l q ≡ gives d)
