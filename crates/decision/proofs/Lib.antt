@@ -1,3 +1,4 @@
 pub mod Cases
 pub mod Implies
 pub mod Order
+pub mod Tepla

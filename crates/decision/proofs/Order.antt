@@ -40,11 +40,11 @@ heightBy false c = 0
 heightBy true false = 1
 heightBy true true = 2
 
-isFound : Option ℕ → Bool
+unfoldable pub isFound : Option ℕ → Bool
 isFound none = false
 isFound (some n) = true
 
-found-any : {A : Type 0} (f : A → Bool) (n : ℕ) (xs : List A) → isFound (firstAt f n xs) ≡ anyOf f xs
+pub found-any : {A : Type 0} (f : A → Bool) (n : ℕ) (xs : List A) → isFound (firstAt f n xs) ≡ anyOf f xs
 unfolding firstAt anyOf isFound
 found-any f n [] = refl
 found-any f n (x ∷ xs) = go (f x) (found-any f (suc n) xs)

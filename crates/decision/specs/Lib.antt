@@ -1,4 +1,5 @@
 pub mod Sets
 pub mod Decide
 pub mod Order
+pub mod Tepla
 pub mod Cases

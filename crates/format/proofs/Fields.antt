@@ -93,7 +93,7 @@ rising-steps low [] r i h = absurd (omega arith)
 rising-steps low (m ∷ ms) r zero h = omega (arith, rising-first (suc m) ms (r .2) (omega arith))
 rising-steps low (m ∷ ms) r (suc i) h = rising-steps (suc m) ms (r .2) i (omega arith)
 
-steps-rising :
+pub steps-rising :
     (low : ℕ) (ms : List ℕ) → ((i : ℕ) → i < length ms → getD ms i 0 < 1024) → ((i : ℕ) → suc i < length ms → getD ms i 0 < getD ms (suc i) 0)
     → (0 < length ms → low ≤ getD ms 0 0)
     → Rising low ms

@@ -9,3 +9,4 @@ pub mod Fields
 pub mod Images
 pub mod References
 pub mod Sample
+pub mod Places

@@ -1,0 +1,95 @@
+-- TEpla's own evaluation (source document 000, algorithms 2 and 3 and figure 1; 001 where 000 leaves a function out), with
+-- document 01's sets, predicates, transitions and conditions for what the paper leaves to parameters. Lines of the two
+-- documents' texts are cited as 000:149.
+--     Dcs, compareDecisions, maximalDcs, maximum   decisions without numbers, their order, the greater, the greatest
+--     evalRule a r             a query against a rule: R_EvalTE
+--     prdct rs a c             a constraint's predicate: true where it is satisfied
+--     evalConstraint rs a c    a query against a constraint: CSTE_EvalTE
+--     maximalPolicy d e        the combination: constraints play no part where no rule permits
+--     evalPolicy rs cs a       a query against a policy: TEPLCY_EvalTE
+--     forget d                 our decision, its numbers forgotten
+--     PublishedMeaning         the two decide alike, for all rules, constraints and queries
+--     PublishedAnswer          and so on what the engine answers
+use Prim.Native.Nat.{ℕ}
+use mathlib.Core.Path.{_≡_}
+use mathlib.Core.Bool.{Bool, true, false, not, _&&_, cond}
+use mathlib.Core.List.{List, [], _∷_, map}
+use lib.Dec.{eqb}
+use Rattle.format.specs.Policy.{Policy, policyOf}
+use Rattle.format.specs.Answers.{gives}
+use Rattle.decision.specs.declared.Query.{Query}
+use Rattle.decision.specs.Sets.{within}
+use Rattle.decision.specs.Decide.{Rule, ruleOf, Constraint, constraintOf, Request, requestOf, live, broken, Decision, judge, answer}
+
+-- 000:211 "Inductive DCS:Set := Permitted | NotPermitted | UnKnown."
+pub data Dcs : Type 0 where
+  NotPermitted : Dcs
+  Permitted : Dcs
+  UnKnown : Dcs
+
+-- 000:125 NotPermitted below Permitted below UnKnown; each is below itself (000:413)
+unfoldable pub compareDecisions : Dcs → Dcs → Bool
+compareDecisions NotPermitted e = true
+compareDecisions Permitted NotPermitted = false
+compareDecisions Permitted Permitted = true
+compareDecisions Permitted UnKnown = true
+compareDecisions UnKnown NotPermitted = false
+compareDecisions UnKnown Permitted = false
+compareDecisions UnKnown UnKnown = true
+
+-- 000:537 "takes two input decisions and returns the greater decision"
+unfoldable pub maximalDcs : Dcs → Dcs → Dcs
+maximalDcs d e = cond (compareDecisions d e) e d
+
+-- 000:601 "takes a list of decisions and returns the maximum"; of none it is the lowest, since "all accesses are first denied
+-- by default" (000:125)
+unfoldable pub maximum : List Dcs → Dcs
+maximum [] = NotPermitted
+maximum (d ∷ ds) = maximalDcs d (maximum ds)
+
+-- algorithm 2 (000:149): condition, source, destination, class and action
+unfoldable pub allows : Request → Rule → Bool
+allows a r =
+    live r
+    && within (a .source) (r .source)
+    && within (a .dest) (r .dest)
+    && eqb (r .class) (a .class)
+    && eqb (r .action) (a .action)
+
+-- 000:155 "only the types of the subject and object need to be checked"
+unfoldable pub transits : Request → Rule → Bool
+transits a r = within (a .source) (r .source) && within (a .dest) (r .dest)
+
+unfoldable pub evalRule : Request → Rule → Dcs
+evalRule a r = cond (cond (eqb (r .kind) 3) (transits a r) (allows a r)) Permitted NotPermitted
+
+-- algorithm 1 (000:114): true where the query's types are not within the arguments, else what the predicate says
+unfoldable pub prdct : List Rule → Request → Constraint → Bool
+prdct rs a c = cond (within (a .source) (c .first) && within (a .dest) (c .second)) (not (broken rs c)) true
+
+-- algorithm 3 (000:163-169): by class and action; Permitted where the predicate is true, UnKnown where it is not; where
+-- the constraint does not apply, "the default value NotPermitted is returned" (000:157)
+unfoldable pub evalConstraint : List Rule → Request → Constraint → Dcs
+evalConstraint rs a c = cond (eqb (c .class) (a .class) && eqb (c .action) (a .action)) (cond (prdct rs a c) Permitted UnKnown) NotPermitted
+
+-- 001:219 "if(Permitted <:: compont_R) then maximalDCS compont_R compont_CSTE else NotPermitted"
+unfoldable pub maximalPolicy : Dcs → Dcs → Dcs
+maximalPolicy d e = cond (compareDecisions Permitted d) (maximalDcs d e) NotPermitted
+
+-- 001:229-235: the rules' greatest decision and the constraints' greatest, combined
+unfoldable pub evalPolicy : List Rule → List Constraint → Request → Dcs
+evalPolicy rs cs a = maximalPolicy (maximum (map (evalRule a) rs)) (maximum (map (evalConstraint rs a) cs))
+
+unfoldable pub evalQuery : Policy → Query → Dcs
+evalQuery p q = evalPolicy (map (ruleOf (p .groups)) (p .rules)) (map (constraintOf (p .groups)) (p .constraints)) (requestOf (p .groups) q)
+
+unfoldable pub forget : Decision → Dcs
+forget Decision.notPermitted = NotPermitted
+forget (Decision.permitted r) = Permitted
+forget (Decision.unknown r c) = UnKnown
+
+abbrev pub PublishedMeaning : Type 0
+PublishedMeaning = (rs : List Rule) (cs : List Constraint) (a : Request) → evalPolicy rs cs a ≡ forget (judge rs cs a)
+
+abbrev pub PublishedAnswer : Type 0
+PublishedAnswer = (l : List ℕ) (q : Query) (d : Decision) → answer l q ≡ gives d → evalQuery (policyOf l) q ≡ forget d
