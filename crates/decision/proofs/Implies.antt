@@ -13,7 +13,6 @@ use Rattle.decision.specs.Sets.{anyOf, allOf, isIn, within}
 
 infix 4 _⟹_
 infix 4 _⇉_
-
 pub record _⟹_ (a b : Bool) : Type 0 where
   pub imp : a ≡ true → b ≡ true
 

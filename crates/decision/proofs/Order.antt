@@ -167,7 +167,7 @@ unfolding recordsOf
 accepted-typed l e =
     record {
       rules = λ r m. formed-is _ r Rules (subst (λ (g : ℕ). Formed Rules g r) (sym (group-count l)) (policy-formed l e Rules r m));
-      constraints = λ r m. formed-is _ r Constraints (subst (λ (g : ℕ). Formed Constraints g r) (sym (group-count l)) (policy-formed l e Constraints r m))
+      constraints = λ r m. formed-is _ r Constraints (subst (λ (g : ℕ). Formed Constraints g r) (sym (group-count l)) (policy-formed l e Constraints r m));
     }
 
 rule-types : (g : ℕ) (r : List ℕ) → IsRecord Rules g r → IsType g (wordAt r 2) × IsType g (wordAt r 4)
@@ -195,9 +195,11 @@ module _ (p₁ p₂ : Policy) (q₁ q₂ : Query) (typed : Typed p₁) (e : Exte
   unfolding constraintOf
   constraint-kept c m =
       let t = constraint-is c m in
-      rw (set-kept (p₁ .groups) (p₂ .groups) (e .groups) (wordAt c 6) (t .1 .first),
-      set-kept (p₁ .groups) (p₂ .groups) (e .groups) (wordAt c 8) (t .1 .second),
-      union-kept (p₁ .groups) (p₂ .groups) (e .groups) (words (drop 11 c)) (list-types _ c (t .0) (t .1)))
+      rw (
+        set-kept (p₁ .groups) (p₂ .groups) (e .groups) (wordAt c 6) (t .1 .first),
+        set-kept (p₁ .groups) (p₂ .groups) (e .groups) (wordAt c 8) (t .1 .second),
+        union-kept (p₁ .groups) (p₂ .groups) (e .groups) (words (drop 11 c)) (list-types _ c (t .0) (t .1)),
+      )
 
   no-companion : (c : List ℕ) → List·Memᴰ c (p₁ .constraints) → (getD c 10 0 ≡ 3 → ⊥) → constraintOf (p₁ .groups) c .predicate < 3
   unfolding constraintOf
@@ -217,7 +219,7 @@ module _ (p₁ p₂ : Policy) (q₁ q₂ : Query) (typed : Typed p₁) (e : Exte
         companions = ⊎-elim
             (λ n. inl (map-all (constraintOf (p₁ .groups)) (λ (c : Constraint). c .predicate < 3) _ (λ c m. no-companion c m (n c m))))
             (λ h. inr (map-mem _ _ _ _ (λ r m. (h r m, sym (rule-kept r (h r m))))))
-            (e .companions)
+            (e .companions);
       }
 
   pub order : height (decide p₁ q₁) ≤ height (decide p₂ q₂)
@@ -260,7 +262,7 @@ query-order l q₁ q₂ d₁ d₂ e₁ e₂ c a s d =
       action = a;
       source = s;
       dest = d;
-      companions = inr (λ r m. m)
+      companions = inr (λ r m. m);
     })
 
 -- a set is within itself
@@ -279,11 +281,12 @@ non-decreasing l₁ l₂ q d₁ d₂ e₁ e₂ r c k n =
       action = refl;
       source = same (q .source) (valid .0);
       dest = same (q .dest) (valid .1);
-      companions = inl n
+      companions = inl n;
     })
   where
     valid : IsType (length (policyOf l₁ .groups)) (q .source) × IsType (length (policyOf l₁ .groups)) (q .dest)
     valid = answer-types l₁ q d₁ e₁
+
     same : (t : ℕ) → IsType (length (policyOf l₁ .groups)) t → within (setOf (policyOf l₂ .groups) t) (setOf (policyOf l₁ .groups) t) ≡ true
     same t h = rw (set-kept (policyOf l₁ .groups) (policyOf l₂ .groups) k t h) (within-refl (setOf (policyOf l₂ .groups) t))
 

@@ -48,7 +48,7 @@ ruleOf gs r =
       dest = setOf gs (wordAt r 4);
       class = wordAt r 6;
       action = wordAt r 8;
-      condition = getD r 10 0
+      condition = getD r 10 0;
     }
 
 pub record Constraint : Type 0 where
@@ -67,7 +67,7 @@ constraintOf gs c =
       first = setOf gs (wordAt c 6);
       second = setOf gs (wordAt c 8);
       predicate = getD c 10 0;
-      list = unionOf gs (words (drop 11 c))
+      list = unionOf gs (words (drop 11 c));
     }
 
 pub record Request : Type 0 where

@@ -89,7 +89,7 @@ module _ (l : List ℕ) (e : check l ≡ none) (n : ℕ) where
         even = omega arith;
         members = record-words l at 2 (q .0) r s len ∙ ap (λ (x : ℕ). wordsAt l x (at + 2)) (sym k);
         rising = steps-rising 0 ms (λ i j. rw (words-nth r 2 i j) (f .basic i (omega arith)))
-            (λ i j. let p : i < length ms = omega arith in rw (words-nth r 2 i p, words-nth r 2 (suc i) j) (f .rising i (omega arith))) (λ j. omega arith)
+            (λ i j. let p : i < length ms = omega arith in rw (words-nth r 2 i p, words-nth r 2 (suc i) j) (f .rising i (omega arith))) (λ j. omega arith);
       }
 
   rule-by : (r : List ℕ) → Stands l (placeOf l Rules n) r → IsAllow (countOf l Groups) r ⊎ IsTransition (countOf l Groups) r → RuleAt l (placeOf l Rules n) r
@@ -101,7 +101,7 @@ module _ (l : List ℕ) (e : check l ≡ none) (n : ℕ) where
         long = omega arith;
         kind = inl (sym (s .field 1 (omega arith)) ∙ f .kind, len);
         source = subst (IsType (countOf l Groups)) (stands-word l at r 2 s (omega arith)) (f .source);
-        dest = subst (IsType (countOf l Groups)) (stands-word l at r 4 s (omega arith)) (f .dest)
+        dest = subst (IsType (countOf l Groups)) (stands-word l at r 4 s (omega arith)) (f .dest);
       }
   rule-by r s (inr f) =
       let len = f .size .1 in
@@ -111,7 +111,7 @@ module _ (l : List ℕ) (e : check l ≡ none) (n : ℕ) where
         long = omega arith;
         kind = inr (sym (s .field 1 (omega arith)) ∙ f .kind);
         source = subst (IsType (countOf l Groups)) (stands-word l at r 2 s (omega arith)) (f .source);
-        dest = subst (IsType (countOf l Groups)) (stands-word l at r 4 s (omega arith)) (f .dest)
+        dest = subst (IsType (countOf l Groups)) (stands-word l at r 4 s (omega arith)) (f .dest);
       }
 
   pub rule-at : n < countOf l Rules → RuleAt l (placeOf l Rules n) (recordAt l (placeOf l Rules n))
@@ -140,5 +140,5 @@ module _ (l : List ℕ) (e : check l ≡ none) (n : ℕ) where
         types = λ i j.
             (let b : i < q .0 = omega arith in
             subst (IsType (countOf l Groups)) (stands-word l at r (11 + 2 * i) s (omega arith) ∙ ap (wordAt l) (sym (add-assoc at 11 (2 * i)))) (f .list i b));
-        odd = omega arith
+        odd = omega arith;
       }

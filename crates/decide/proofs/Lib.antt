@@ -1,0 +1,6 @@
+pub mod MarkLaws
+pub mod TypeLaws
+pub mod SetLaws
+pub mod MarkedLaws
+pub mod PredicateLaws
+pub mod CoverLaws

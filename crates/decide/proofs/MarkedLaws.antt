@@ -1,0 +1,87 @@
+-- Laws of the marks of a set, and of several. Assumes nothing.
+--     Small xs         basic types
+--     marked-get       a number is marked where it was, or is in the set
+--     marked-of        a set and its marks
+use Prim.Native.Nat.{ℕ, zero, suc, _+_, _*_, _≤_, _<_}
+use mathlib.Core.Path.{_≡_, refl, sym, subst, ap, _∙_}
+use mathlib.Core.Bool.{Bool, true, false, _||_}
+use mathlib.Core.List.{List, [], _∷_, _++_}
+use native.Mathlib.Omega.{arith}
+use lib.ListN.{length, getD, set, replicate, length-set, length-replicate}
+use lib.Seq.{getD-set-same, getD-set-other}
+use lib.Dec.{eqb}
+use borrow.Author.Tests.{eqb-true, eqb-false}
+use Rattle.format.specs.Bytes.{wordAt}
+use Rattle.format.proofs.Fields.{Rising}
+use Rattle.format.proofs.Places.{wordsAt, words-at-length}
+use Rattle.decision.specs.Sets.{anyOf, isIn, setOf, unionOf}
+use Rattle.decide.specs.Walks.{groupsIn, Spans, markAll, Marked}
+use Rattle.decide.proofs.TypeLaws.{set-basic}
+
+abbrev pub Small : List ℕ → Type 0
+Small [] = Unit {0}
+Small (x ∷ xs) = (x < 1024) × Small xs
+
+pub rising-small : (low : ℕ) (xs : List ℕ) → Rising low xs → Small xs
+unfolding Rising
+rising-small low [] r = tt
+rising-small low (x ∷ xs) r = (r .1, rising-small (suc x) xs (r .2))
+
+pub mark-append : (ms : List Bool) (xs ys : List ℕ) → markAll ms (xs ++ ys) ≡ markAll (markAll ms xs) ys
+unfolding markAll
+mark-append ms [] ys = refl
+mark-append ms (x ∷ xs) ys = mark-append (set ms x true) xs ys
+
+or-swap : (a b : Bool) → a || b ≡ b || a
+or-swap true true = refl
+or-swap true false = refl
+or-swap false true = refl
+or-swap false false = refl
+
+pub marked-get : (ms : List Bool) (xs : List ℕ) (m : ℕ) → length ms ≡ 1024 → Small xs → getD (markAll ms xs) m false ≡ getD ms m false || isIn m xs
+unfolding markAll isIn anyOf
+marked-get ms [] m e s = or-swap false (getD ms m false)
+marked-get ms (x ∷ xs) m e s = marked-get (set ms x true) xs m (length-set ms x true ∙ e) (s .1) ∙ go (eqb m x) refl
+  where
+    go : (b : Bool) → eqb m x ≡ b → getD (set ms x true) m false || anyOf (eqb m) xs ≡ getD ms m false || (eqb m x || anyOf (eqb m) xs)
+    go true q =
+        let r : m ≡ x = eqb-true m x q in
+        let k : getD (set ms x true) m false ≡ true = rw r (getD-set-same ms x true false (omega (arith, s .0))) in
+        simp (k, q) (sym (or-swap (getD ms m false) true))
+    go false q = simp (q, getD-set-other ms x m true false (eqb-false m x q))
+
+blank : (n m : ℕ) → getD (replicate n false) m false ≡ false
+blank zero m = refl
+blank (suc n) zero = refl
+blank (suc n) (suc m) = blank n m
+
+pub marked-blank : (xs : List ℕ) (m : ℕ) → Small xs → getD (markAll (replicate 1024 false) xs) m false ≡ isIn m xs
+marked-blank xs m s = marked-get (replicate 1024 false) xs m (length-replicate 1024 false) s ∙ simp (blank 1024 m)
+
+pub marked-of : (S : List ℕ) → Rising 0 S → Marked S (markAll (replicate 1024 false) S) (length S)
+marked-of S r = record { is = λ m h. marked-blank S m (rising-small 0 S r); many = refl; rising = r }
+
+module _ (l : List ℕ) (t : ℕ) (h : t < 32768) where
+  pub mark-basic : (ms : List Bool) → markAll ms (setOf (groupsIn l) t) ≡ set ms t true
+  unfolding markAll
+  mark-basic ms = rw (set-basic l t h)
+
+  pub size-basic : length (setOf (groupsIn l) t) ≡ 1
+  size-basic = rw (set-basic l t h)
+
+module _ (l : List ℕ) (from count : ℕ) (S : List ℕ) (s : Spans l from count S) where
+  pub span-size : count ≡ length S
+  span-size = sym (words-at-length l count from) ∙ ap length (s .are)
+
+-- the sets of n types from a place on
+module _ (ms : List Bool) (l : List ℕ) (at n : ℕ) where
+  pub union-end : n ≡ 0 → markAll ms (unionOf (groupsIn l) (wordsAt l n at)) ≡ ms
+  unfolding markAll unionOf wordsAt
+  union-end e = rw e
+
+  pub union-next : (k : ℕ) → n ≡ suc k → markAll ms (unionOf (groupsIn l) (wordsAt l n at)) ≡ markAll (markAll ms (setOf (groupsIn l) (wordAt l at))) (unionOf (groupsIn l) (wordsAt l k (at + 2)))
+  unfolding unionOf wordsAt
+  union-next k e = rw e (mark-append ms (setOf (groupsIn l) (wordAt l at)) (unionOf (groupsIn l) (wordsAt l k (at + 2))))
+
+pub types-next : (P : ℕ → Type 0) (at n k : ℕ) → n ≡ suc k → ((i : ℕ) → i < n → P (at + 2 * i)) → P at × ((i : ℕ) → i < k → P (at + 2 + 2 * i))
+types-next P at n k e h = (subst P (omega arith) (h 0 (omega arith)), λ i j. subst P (omega arith) (h (suc i) (omega arith)))

@@ -1,0 +1,96 @@
+-- Laws of what the predicates ask of the rules. Assumes nothing.
+use Prim.Native.Nat.{ℕ, zero, suc, _+_, _-_, _≤_, _<_}
+use mathlib.Core.Path.{_≡_, refl, sym, ap, _∙_}
+use mathlib.Core.Logic.{⊎-elim}
+use mathlib.Core.Bool.{Bool, true, false, cond, _&&_, _||_}
+use mathlib.Core.List.{List, [], _∷_, map}
+use native.Mathlib.Omega.{arith}
+use lib.ListN.{length, getD, replicate}
+use lib.Dec.{eqb}
+use borrow.Author.Tests.{eq-eqb, ne-eqb}
+use Rattle.format.specs.declared.Section.the-variants.{Rules}
+use Rattle.format.specs.Bytes.{wordAt}
+use Rattle.format.specs.Format.{countOf}
+use Rattle.format.specs.Policy.{policyOf, recordAt, recordsAt, startOf, placeOf, placeAfter}
+use Rattle.format.proofs.Shapes.{stands-word}
+use Rattle.format.proofs.Places.{RuleAt}
+use Rattle.decision.specs.Sets.{anyOf, setOf}
+use Rattle.decision.specs.Decide.{Rule, ruleOf, live}
+use Rattle.decide.specs.Walks.{groupsIn, rulesIn, Kept, anyMarked, liveAt, wanted}
+
+-- nothing is kept at first
+pub kept-none : (f : List ℕ → Bool) (l : List ℕ) (n : ℕ) → Kept f l (replicate n 0)
+kept-none f l n = record { no = λ g e. absurd (omega (arith, e, blank n g)); yes = λ g e. absurd (omega (arith, e, blank n g)) }
+  where
+    blank : (n g : ℕ) → getD {A = ℕ} (replicate n 0) g 0 ≡ 0
+    blank zero g = refl
+    blank (suc n) zero = refl
+    blank (suc n) (suc g) = blank n g
+
+module _ (l : List ℕ) (at : ℕ) (r : List ℕ) (h : RuleAt l at r) where
+  live-is : live (ruleOf (groupsIn l) r) ≡ liveAt l at
+  unfolding live liveAt ruleOf
+  live-is =
+      let k1 : getD r 1 0 ≡ getD l (at + 1) 0 = h .here .field 1 (omega (arith, h .long)) in
+      ⊎-elim
+      (λ w.
+      let k10 : getD r 10 0 ≡ getD l (at + 10) 0 = h .here .field 10 (omega (arith, w .1)) in
+      simp (k1, k10, eq-eqb (getD l (at + 1) 0) 2 (w .0)))
+      (λ w. simp (k1, ne-eqb (getD l (at + 1) 0) 2 (omega (arith, w))))
+      (h .kind)
+
+  source-is : ruleOf (groupsIn l) r .source ≡ setOf (groupsIn l) (wordAt l (at + 2))
+  unfolding ruleOf
+  source-is = ap (setOf (groupsIn l)) (stands-word l at r 2 (h .here) (omega (arith, h .long)))
+
+  dest-is : ruleOf (groupsIn l) r .dest ≡ setOf (groupsIn l) (wordAt l (at + 4))
+  unfolding ruleOf
+  dest-is = ap (setOf (groupsIn l)) (stands-word l at r 4 (h .here) (omega (arith, h .long)))
+
+  module _ (ms : List Bool) (f : List ℕ → Bool) where
+    wanted-is : wanted ms f (ruleOf (groupsIn l) r) ≡ liveAt l at && anyMarked ms (setOf (groupsIn l) (wordAt l (at + 4))) && f (setOf (groupsIn l) (wordAt l (at + 2)))
+    unfolding wanted
+    wanted-is = rw (live-is, source-is, dest-is)
+
+    pub unwanted-off : liveAt l at ≡ false → wanted ms f (ruleOf (groupsIn l) r) ≡ false
+    unwanted-off e = wanted-is ∙ simp e
+
+    pub unwanted-dest : liveAt l at ≡ true → anyMarked ms (setOf (groupsIn l) (wordAt l (at + 4))) ≡ false → wanted ms f (ruleOf (groupsIn l) r) ≡ false
+    unwanted-dest e k = wanted-is ∙ simp (e, k)
+
+    pub wanted-source : liveAt l at ≡ true → anyMarked ms (setOf (groupsIn l) (wordAt l (at + 4))) ≡ true → wanted ms f (ruleOf (groupsIn l) r) ≡ f (setOf (groupsIn l) (wordAt l (at + 2)))
+    wanted-source e k = wanted-is ∙ simp (e, k)
+
+module _ (l : List ℕ) (at : ℕ) where
+  pub live-off : (getD l (at + 1) 0 ≡ 2 → ⊥) → liveAt l at ≡ false
+  unfolding liveAt
+  live-off h = simp (ne-eqb (getD l (at + 1) 0) 2 h)
+
+  pub live-on : getD l (at + 1) 0 ≡ 2 → liveAt l at ≡ eqb (getD l (at + 10) 0) 1
+  unfolding liveAt
+  live-on h = simp (eq-eqb (getD l (at + 1) 0) 2 h)
+
+-- ---- a rule that passes a test, among k from a place on
+
+unfoldable pub anyFrom : (Rule → Bool) → List ℕ → ℕ → ℕ → Bool
+anyFrom f l k at = anyOf f (map (ruleOf (groupsIn l)) (recordsAt l at k))
+
+module _ (f : Rule → Bool) (l : List ℕ) where
+  pub any-rules-start : (from n : ℕ) → from ≡ startOf l Rules → n ≡ countOf l Rules → (from ≡ placeOf l Rules (n - n)) × (anyOf f (rulesIn l) ≡ anyFrom f l n from)
+  unfolding anyFrom rulesIn policyOf placeOf placeAfter
+  any-rules-start from n e h =
+      let z : n - n ≡ 0 = omega arith in
+      (rw (z, e), rw (h, e))
+
+  module _ (k at : ℕ) where
+    pub any-rules-end : k ≡ 0 → anyFrom f l k at ≡ false
+    unfolding anyFrom anyOf recordsAt
+    any-rules-end e = rw e
+
+    pub any-rules-hit : (j : ℕ) → k ≡ suc j → f (ruleOf (groupsIn l) (recordAt l at)) ≡ true → anyFrom f l k at ≡ true
+    unfolding anyFrom anyOf recordsAt
+    any-rules-hit j e y = rw e (simp y)
+
+    pub any-rules-next : (j : ℕ) → k ≡ suc j → f (ruleOf (groupsIn l) (recordAt l at)) ≡ false → anyFrom f l k at ≡ anyFrom f l j (at + getD l at 0)
+    unfolding anyFrom anyOf recordsAt
+    any-rules-next j e y = rw e (simp y)

@@ -1,0 +1,101 @@
+-- `helped` meets its contract: the rules from the running one on answer as all do. Assumes nothing.
+use native.Mathlib.Omega.{arith}
+use Prim.Native.Nat.{ℕ, suc, _+_, _-_, _≤_, _<_}
+use mathlib.Core.Path.{_≡_, refl, sym, subst, ap, _∙_}
+use denote.Ref.{now}
+use borrow.Author.Needs.{needs}
+use lib.ListN.{length, getD}
+use Rattle.format.specs.declared.Section.the-variants.{Rules}
+use Rattle.format.specs.Format.{countOf, countPlace}
+use Rattle.format.specs.Policy.{recordAt, placeOf}
+use Rattle.format.proofs.Accepted.{accepted-header, place-next}
+use Rattle.format.proofs.Places.{RuleAt, rule-at}
+use Rattle.decision.specs.Sets.{anyOf}
+use Rattle.decide.specs.Walks.{rulesIn, Kept, anyMarked, friend}
+use Rattle.decide.proofs.PredicateLaws.{kept-none, anyFrom, any-rules-start, any-rules-end, any-rules-hit, any-rules-next}
+use Rattle.decide.proofs.predicates.helped.Statement.{statement}
+use Rattle.decide.proofs.predicates.helped.Tie as tie
+
+abbrev Inv-loop : tie.InvT-loop
+Inv-loop image groups from first second told₀ known₀ at₀ left₀ told known at left = (left ≤ left₀) × (left₀ ≡ countOf image Rules) × (at ≡ placeOf image Rules (left₀ - left)) × (anyOf (friend first second) (rulesIn image) ≡ anyFrom (friend first second) image left at) × Kept (anyMarked first) image told × Kept (anyMarked second) image known
+
+abbrev μ-loop : tie.MeasureT-loop
+μ-loop image groups from first second told₀ known₀ at₀ left₀ told known at left = left
+
+counted : (d : tie.After-word-at Inv-loop μ-loop) → d .word-at .result ≡ countOf (now (d .before .before .args .image)) Rules
+unfolding countOf countPlace
+counted d = d .word-at .ensures .0
+
+-- the rule at the running place
+here : (d : tie.In-loop Inv-loop μ-loop) → RuleAt (now (d .before .before .before .before .args .image)) (d .before .loop .at) (recordAt (now (d .before .before .before .before .args .image)) (d .before .loop .at))
+here d =
+    let L = d .before .loop in
+    rw (L .inv .2) (rule-at (now (d .before .before .before .before .args .image)) (d .before .before .before .before .pre .0) (d .before .before .word-at .result - L .left) (omega (arith, L .inv .0, L .inv .1)))
+
+word-at-requires : tie.Need-word-at-requires Inv-loop μ-loop
+word-at-requires c κs = omega (arith, accepted-header _ (c .before .pre .0) .long)
+
+loop-holds : tie.Need-loop-holds Inv-loop μ-loop
+loop-holds c = let a = c .before .before in
+    let e = any-rules-start (friend (now (a .args .first)) (now (a .args .second))) _ _ _ (a .pre .2) (counted c) in
+    (omega arith, counted c, e .0, e .1, kept-none _ _ 256, kept-none _ _ 256)
+
+helps-requires : tie.Need-helps-requires Inv-loop μ-loop
+helps-requires c κs = let p = c .before .before .before .before .before .before .pre in (p .0, p .1, here (c .before .before), c .before .before .before .loop .inv .4, c .before .before .before .loop .inv .5)
+
+returns : tie.Need-returns Inv-loop μ-loop
+returns c = let L = c .before .before .before .before .before .loop in
+    let e : L .left ≡ suc (L .left - 1) = omega arith in
+    sym (L .inv .3 ∙ any-rules-hit _ _ _ _ _ e (sym (c .before .helps .ensures .0) ∙ c .if1 .taken))
+
+shared-slice-read-wide : tie.Need-shared-slice-read-wide Inv-loop μ-loop
+shared-slice-read-wide c = let h = here (c .before .before .before .before .before) in omega (arith, h .long, h .here .inside)
+
+wide-requires : tie.Need-wide-requires Inv-loop μ-loop
+wide-requires c κs = search needs
+
+add-at : tie.Need-add-at Inv-loop μ-loop
+add-at c = let h = here (c .before .before .before .before .before .before) in omega (arith, h .here .inside, h .here .size, c .wide .ensures .0)
+
+sub-left : tie.Need-sub-left Inv-loop μ-loop
+sub-left c = omega arith
+
+loop-less : tie.Need-loop-less Inv-loop μ-loop
+loop-less c = omega arith
+
+loop-again : tie.Need-loop-again Inv-loop μ-loop
+loop-again c = let a = c .before .before .before .before .before .before .before .before .before .before in
+    let L = c .before .before .before .before .before .before .before .loop in
+    let N : ℕ = c .before .before .before .before .before .before .before .before .word-at .result in
+    let l = now (a .args .image) in
+    let e : L .left ≡ suc (L .left - 1) = omega arith in
+    let z : N - (L .left - 1) ≡ N - L .left + 1 = omega (arith, L .inv .0) in
+    let step : L .at + c .wide .result ≡ L .at + getD l (L .at) 0 = ap (λ x. L .at + x) (c .wide .ensures .0) in (
+      omega (arith, L .inv .0),
+      L .inv .1,
+      step ∙ ap (λ x. x + getD l x 0) (L .inv .2) ∙ sym (place-next l Rules (N - L .left)) ∙ ap (placeOf l Rules) (sym z),
+      L .inv .3 ∙ any-rules-next _ _ _ _ _ e (sym (c .before .before .before .helps .ensures .0) ∙ c .before .before .if1 .left) ∙ ap (anyFrom (friend (now (a .args .first)) (now (a .args .second))) l (L .left - 1)) (sym step),
+      c .before .before .before .helps .ensures .1,
+      c .before .before .before .helps .ensures .2,
+    )
+
+returns-2 : tie.Need-returns-2 Inv-loop μ-loop
+returns-2 c = sym (c .before .loop .inv .3 ∙ any-rules-end _ _ _ _ (omega arith))
+
+pub helped-spec : {M : Type 1} → statement M
+helped-spec =
+    tie.close
+    (tie.spec
+    Inv-loop
+    μ-loop
+    word-at-requires
+    loop-holds
+    helps-requires
+    returns
+    shared-slice-read-wide
+    wide-requires
+    add-at
+    sub-left
+    loop-less
+    loop-again
+    returns-2)

@@ -1,0 +1,94 @@
+-- `places` meets its contract: the places of the groups so far are in the table. Assumes nothing.
+use native.Mathlib.Omega.{arith}
+use borrow.Author.Needs.{needs}
+use Prim.Native.Nat.{ℕ, _+_, _-_, _≤_, _<_}
+use mathlib.Core.Path.{_≡_, refl, sym, ap, _∙_}
+use denote.Ref.{now}
+use lib.ListN.{length, getD, length-set}
+use Rattle.format.specs.declared.Section.the-variants.{Groups}
+use Rattle.format.specs.Format.{countOf, countPlace}
+use Rattle.format.specs.Policy.{placeOf, recordAt}
+use Rattle.format.proofs.Accepted.{accepted-header, record-stands, place-next}
+use Rattle.format.proofs.Shapes.{Stands}
+use Rattle.decide.proofs.TypeLaws.{few-groups, first-place, placed-more}
+use Rattle.decide.proofs.types.places.Statement.{statement}
+use Rattle.decide.proofs.types.places.Tie as tie
+
+abbrev Inv-loop : tie.InvT-loop
+Inv-loop image found₀ groups at₀ g₀ found at g = (g ≤ groups) × (at ≡ placeOf image Groups g) × (length found ≡ 256) × ((i : ℕ) → i < g → getD found i 0 ≡ placeOf image Groups i)
+
+abbrev μ-loop : tie.MeasureT-loop
+μ-loop image found₀ groups at₀ g₀ found at g = groups - g
+
+counted : (d : tie.After-word-at Inv-loop μ-loop) → d .word-at .result ≡ countOf (now (d .before .before .args .image)) Groups
+unfolding countOf countPlace
+counted d = d .word-at .ensures .0
+
+-- the group at the running place
+here : (d : tie.In-loop Inv-loop μ-loop) → Stands (now (d .before .before .before .before .args .image)) (d .before .loop .at) (recordAt (now (d .before .before .before .before .args .image)) (d .before .loop .at))
+here d =
+    let a = d .before .before .before .before in
+    rw (d .before .loop .inv .1) (record-stands (now (a .args .image)) (a .pre) Groups (d .before .loop .g) (omega (arith, counted (d .before .before))))
+
+next : (d : tie.After-wide Inv-loop μ-loop) → d .before .before .before .loop .at + d .wide .result ≡ placeOf (now (d .before .before .before .before .before .before .args .image)) Groups (d .before .before .before .loop .g + 1)
+next d =
+    let l = now (d .before .before .before .before .before .before .args .image) in
+    ap (λ b. d .before .before .before .loop .at + b) (d .wide .ensures .0)
+    ∙ ap (λ at. at + getD l at 0) (d .before .before .before .loop .inv .1)
+    ∙ sym (place-next l Groups (d .before .before .before .loop .g))
+
+word-at-requires : tie.Need-word-at-requires Inv-loop μ-loop
+word-at-requires c κs = omega (arith, accepted-header _ (c .before .pre) .long)
+
+loop-holds : tie.Need-loop-holds Inv-loop μ-loop
+loop-holds c = (omega arith, first-place _, refl, λ i h. absurd (omega arith))
+
+mul-found : tie.Need-mul-found Inv-loop μ-loop
+mul-found c = omega (arith, counted (c .before .before), few-groups _ (c .before .before .before .before .pre))
+
+array-write-found : tie.Need-array-write-found Inv-loop μ-loop
+array-write-found c = omega (arith, counted (c .before .before), few-groups _ (c .before .before .before .before .pre))
+
+shared-slice-read-wide : tie.Need-shared-slice-read-wide Inv-loop μ-loop
+shared-slice-read-wide c = let s = here (c .before) in omega (arith, s .some, s .inside)
+
+wide-requires : tie.Need-wide-requires Inv-loop μ-loop
+wide-requires c κs = search needs
+
+add-at : tie.Need-add-at Inv-loop μ-loop
+add-at c = let s = here (c .before .before) in omega (arith, s .inside, s .size, c .wide .ensures .0)
+
+add-g : tie.Need-add-g Inv-loop μ-loop
+add-g c = omega arith
+
+loop-less : tie.Need-loop-less Inv-loop μ-loop
+loop-less c = omega arith
+
+loop-again : tie.Need-loop-again Inv-loop μ-loop
+loop-again c = let L = c .before .before .before .loop in (
+  omega arith,
+  next c,
+  simp length-set (L .inv .2),
+  placed-more (placeOf (now (c .before .before .before .before .before .before .args .image)) Groups) (L .found) (L .g) (L .at) (omega (arith, counted (c .before .before .before .before), few-groups _ (c .before .before .before .before .before .before .pre))) (L .inv .1) (L .inv .3),
+)
+
+returns : tie.Need-returns Inv-loop μ-loop
+returns c = record { is = λ g h. c .before .loop .inv .3 g (omega (arith, counted (c .before .before))) }
+
+pub places-spec : {M : Type 1} → statement M
+places-spec =
+    tie.close
+    (tie.spec
+    Inv-loop
+    μ-loop
+    word-at-requires
+    loop-holds
+    mul-found
+    array-write-found
+    shared-slice-read-wide
+    wide-requires
+    add-at
+    add-g
+    loop-less
+    loop-again
+    returns)

@@ -1,0 +1,80 @@
+// Sets as 1,024 marks, and the members of a part of the image against them.
+use crate::word::word_at;
+ghost use mathlib.Core.Path.{_≡_};
+ghost use Prim.Native.Nat.{_+_, _*_, _≤_};
+ghost use lib.ListN.{length};
+ghost use Rattle.format.proofs.Places.{wordsAt};
+ghost use Rattle.format.proofs.Fields.{Rising};
+ghost use Rattle.decide.specs.Walks.{markAll, anyMarked, allMarked, fullyMarked};
+
+// Marks the members of a part.
+pub(crate) fn mark(image: &[u8], from: usize, count: usize, marks: &mut [bool; 1024])
+    requires { ⌜ (from + 2 * count ≤ length (now image)) × Rising 0 (wordsAt (now image) count from) ⌝ }
+    ensures { λ _. ⌜ now (marks .exit) ≡ markAll (now (marks .entry)) (wordsAt (now (image .entry)) count from) ⌝ }
+{
+    let mut at = from;
+    let mut left = count;
+    while 0 < left {
+        marks[word_at(image, at)] = true;
+        at += 2;
+        left -= 1;
+    }
+}
+
+// Whether a member of a part is marked.
+pub(crate) fn any_marked(image: &[u8], from: usize, count: usize, marks: &[bool; 1024]) -> bool
+    requires { ⌜ (from + 2 * count ≤ length (now image)) × Rising 0 (wordsAt (now image) count from) ⌝ }
+    ensures { λ r. ⌜ r ≡ anyMarked (now (marks .entry)) (wordsAt (now (image .entry)) count from) ⌝ }
+{
+    let mut at = from;
+    let mut left = count;
+    while 0 < left {
+        if marks[word_at(image, at)] {
+            return true;
+        }
+        at += 2;
+        left -= 1;
+    }
+    false
+}
+
+// Whether each member of a part is marked.
+pub(crate) fn all_marked(image: &[u8], from: usize, count: usize, marks: &[bool; 1024]) -> bool
+    requires { ⌜ (from + 2 * count ≤ length (now image)) × Rising 0 (wordsAt (now image) count from) ⌝ }
+    ensures { λ r. ⌜ r ≡ allMarked (now (marks .entry)) (wordsAt (now (image .entry)) count from) ⌝ }
+{
+    let mut at = from;
+    let mut left = count;
+    while 0 < left {
+        if !marks[word_at(image, at)] {
+            return false;
+        }
+        at += 2;
+        left -= 1;
+    }
+    true
+}
+
+// Whether so many members of a part are marked: where that is the number of marks, all marks are among the members.
+pub(crate) fn fully_marked(
+    image: &[u8],
+    from: usize,
+    count: usize,
+    marks: &[bool; 1024],
+    size: usize,
+) -> bool
+    requires { ⌜ (from + 2 * count ≤ length (now image)) × Rising 0 (wordsAt (now image) count from) ⌝ }
+    ensures { λ r. ⌜ r ≡ fullyMarked (now (marks .entry)) size (wordsAt (now (image .entry)) count from) ⌝ }
+{
+    let mut at = from;
+    let mut left = count;
+    let mut hits: usize = 0;
+    while 0 < left {
+        if marks[word_at(image, at)] {
+            hits += 1;
+        }
+        at += 2;
+        left -= 1;
+    }
+    hits == size
+}
