@@ -16,6 +16,8 @@
 --     liveAt l at           the rule at a place is live
 --     wanted ms f a         a rule that is live, whose destination touches marks and whose source passes a test: `strays`, one
 --                           that breaks a roster by its second argument and list, and `friend`, one that a companion wants
+--     pairedIn l ms s       a live rule whose destination touches marks has s for its source
+--     sameList              two lists are the same
 use Prim.Native.Nat.{ℕ, _+_, _-_, _*_, _≤_, _<_}
 use mathlib.Core.Path.{_≡_}
 use mathlib.Core.Bool.{Bool, true, false, not, _&&_, cond}
@@ -30,7 +32,7 @@ use Rattle.format.proofs.Places.{wordsAt}
 use Rattle.format.proofs.Fields.{Rising}
 use Rattle.format.specs.Bytes.{wordAt}
 use Rattle.decision.specs.declared.Query.{Query}
-use Rattle.decision.specs.Sets.{anyOf, allOf, isIn, setOf, within}
+use Rattle.decision.specs.Sets.{anyOf, allOf, isIn, setOf, within, sameSet}
 use Rattle.decision.specs.Decide.{Rule, ruleOf, requestOf, live, covers, firstAt}
 use Rattle.decide.specs.declared.cover.Found.{Found}
 use Rattle.decide.specs.declared.cover.Found.the-variants.{At, Nothing}
@@ -111,3 +113,13 @@ strays second list = wanted second (λ s. not (allMarked list s))
 
 abbrev pub friend : List Bool → List Bool → Rule → Bool
 friend first second = wanted first (anyMarked second)
+
+-- a rule that reaches marks has the same source
+unfoldable pub pairedIn : List ℕ → List Bool → List ℕ → Bool
+pairedIn l second s = anyOf (wanted second (sameSet s)) (rulesIn l)
+
+unfoldable pub sameList : List ℕ → List ℕ → Bool
+sameList [] [] = true
+sameList [] (y ∷ ys) = false
+sameList (x ∷ xs) [] = false
+sameList (x ∷ xs) (y ∷ ys) = cond (eqb x y) (sameList xs ys) false
