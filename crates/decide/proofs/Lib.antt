@@ -4,4 +4,6 @@ pub mod SetLaws
 pub mod MarkedLaws
 pub mod CompareLaws
 pub mod PredicateLaws
+pub mod ConstraintLaws
+pub mod EngineLaws
 pub mod CoverLaws

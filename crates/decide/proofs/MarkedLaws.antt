@@ -5,18 +5,23 @@
 use Prim.Native.Nat.{ℕ, zero, suc, _+_, _*_, _≤_, _<_}
 use mathlib.Core.Path.{_≡_, refl, sym, subst, ap, _∙_}
 use mathlib.Core.Bool.{Bool, true, false, _||_}
+use mathlib.Core.Option.{none}
 use mathlib.Core.List.{List, [], _∷_, _++_}
 use native.Mathlib.Omega.{arith}
 use lib.ListN.{length, getD, set, replicate, length-set, length-replicate}
 use lib.Seq.{getD-set-same, getD-set-other}
 use lib.Dec.{eqb}
 use borrow.Author.Tests.{eqb-true, eqb-false}
+use Rattle.format.specs.declared.Section.the-variants.{Groups}
 use Rattle.format.specs.Bytes.{wordAt}
+use Rattle.format.specs.Format.{countOf}
+use Rattle.format.specs.Check.{check}
+use Rattle.format.specs.Claims.{IsType}
 use Rattle.format.proofs.Fields.{Rising}
 use Rattle.format.proofs.Places.{wordsAt, words-at-length}
 use Rattle.decision.specs.Sets.{anyOf, isIn, setOf, unionOf}
 use Rattle.decide.specs.Walks.{groupsIn, Spans, markAll, Marked}
-use Rattle.decide.proofs.TypeLaws.{set-basic}
+use Rattle.decide.proofs.TypeLaws.{set-basic, set-rising}
 
 abbrev pub Small : List ℕ → Type 0
 Small [] = Unit {0}
@@ -85,3 +90,16 @@ module _ (ms : List Bool) (l : List ℕ) (at n : ℕ) where
 
 pub types-next : (P : ℕ → Type 0) (at n k : ℕ) → n ≡ suc k → ((i : ℕ) → i < n → P (at + 2 * i)) → P at × ((i : ℕ) → i < k → P (at + 2 + 2 * i))
 types-next P at n k e h = (subst P (omega arith) (h 0 (omega arith)), λ i j. subst P (omega arith) (h (suc i) (omega arith)))
+
+pub small-append : (xs ys : List ℕ) → Small xs → Small ys → Small (xs ++ ys)
+small-append [] ys s t = t
+small-append (x ∷ xs) ys s t = (s .0, small-append xs ys (s .1) t)
+
+-- the sets of n types from a place on are of basic types
+pub union-small :
+    (l : List ℕ) (n at : ℕ) → check l ≡ none → ((i : ℕ) → i < n → IsType (countOf l Groups) (wordAt l (at + 2 * i))) → Small (unionOf (groupsIn l) (wordsAt l n at))
+unfolding unionOf wordsAt
+union-small l zero at c h = tt
+union-small l (suc n) at c h =
+    let q = types-next (λ w. IsType (countOf l Groups) (wordAt l w)) at (suc n) n refl h in
+    small-append (setOf (groupsIn l) (wordAt l at)) (unionOf (groupsIn l) (wordsAt l n (at + 2))) (rising-small 0 _ (set-rising l (wordAt l at) c (q .0))) (union-small l n (at + 2) c (q .1))

@@ -12,6 +12,7 @@
 --     skippedOf, skipMore   groups that were passed over
 --     Skips l S sk          groups that a set is known not to be within
 --     firstRule l q         the lowest rule that covers a query
+--     firstConstraint l q   the lowest constraint that fails
 --     rulesIn l             the rules of an image
 --     liveAt l at           the rule at a place is live
 --     wanted ms f a         a rule that is live, whose destination touches marks and whose source passes a test: `strays`, one
@@ -33,7 +34,7 @@ use Rattle.format.proofs.Fields.{Rising}
 use Rattle.format.specs.Bytes.{wordAt}
 use Rattle.decision.specs.declared.Query.{Query}
 use Rattle.decision.specs.Sets.{anyOf, allOf, isIn, setOf, within, sameSet}
-use Rattle.decision.specs.Decide.{Rule, ruleOf, requestOf, live, covers, firstAt}
+use Rattle.decision.specs.Decide.{Rule, ruleOf, constraintOf, requestOf, live, covers, fails, firstAt}
 use Rattle.decide.specs.declared.cover.Found.{Found}
 use Rattle.decide.specs.declared.cover.Found.the-variants.{At, Nothing}
 
@@ -123,3 +124,6 @@ sameList [] [] = true
 sameList [] (y ∷ ys) = false
 sameList (x ∷ xs) [] = false
 sameList (x ∷ xs) (y ∷ ys) = cond (eqb x y) (sameList xs ys) false
+
+unfoldable pub firstConstraint : List ℕ → Query → Found
+firstConstraint l q = foundOf (firstAt (fails (rulesIn l) (requestOf (groupsIn l) q)) 0 (map (constraintOf (groupsIn l)) (policyOf l .constraints)))

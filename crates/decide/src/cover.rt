@@ -2,6 +2,7 @@
 use crate::kept::inside;
 use crate::types::members;
 use crate::word::wide;
+use crate::word::wide_word;
 use crate::word::word_at;
 use decision::Query;
 ghost use mathlib.Core.Path.{_≡_};
@@ -17,12 +18,6 @@ ghost use Rattle.decide.specs.Walks.{groupsIn, Placed, Marked, Kept, ful
 pub(crate) enum Found {
     At(usize),
     Nothing,
-}
-
-fn wide_word(x: u16) -> usize
-    ensures { λ r. ⌜ r ≡ x ⌝ }
-{
-    x as usize
 }
 
 // What the condition, the class and the action of the rule at a place let through. A transition lets all through.

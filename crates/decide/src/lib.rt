@@ -7,3 +7,7 @@ mod sets; // sets.rt: the sets of types, as marks
 mod compare; // compare.rt: two types that stand for the same set
 mod predicates; // predicates.rt: what the predicates ask of the rules
 mod cover; // cover.rt: the lowest rule that covers a query
+mod constraint; // constraint.rt: whether a constraint fails, and the lowest that does
+mod engine; // engine.rt: the decision on an image and a query
+
+pub use engine::decide;

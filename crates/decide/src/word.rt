@@ -10,6 +10,12 @@ pub(crate) fn wide(x: u8) -> usize
     x as usize
 }
 
+pub(crate) fn wide_word(x: u16) -> usize
+    ensures { λ r. ⌜ r ≡ x ⌝ }
+{
+    x as usize
+}
+
 // The 2-byte number at a place.
 pub(crate) fn word_at(bytes: &[u8], at: usize) -> usize
     requires { ⌜ at + 1 < length (now bytes) ⌝ }

@@ -1,0 +1,95 @@
+-- Laws of the decision, from the lowest rule and the lowest constraint, and of the answer. Assumes nothing.
+use Prim.Native.Nat.{ℕ}
+use mathlib.Core.Path.{_≡_, refl, sym, subst, ap, _∙_}
+use mathlib.Core.Bool.{Bool, true, false}
+use mathlib.Core.Option.{Option, none, some}
+use mathlib.Core.List.{List, map}
+use lib.ListN.{length, replicate}
+use Rattle.format.specs.declared.Section.the-variants.{Groups}
+use Rattle.format.specs.declared.Refusal.{Refusal}
+use Rattle.format.specs.Refusals.{refusal, need, _orElse_}
+use Rattle.format.specs.Format.{countOf, isType}
+use Rattle.format.specs.Policy.{policyOf}
+use Rattle.format.specs.Check.{check}
+use Rattle.format.specs.Claims.{IsType}
+use Rattle.format.specs.Answers.{refused, gives, outcome}
+use Rattle.decision.specs.declared.Query.{Query}
+use Rattle.decision.specs.Sets.{setOf}
+use Rattle.decision.specs.Decide as tepla
+use Rattle.decide.specs.declared.cover.Found.{Found}
+use Rattle.decide.specs.declared.cover.Found.the-variants.{At, Nothing}
+use Rattle.decide.specs.Walks.{groupsIn, rulesIn, markAll, Marked, foundOf, firstRule, firstConstraint}
+use Rattle.decide.proofs.TypeLaws.{set-rising}
+use Rattle.decide.proofs.MarkedLaws.{marked-of}
+
+abbrev pub optionOf : Found → Option ℕ
+optionOf Nothing = none
+optionOf (At n) = some n
+
+found-back : (o : Option ℕ) → optionOf (foundOf o) ≡ o
+unfolding foundOf
+found-back none = refl
+found-back (some n) = refl
+
+both : (o o' p p' : Option ℕ) → o ≡ o' → p ≡ p' → tepla.decisionOf o p ≡ tepla.decisionOf o' p'
+both o o' p p' e f = rw (e, f) refl
+
+-- the decision is that of the lowest covering rule and the lowest failing constraint
+pub engine-is : (l : List ℕ) (q : Query) → tepla.decide (policyOf l) q ≡ tepla.decisionOf (optionOf (firstRule l q)) (optionOf (firstConstraint l q))
+unfolding tepla.decide tepla.judge firstRule firstConstraint rulesIn
+engine-is l q = both _ _ _ _ (sym (found-back _)) (sym (found-back _))
+
+module _ (l : List ℕ) (q : Query) where
+  pub engine-none : Nothing ≡ firstRule l q → tepla.decide (policyOf l) q ≡ tepla.notPermitted
+  unfolding tepla.decisionOf
+  engine-none e = engine-is l q ∙ ap (λ f. tepla.decisionOf (optionOf f) (optionOf (firstConstraint l q))) (sym e)
+
+  pub engine-permitted : (r : ℕ) → At r ≡ firstRule l q → Nothing ≡ firstConstraint l q → tepla.decide (policyOf l) q ≡ tepla.permitted r
+  unfolding tepla.decisionOf
+  engine-permitted r e f = engine-is l q ∙ ap (λ f. tepla.decisionOf (optionOf f) (optionOf (firstConstraint l q))) (sym e) ∙ ap (λ f. tepla.decisionOf (some r) (optionOf f)) (sym f)
+
+  pub engine-unknown : (r c : ℕ) → At r ≡ firstRule l q → At c ≡ firstConstraint l q → tepla.decide (policyOf l) q ≡ tepla.unknown r c
+  unfolding tepla.decisionOf
+  engine-unknown r c e f = engine-is l q ∙ ap (λ f. tepla.decisionOf (optionOf f) (optionOf (firstConstraint l q))) (sym e) ∙ ap (λ f. tepla.decisionOf (some r) (optionOf f)) (sym f)
+
+  -- ---- the answer
+
+  pub answer-refused : (f : Refusal) → check l ≡ some f → tepla.answer l q ≡ refused f
+  unfolding tepla.answer tepla.answerFault _orElse_
+  answer-refused f e = rw e refl
+
+  pub answer-accepted : check l ≡ none → tepla.answer l q ≡ outcome (tepla.queryFault (countOf l Groups) q) (tepla.decide (policyOf l) q)
+  unfolding tepla.answer tepla.answerFault _orElse_
+  answer-accepted e = rw e refl
+
+module _ (g : ℕ) (q : Query) where
+  pub query-source : isType g (q .source) ≡ false → tepla.queryFault g q ≡ some (refusal 8 0)
+  unfolding tepla.queryFault need _orElse_
+  query-source e = rw e refl
+
+  pub query-dest : isType g (q .source) ≡ true → isType g (q .dest) ≡ false → tepla.queryFault g q ≡ some (refusal 9 0)
+  unfolding tepla.queryFault need _orElse_
+  query-dest e f = rw (e, f) refl
+
+  pub query-valid : isType g (q .source) ≡ true → isType g (q .dest) ≡ true → tepla.queryFault g q ≡ none
+  unfolding tepla.queryFault need _orElse_
+  query-valid e f = rw (e, f) refl
+
+pub type-told : (g h t w : ℕ) (b : Bool) → b ≡ isType g t → g ≡ h → t ≡ w → isType h w ≡ b
+type-told g h t w b e f k = sym (e ∙ ap (λ x. isType x t) f ∙ ap (isType h) k)
+
+pub marked-type :
+    (l : List ℕ) (ms : List Bool) (size t w : ℕ) → check l ≡ none → IsType (countOf l Groups) w → t ≡ w → ms ≡ markAll (replicate 1024 false) (setOf (groupsIn l) t) → size ≡ length (setOf (groupsIn l) t)
+    → Marked (setOf (groupsIn l) w) ms size
+marked-type l ms size t w c ok is e f =
+    let S = setOf (groupsIn l) w in
+    let e' : ms ≡ markAll (replicate 1024 false) S = e ∙ ap (λ x. markAll (replicate 1024 false) (setOf (groupsIn l) x)) is in
+    let f' : size ≡ length S = f ∙ ap (λ x. length (setOf (groupsIn l) x)) is in
+    subst (λ n. Marked S ms n) (sym f') (subst (λ m. Marked S m (length S)) (sym e') (marked-of S (set-rising l w c ok)))
+
+module _ {A : Type 0} (f : Option Refusal) (a : A) where
+  pub outcome-some : (x : Refusal) → f ≡ some x → refused x ≡ outcome f a
+  outcome-some x e = rw e refl
+
+  pub outcome-none : f ≡ none → gives a ≡ outcome f a
+  outcome-none e = rw e refl
