@@ -4,8 +4,10 @@ mod sample; // sample.rt: the sample sheet, and buffers filled from it
 mod show; // show.rt: a case's line
 mod images; // images.rt: images checked, and their records given
 mod adding; // adding.rt: records added
+mod deciding; // deciding.rt: queries decided
 
 fn main() {
     images::run();
     adding::run();
+    deciding::run();
 }

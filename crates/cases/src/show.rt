@@ -1,4 +1,6 @@
 // A case's line: its label and what is answered.
+use decision::Answer;
+use decision::Query;
 use extension::Added;
 use format::Checked;
 use format::Found;
@@ -78,6 +80,29 @@ pub(crate) fn show_add(label: &[u8], buffer: &mut [u8], part: &[u8]) {
             refusal_line(f);
         }
     }
+}
+
+// N; P and the rule; U, the rule and the constraint; or R with the number and the place.
+pub(crate) fn show_decision(label: &[u8], part: &[u8], q: Query) {
+    label_line(label);
+    match decide::decide(part, q) {
+        Answer::NotPermitted => {
+            io::write_all(STDOUT_FILENO, b" N");
+        }
+        Answer::Permitted(rule) => {
+            io::write_all(STDOUT_FILENO, b" P");
+            number(rule);
+        }
+        Answer::UnKnown(rule, constraint) => {
+            io::write_all(STDOUT_FILENO, b" U");
+            number(rule);
+            number(constraint);
+        }
+        Answer::Refused(f) => {
+            refusal_line(f);
+        }
+    }
+    end_line();
 }
 
 pub(crate) fn end_line() {
