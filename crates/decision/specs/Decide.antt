@@ -11,6 +11,7 @@
 --     judge rs cs a       the decision: the lowest rule that covers the query, the lowest constraint that fails
 --     decide p q          the decision of a policy
 --     queryFault g q      refusals 8 and 9, where there are g groups
+--     answerFault l q     refusals 1 to 7, then 8 and 9
 --     answer l q          the engine's answer, for any bytes and any query
 --     answerOutcome r     what an `Answer` says
 use Prim.Native.Nat.{ℕ, suc}
@@ -83,7 +84,7 @@ requestOf gs q =
 unfoldable pub live : Rule → Bool
 live r = eqb (r .kind) 2 && eqb (r .condition) 1
 
--- condition, source, destination, class, action; of a transition the condition is on, and its class is not looked at
+-- condition, source, destination, class, action; a transition always passes the first, and neither its class nor an action is tested
 unfoldable pub tests : Request → Rule → List Bool
 tests a r =
     cond (eqb (r .kind) 3)
@@ -124,6 +125,7 @@ module _ {A : Type 0} where
   firstAt f n [] = none
   firstAt f n (x ∷ l) = cond (f x) (some n) (firstAt f (suc n) l)
 
+-- with the number of the covering rule, and of the failing constraint
 pub data Decision : Type 0 where
   notPermitted : Decision
   permitted : (rule : ℕ) → Decision

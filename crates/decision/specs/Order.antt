@@ -1,12 +1,14 @@
--- The order rule (document 01), and totality.
+-- The order rule (demand 3, on the terms of document 01), and totality.
 --     height d              NotPermitted < Permitted < UnKnown
 --     Holds rs₁ rs₂         document 01's "holds": each record of the first list is in the second, at any number
---     Keeps gs₁ gs₂         the first list's groups under their old numbers
+--     Keeps gs₁ gs₂         the second list has the first's groups, under their old numbers
 --     NoCompanion cs        no constraint of the list is a companion
 --     Extends p₁ q₁ p₂ q₂   the terms: a second policy and query extend a first
 --     OrderRule             demand 3, on what the engine answers
---     QueryOrder            the paper's order preservation: on one policy, a query within another is decided no lower
---     NonDecreasing         the paper's non-decreasing property: more rules and constraints, no lower decision
+--     QueryOrder            the paper's order preservation: on one policy, a query within another, of its class and action, is
+--                           decided no lower
+--     NonDecreasing         the paper's non-decreasing property: one query, groups kept, no companion in the first; more rules and
+--                           constraints, no lower decision
 --     Decided               totality: every valid query on an accepted image gets one of the three decisions
 use Prim.Native.Nat.{ℕ, _≤_, _<_}
 use mathlib.Core.Path.{_≡_}
@@ -47,7 +49,7 @@ pub record Extends (p₁ : Policy) (q₁ : Query) (p₂ : Policy) (q₂ : Query)
   pub action : q₁ .action ≡ q₂ .action
   pub source : within (setOf (p₂ .groups) (q₂ .source)) (setOf (p₁ .groups) (q₁ .source)) ≡ true
   pub dest : within (setOf (p₂ .groups) (q₂ .dest)) (setOf (p₁ .groups) (q₁ .dest)) ≡ true
-  -- no companion constraint in the first, or both hold the same rules
+  -- no companion constraint in the first, or, with `rules`, both hold the same rules
   pub companions : NoCompanion (p₁ .constraints) ⊎ Holds (p₂ .rules) (p₁ .rules)
 
 abbrev pub OrderRule : Type 0
