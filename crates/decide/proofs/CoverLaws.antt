@@ -8,7 +8,6 @@ use mathlib.Core.List.{List, [], _∷_, map}
 use native.Mathlib.Omega.{arith}
 use native.Mathlib.Numerals.{add-one}
 use lib.ListN.{length, getD, set, replicate}
-use lib.Seq.{getD-set-same, getD-set-other, set-out}
 use lib.Dec.{eqb, ltb}
 use borrow.Author.Tests.{lt-ltb, le-ltb, eq-eqb, ne-eqb, eqb-true, eqb-false, ltb-true, ltb-false}
 use Rattle.format.specs.declared.Section.the-variants.{Groups, Rules}
@@ -26,6 +25,7 @@ use Rattle.decision.specs.Decide.{Rule, ruleOf, Request, requestOf, live, tests
 use Rattle.decide.specs.declared.cover.Found.{Found}
 use Rattle.decide.specs.declared.cover.Found.the-variants.{At, Nothing}
 use Rattle.decide.specs.Walks.{groupsIn, mayAt, skippedOf, skipMore, noSkips, Skips, foundOf, firstRule}
+use Rattle.decide.proofs.ArrayLaws.{blank, by-set}
 use Rattle.decide.proofs.TypeLaws.{few-groups, type-group}
 
 -- ---- what a rule's tests come to
@@ -155,22 +155,9 @@ module _ (l : List ℕ) (q : Query) (k n at : ℕ) where
 
 -- ---- groups that were passed over
 
-by-set : (xs : List Bool) (g i : ℕ) (P : ℕ → Type 0) → ((j : ℕ) → getD xs j false ≡ true → P j) → P g → getD (set xs g true) i false ≡ true → P i
-by-set xs g i P old new e = go (eqb i g) refl (ltb g (length xs)) refl
-  where
-    go : (b : Bool) → eqb i g ≡ b → (c : Bool) → ltb g (length xs) ≡ c → P i
-    go false p c q = old i (sym (getD-set-other xs g i true false (eqb-false i g p)) ∙ e)
-    go true p true q = let r : i ≡ g = eqb-true i g p in subst P (sym r) new
-    go true p false q = old i (rw (set-out xs g true (ltb-false g (length xs) q)) at e)
-
-nothing : (n g : ℕ) → getD (replicate n false) g false ≡ false
-nothing zero g = refl
-nothing (suc n) zero = refl
-nothing (suc n) (suc g) = nothing n g
-
 pub skips-none : (l S : List ℕ) → Skips l S noSkips
 unfolding noSkips
-skips-none l S = record { is = λ g e. false-not-true (sym (nothing 256 g) ∙ e) }
+skips-none l S = record { is = λ g e. false-not-true (sym (blank false 256 g) ∙ e) }
 
 module _ (l S : List ℕ) (sk : List Bool) (k : Skips l S sk) (t w : ℕ) (is : t ≡ w) where
   pub skips-tell : skippedOf sk t ≡ true → within S (setOf (groupsIn l) w) ≡ false
@@ -189,7 +176,7 @@ module _ (l S : List ℕ) (sk : List Bool) (k : Skips l S sk) (t w : ℕ) (is : 
       go true h = k
       go false h =
           let r : 32768 + (t - 32768) ≡ w = omega (arith, ltb-false t 32768 h) in
-          record { is = λ i e. by-set sk (t - 32768) i (λ (j : ℕ). within S (setOf (groupsIn l) (32768 + j)) ≡ false) (k .is) (rw r n) e }
+          record { is = by-set false (λ (j : ℕ) (b : Bool). b ≡ true → within S (setOf (groupsIn l) (32768 + j)) ≡ false) sk (t - 32768) true (k .is) (λ e. rw r n) }
 
 module _ (sk : List Bool) (t : ℕ) where
   pub skipped-basic : t < 32768 → skippedOf sk t ≡ false

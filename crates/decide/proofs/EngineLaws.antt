@@ -4,7 +4,7 @@ use mathlib.Core.Path.{_≡_, refl, sym, subst, ap, _∙_}
 use mathlib.Core.Bool.{Bool, true, false}
 use mathlib.Core.Option.{Option, none, some}
 use mathlib.Core.List.{List, map}
-use lib.ListN.{length, replicate}
+use lib.ListN.{length, getD, replicate}
 use Rattle.format.specs.declared.Section.the-variants.{Groups}
 use Rattle.format.specs.declared.Refusal.{Refusal}
 use Rattle.format.specs.Refusals.{refusal, need, _orElse_}
@@ -18,7 +18,9 @@ use Rattle.decision.specs.Sets.{setOf}
 use Rattle.decision.specs.Decide as tepla
 use Rattle.decide.specs.declared.cover.Found.{Found}
 use Rattle.decide.specs.declared.cover.Found.the-variants.{At, Nothing}
-use Rattle.decide.specs.Walks.{groupsIn, rulesIn, markAll, Marked, foundOf, firstRule, firstConstraint}
+use Rattle.decide.specs.Walks.{groupsIn, rulesIn, placeIn, Places, markAll, Marked, foundOf, firstRule, firstConstraint}
+use Rattle.decide.specs.Ready.{unless, groupPlace}
+use Rattle.decide.proofs.ArrayLaws.{blank}
 use Rattle.decide.proofs.TypeLaws.{set-rising}
 use Rattle.decide.proofs.MarkedLaws.{marked-of}
 
@@ -93,3 +95,14 @@ module _ {A : Type 0} (f : Option Refusal) (a : A) where
 
   pub outcome-none : f ≡ none → gives a ≡ outcome f a
   outcome-none e = rw e refl
+
+-- ---- the places that are handed out
+
+module _ (l ps : List ℕ) where
+  pub places-accepted : Places l ps → check l ≡ none → (g : ℕ) → getD ps g 0 ≡ groupPlace l g
+  unfolding groupPlace
+  places-accepted p e g = p .is g ∙ ap (λ f. unless f (placeIn l g)) (sym e)
+
+pub places-refused : (l : List ℕ) (f : Refusal) → check l ≡ some f → (g : ℕ) → getD {A = ℕ} (replicate 256 0) g 0 ≡ groupPlace l g
+unfolding groupPlace
+places-refused l f e g = blank 0 256 g ∙ ap (λ f. unless f (placeIn l g)) (sym e)

@@ -1,3 +1,4 @@
+pub mod ArrayLaws
 pub mod MarkLaws
 pub mod TypeLaws
 pub mod SetLaws

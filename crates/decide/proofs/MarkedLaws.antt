@@ -21,6 +21,7 @@ use Rattle.format.proofs.Fields.{Rising}
 use Rattle.format.proofs.Places.{wordsAt, words-at-length}
 use Rattle.decision.specs.Sets.{anyOf, isIn, setOf, unionOf}
 use Rattle.decide.specs.Walks.{groupsIn, Spans, markAll, Marked}
+use Rattle.decide.proofs.ArrayLaws.{blank}
 use Rattle.decide.proofs.TypeLaws.{set-basic, set-rising}
 
 abbrev pub Small : List ℕ → Type 0
@@ -55,13 +56,8 @@ marked-get ms (x ∷ xs) m e s = marked-get (set ms x true) xs m (length-set ms 
         simp (k, q) (sym (or-swap (getD ms m false) true))
     go false q = simp (q, getD-set-other ms x m true false (eqb-false m x q))
 
-blank : (n m : ℕ) → getD (replicate n false) m false ≡ false
-blank zero m = refl
-blank (suc n) zero = refl
-blank (suc n) (suc m) = blank n m
-
 pub marked-blank : (xs : List ℕ) (m : ℕ) → Small xs → getD (markAll (replicate 1024 false) xs) m false ≡ isIn m xs
-marked-blank xs m s = marked-get (replicate 1024 false) xs m (length-replicate 1024 false) s ∙ simp (blank 1024 m)
+marked-blank xs m s = marked-get (replicate 1024 false) xs m (length-replicate 1024 false) s ∙ simp (blank false 1024 m)
 
 pub marked-of : (S : List ℕ) → Rising 0 S → Marked S (markAll (replicate 1024 false) S) (length S)
 marked-of S r = record { is = λ m h. marked-blank S m (rising-small 0 S r); many = refl; rising = r }

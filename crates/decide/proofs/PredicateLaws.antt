@@ -17,15 +17,11 @@ use Rattle.format.proofs.Places.{RuleAt}
 use Rattle.decision.specs.Sets.{anyOf, setOf}
 use Rattle.decision.specs.Decide.{Rule, ruleOf, live}
 use Rattle.decide.specs.Walks.{groupsIn, rulesIn, Kept, anyMarked, liveAt, wanted}
+use Rattle.decide.proofs.ArrayLaws.{blank}
 
 -- nothing is kept at first
 pub kept-none : (f : List ℕ → Bool) (l : List ℕ) (n : ℕ) → Kept f l (replicate n 0)
-kept-none f l n = record { no = λ g e. absurd (omega (arith, e, blank n g)); yes = λ g e. absurd (omega (arith, e, blank n g)) }
-  where
-    blank : (n g : ℕ) → getD {A = ℕ} (replicate n 0) g 0 ≡ 0
-    blank zero g = refl
-    blank (suc n) zero = refl
-    blank (suc n) (suc g) = blank n g
+kept-none f l n = record { no = λ g e. absurd (omega (arith, e, blank {A = ℕ} 0 n g)); yes = λ g e. absurd (omega (arith, e, blank {A = ℕ} 0 n g)) }
 
 module _ (l : List ℕ) (at : ℕ) (r : List ℕ) (h : RuleAt l at r) where
   live-is : live (ruleOf (groupsIn l) r) ≡ liveAt l at

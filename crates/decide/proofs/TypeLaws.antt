@@ -7,7 +7,7 @@ use mathlib.Core.Option.{none}
 use mathlib.Core.List.{List, [], _∷_}
 use native.Mathlib.Omega.{arith}
 use lib.ListN.{length, getD, drop, set}
-use lib.Seq.{getD-set-same, getD-set-other, set-out}
+use lib.Seq.{getD-set-same, getD-set-other}
 use lib.Dec.{eqb, ltb}
 use borrow.Author.Tests.{lt-ltb, le-ltb, eqb-true, eqb-false, ltb-true, ltb-false}
 use Rattle.format.specs.declared.Section.the-variants.{Groups}
@@ -20,7 +20,8 @@ use Rattle.format.proofs.Fields.{Rising}
 use Rattle.format.proofs.Accepted.{accepted-header, record-nth, record-stands, place-next}
 use Rattle.format.proofs.Places.{wordsAt, GroupAt, group-at}
 use Rattle.decision.specs.Sets.{setOf}
-use Rattle.decide.specs.Walks.{groupsIn, Placed, Spans, Kept}
+use Rattle.decide.specs.Walks.{groupsIn, placeIn, Placed, Places, Spans, Kept}
+use Rattle.decide.proofs.ArrayLaws.{by-set}
 
 pub few-groups : (l : List ℕ) → check l ≡ none → countOf l Groups ≤ 256
 unfolding limitOf
@@ -31,7 +32,7 @@ pub first-place : (l : List ℕ) → 9 ≡ placeOf l Groups 0
 unfolding placeOf startOf placeAfter
 first-place l = refl
 
--- one more place
+-- one more place: those before it are there, and 0 past it
 pub placed-more :
     (f : ℕ → ℕ) (ps : List ℕ) (g at : ℕ) → g < length ps → at ≡ f g → ((i : ℕ) → i < g → getD ps i 0 ≡ f i)
     → (i : ℕ) → i < g + 1 → getD (set ps g at) i 0 ≡ f i
@@ -40,6 +41,22 @@ placed-more f ps g at h e all i k = go (eqb i g) refl
     go : (b : Bool) → eqb i g ≡ b → getD (set ps g at) i 0 ≡ f i
     go true q = let r : i ≡ g = eqb-true i g q in rw r (getD-set-same ps g at 0 h ∙ e)
     go false q = let r : i ≡ g → ⊥ = eqb-false i g q in getD-set-other ps g i at 0 r ∙ all i (omega arith)
+
+pub placed-past : (ps : List ℕ) (g at : ℕ) → ((i : ℕ) → g ≤ i → getD ps i 0 ≡ 0) → (i : ℕ) → g + 1 ≤ i → getD (set ps g at) i 0 ≡ 0
+placed-past ps g at all i k = getD-set-other ps g i at 0 (λ e. absurd (omega arith)) ∙ all i (omega arith)
+
+module _ (l ps : List ℕ) where
+  pub places-all : (n : ℕ) → n ≡ countOf l Groups → ((i : ℕ) → i < n → getD ps i 0 ≡ placeOf l Groups i) → ((i : ℕ) → n ≤ i → getD ps i 0 ≡ 0) → Places l ps
+  unfolding placeIn
+  places-all n e here past = record { is = λ g. go g (ltb g (countOf l Groups)) refl }
+    where
+      go : (g : ℕ) (b : Bool) → ltb g (countOf l Groups) ≡ b → getD ps g 0 ≡ cond b (placeOf l Groups g) 0
+      go g true h = here g (omega (arith, ltb-true g (countOf l Groups) h))
+      go g false h = past g (omega (arith, ltb-false g (countOf l Groups) h))
+
+  pub places-placed : Places l ps → Placed l ps
+  unfolding placeIn
+  places-placed p = record { is = λ g h. p .is g ∙ simp (lt-ltb g (countOf l Groups) h) }
 
 module _ (l : List ℕ) (t : ℕ) where
   pub set-basic : t < 32768 → setOf (groupsIn l) t ≡ t ∷ []
@@ -114,15 +131,6 @@ module _ (l : List ℕ) (from count : ℕ) (S : List ℕ) (s : Spans l from coun
 
 -- ---- what is kept of the groups
 
--- what holds of each place that held x, and of v, holds of each that holds x once v is set at g
-by-set : (xs : List ℕ) (g v i x : ℕ) (P : ℕ → Type 0) → ((j : ℕ) → getD xs j 0 ≡ x → P j) → (v ≡ x → P g) → getD (set xs g v) i 0 ≡ x → P i
-by-set xs g v i x P old new e = go (eqb i g) refl (ltb g (length xs)) refl
-  where
-    go : (b : Bool) → eqb i g ≡ b → (c : Bool) → ltb g (length xs) ≡ c → P i
-    go false p c q = old i (sym (getD-set-other xs g i v 0 (eqb-false i g p)) ∙ e)
-    go true p true q = let r : i ≡ g = eqb-true i g p in subst P (sym r) (new (sym (getD-set-same xs g v 0 (ltb-true g (length xs) q)) ∙ rw r at e))
-    go true p false q = old i (rw (set-out xs g v (ltb-false g (length xs) q)) at e)
-
 module _ (f : List ℕ → Bool) (l told : List ℕ) (k : Kept f l told) (t w : ℕ) (is : t ≡ w) (h : 32768 ≤ t) where
   group-is : 32768 + (t - 32768) ≡ w
   group-is = omega arith
@@ -137,8 +145,8 @@ module _ (f : List ℕ → Bool) (l told : List ℕ) (k : Kept f l told) (t w : 
   pub kept-more : (v : ℕ) (b : Bool) → b ≡ f (setOf (groupsIn l) w) → (v ≡ 1 → b ≡ false) → (v ≡ 2 → b ≡ true) → Kept f l (set told (t - 32768) v)
   kept-more v b e ifNo ifYes =
       record {
-        no = λ i q. by-set told (t - 32768) v i 1 (λ (j : ℕ). f (setOf (groupsIn l) (32768 + j)) ≡ false) (k .no) (λ z. rw group-is (sym e ∙ ifNo z)) q;
-        yes = λ i q. by-set told (t - 32768) v i 2 (λ (j : ℕ). f (setOf (groupsIn l) (32768 + j)) ≡ true) (k .yes) (λ z. rw group-is (sym e ∙ ifYes z)) q;
+        no = by-set 0 (λ (j x : ℕ). x ≡ 1 → f (setOf (groupsIn l) (32768 + j)) ≡ false) told (t - 32768) v (k .no) (λ z. rw group-is (sym e ∙ ifNo z));
+        yes = by-set 0 (λ (j x : ℕ). x ≡ 2 → f (setOf (groupsIn l) (32768 + j)) ≡ true) told (t - 32768) v (k .yes) (λ z. rw group-is (sym e ∙ ifYes z));
       }
 
 -- the members of a type rise

@@ -1,6 +1,7 @@
 -- What the deciding code walks over.
 --     groupsIn l            the records of the groups of an image
 --     Placed l ps           a table has the place of each group
+--     placeIn, Places l ps  the same, and 0 past the groups
 --     Spans l from count S  a part of the image holds the members of a set
 --     markAll ms xs         marks with those of a list
 --     anyMarked, allMarked  some element of a list is marked, and each is
@@ -43,6 +44,12 @@ groupsIn l = policyOf l .groups
 
 pub record Placed (l ps : List ℕ) : Type 0 where
   pub is : (g : ℕ) → g < countOf l Groups → getD ps g 0 ≡ placeOf l Groups g
+
+unfoldable pub placeIn : List ℕ → ℕ → ℕ
+placeIn l g = cond (ltb g (countOf l Groups)) (placeOf l Groups g) 0
+
+pub record Places (l ps : List ℕ) : Type 0 where
+  pub is : (g : ℕ) → getD ps g 0 ≡ placeIn l g
 
 pub record Spans (l : List ℕ) (from count : ℕ) (S : List ℕ) : Type 0 where
   pub room : from + 2 * count ≤ length l

@@ -10,6 +10,7 @@ use decision::Answer;
 use decision::Query;
 use format::Refusal;
 use format::Sections;
+use format::Starts;
 use image::is_type;
 use image::layout;
 ghost use mathlib.Core.Path.{_≡_};
@@ -19,23 +20,47 @@ ghost use Rattle.format.specs.declared.Section.the-variants.{Groups, Rules, Con
 ghost use Rattle.format.specs.Format.{countOf, isType};
 ghost use Rattle.format.specs.Policy.{policyOf, startOf};
 ghost use Rattle.format.specs.Check.{check};
-ghost use Rattle.format.specs.Answers.{gives, outcome};
+ghost use Rattle.format.specs.Answers.{gives};
 ghost use Rattle.decision.specs.Decide as tepla;
+ghost use Rattle.decide.specs.Walks.{Placed};
+ghost use Rattle.decide.specs.Ready.{Prepares, Ready};
+
+// A policy as its check leaves it: where its sections start, or the refusal, and the place of each group. Past the groups,
+// and in a refused image, the places are 0.
+pub struct Prepared {
+    pub sections: Sections,
+    pub groups: [usize; 256],
+}
+
+// What the decisions on an image need of it, found once.
+pub fn prepare(image: &[u8]) -> Prepared
+    ensures { λ r. ⌜ Prepares (now (image .entry)) r ⌝ }
+{
+    match layout(image) {
+        Sections::Refused(f) => Prepared {
+            sections: Sections::Refused(f),
+            groups: [0; 256],
+        },
+        Sections::At(s) => Prepared {
+            sections: Sections::At(s),
+            groups: places(image),
+        },
+    }
+}
 
 // The decision of an accepted policy on a query of its types.
-fn judge(image: &[u8], rules: usize, constraints: usize, q: Query) -> Answer
-    requires { ⌜ (check (now image) ≡ none) × (rules ≡ startOf (now image) Rules) × (constraints ≡ startOf (now image) Constraints) × (isType (countOf (now image) Groups) (q .source) ≡ true) × (isType (countOf (now image) Groups) (q .dest) ≡ true) ⌝ }
+fn judge(image: &[u8], groups: &[usize; 256], rules: usize, constraints: usize, q: Query) -> Answer
+    requires { ⌜ (check (now image) ≡ none) × Placed (now image) (now groups) × (rules ≡ startOf (now image) Rules) × (constraints ≡ startOf (now image) Constraints) × (isType (countOf (now image) Groups) (q .source) ≡ true) × (isType (countOf (now image) Groups) (q .dest) ≡ true) ⌝ }
     ensures { λ r. ⌜ tepla.answerOutcome r ≡ gives (tepla.decide (policyOf (now (image .entry))) q) ⌝ }
 {
-    let groups = places(image);
     let mut source = [false; 1024];
-    let sources = mark_type(image, &groups, wide_word(q.source), &mut source);
+    let sources = mark_type(image, groups, wide_word(q.source), &mut source);
     let mut dest = [false; 1024];
-    let dests = mark_type(image, &groups, wide_word(q.dest), &mut dest);
+    let dests = mark_type(image, groups, wide_word(q.dest), &mut dest);
     let mut told = [0u8; 256];
     match first_rule(
         image,
-        &groups,
+        groups,
         rules,
         q,
         &source,
@@ -47,7 +72,7 @@ fn judge(image: &[u8], rules: usize, constraints: usize, q: Query) -> Answer
         Found::Nothing => Answer::NotPermitted,
         Found::At(r) => match first_constraint(
             image,
-            &groups,
+            groups,
             rules,
             constraints,
             q,
@@ -63,25 +88,26 @@ fn judge(image: &[u8], rules: usize, constraints: usize, q: Query) -> Answer
     }
 }
 
-// The answer of an accepted policy, refusals 8 and 9 included.
-fn decide_accepted(image: &[u8], rules: usize, constraints: usize, q: Query) -> Answer
-    requires { ⌜ (check (now image) ≡ none) × (rules ≡ startOf (now image) Rules) × (constraints ≡ startOf (now image) Constraints) ⌝ }
-    ensures { λ r. ⌜ tepla.answerOutcome r ≡ outcome (tepla.queryFault (countOf (now (image .entry)) Groups) q) (tepla.decide (policyOf (now (image .entry))) q) ⌝ }
+// The engine's answer on an image that `prepare` has accepted before, with what it gave. It answers as `decide` does and
+// does not check again.
+pub fn decide_prepared(image: &[u8], groups: &[usize; 256], s: Starts, q: Query) -> Answer
+    requires { ⌜ Ready (now image) (now groups) s ⌝ }
+    ensures { λ r. ⌜ tepla.answerOutcome r ≡ tepla.answer (now (image .entry)) q ⌝ }
 {
-    let groups = word_at(image, 3);
-    if !is_type(groups, wide_word(q.source)) {
+    let count = word_at(image, 3);
+    if !is_type(count, wide_word(q.source)) {
         return Answer::Refused(Refusal {
             number: 8,
             place: 0,
         });
     }
-    if !is_type(groups, wide_word(q.dest)) {
+    if !is_type(count, wide_word(q.dest)) {
         return Answer::Refused(Refusal {
             number: 9,
             place: 0,
         });
     }
-    judge(image, rules, constraints, q)
+    judge(image, groups, s.rules, s.constraints, q)
 }
 
 // The engine's answer: the decision with its rule and its constraint, or refusals 1 to 9 with the place.
@@ -90,6 +116,9 @@ pub fn decide(image: &[u8], q: Query) -> Answer
 {
     match layout(image) {
         Sections::Refused(f) => Answer::Refused(f),
-        Sections::At(s) => decide_accepted(image, s.rules, s.constraints, q),
+        Sections::At(s) => {
+            let groups = places(image);
+            decide_prepared(image, &groups, s, q)
+        }
     }
 }

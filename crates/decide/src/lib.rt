@@ -1,4 +1,4 @@
-// Deciding a query on an accepted image.
+// Deciding queries: in one call with the check, or on a policy that was prepared once.
 mod word; // word.rt: numbers in bytes
 mod types; // types.rt: where the members of a type lie in the image
 mod marks; // marks.rt: sets as 1,024 marks, and the members of a type against them
@@ -10,4 +10,7 @@ mod cover; // cover.rt: the lowest rule that covers a query
 mod constraint; // constraint.rt: whether a constraint fails, and the lowest that does
 mod engine; // engine.rt: the decision on an image and a query
 
+pub use engine::Prepared;
 pub use engine::decide;
+pub use engine::decide_prepared;
+pub use engine::prepare;

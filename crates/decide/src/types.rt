@@ -11,7 +11,7 @@ ghost use Rattle.format.specs.Format.{countOf};
 ghost use Rattle.format.specs.Check.{check};
 ghost use Rattle.format.specs.Claims.{IsType};
 ghost use Rattle.decision.specs.Sets.{setOf};
-ghost use Rattle.decide.specs.Walks.{groupsIn, Placed, Spans};
+ghost use Rattle.decide.specs.Walks.{groupsIn, Placed, Places, Spans};
 
 // A part of the image that holds basic types, so many from a place on.
 pub(crate) struct Span {
@@ -19,10 +19,10 @@ pub(crate) struct Span {
     pub count: usize,
 }
 
-// The place of each group.
+// The place of each group, and 0 past the groups.
 pub(crate) fn places(image: &[u8]) -> [usize; 256]
     requires { ⌜ check (now image) ≡ none ⌝ }
-    ensures { λ r. ⌜ Placed (now (image .entry)) r ⌝ }
+    ensures { λ r. ⌜ Places (now (image .entry)) r ⌝ }
 {
     let mut found = [0usize; 256];
     let groups = word_at(image, 3);

@@ -6,7 +6,8 @@ use denote.Ref.{now}
 use Rattle.format.specs.Check.{check}
 use Rattle.format.specs.Answers.{sectionsOutcome, starts}
 use Rattle.format.proofs.Chain.{outcome-gives, outcome-refused}
-use Rattle.decide.proofs.EngineLaws.{answer-refused, answer-accepted}
+use Rattle.decide.proofs.TypeLaws.{places-placed}
+use Rattle.decide.proofs.EngineLaws.{answer-refused}
 use Rattle.decide.proofs.engine.decide.Statement.{statement}
 use Rattle.decide.proofs.engine.decide.Tie as tie
 
@@ -23,16 +24,19 @@ enum-known-f c = search needs
 enum-known-s : tie.Need-enum-known-s
 enum-known-s c = search needs
 
-decide-accepted-requires : tie.Need-decide-accepted-requires
-decide-accepted-requires c κs = let k = accepted (c .before) in (k .0, ap (λ s. s .rules) (k .1), ap (λ s. s .constraints) (k .1))
+places-requires : tie.Need-places-requires
+places-requires c κs = accepted (c .before) .0
+
+decide-prepared-requires : tie.Need-decide-prepared-requires
+decide-prepared-requires c κs = let k = accepted (c .before .before .before) in record { accepted = k .0; placed = places-placed _ _ (c .before .places .ensures); starting = k .1 }
 
 returns : tie.Need-returns
 returns c = sym (answer-refused _ _ _ (outcome-refused _ _ (sym (ap sectionsOutcome (c .before .f .given .1)) ∙ c .before .before .before .layout .ensures)))
 
 returns-2 : tie.Need-returns-2
-returns-2 c = c .decide-accepted .ensures ∙ sym (answer-accepted _ _ (accepted (c .before .before) .0))
+returns-2 c = c .decide-prepared .ensures
 
 pub decide-spec : {M : Type 1} → statement M
 decide-spec =
     tie.close
-    (tie.spec layout-requires enum-known-f enum-known-s decide-accepted-requires returns returns-2)
+    (tie.spec layout-requires enum-known-f enum-known-s places-requires decide-prepared-requires returns returns-2)

@@ -9,23 +9,27 @@ use Rattle.decide.proofs.EngineLaws.{engine-none, engine-permitted, eng
 use Rattle.decide.proofs.engine.judge.Statement.{statement}
 use Rattle.decide.proofs.engine.judge.Tie as tie
 
-places-requires : tie.Need-places-requires
-places-requires c κs = search needs
-
 wide-word-requires : tie.Need-wide-word-requires
 wide-word-requires c κs = search needs
 
 mark-type-requires : tie.Need-mark-type-requires
-mark-type-requires c κs = let a = c .before .before .before .before .before in (a .pre .0, c .before .before .before .places .ensures, subst (IsType _) (sym (c .before .wide-word .ensures)) (type-is _ _ (a .pre .3)))
+mark-type-requires c κs = let p = c .before .before .before .pre in (p .0, p .1, subst (IsType _) (sym (c .before .wide-word .ensures)) (type-is _ _ (p .4)))
 
 wide-word-requires-2 : tie.Need-wide-word-requires-2
 wide-word-requires-2 c κs = search needs
 
 mark-type-requires-2 : tie.Need-mark-type-requires-2
-mark-type-requires-2 c κs = let a = c .before .before .before .before .before .before .before .before .before in (a .pre .0, c .before .before .before .before .before .before .before .places .ensures, subst (IsType _) (sym (c .before .wide-word2 .ensures)) (type-is _ _ (a .pre .4)))
+mark-type-requires-2 c κs = let p = c .before .before .before .before .before .before .pre in (p .0, p .1, subst (IsType _) (sym (c .before .wide-word2 .ensures)) (type-is _ _ (p .5)))
 
 first-rule-requires : tie.Need-first-rule-requires
-first-rule-requires c κs = let a = c .before .before .before .before .before .before .before .before .before .before .before .before .before .before in (a .pre .0, c .before .before .before .before .before .before .before .before .before .before .before .before .places .ensures, a .pre .1, marked-type _ _ _ _ _ (a .pre .0) (type-is _ _ (a .pre .3)) (c .before .before .before .before .before .before .before .before .before .before .wide-word .ensures) (c .before .before .before .before .before .before .before .before .mark-type .ensures .0) (c .before .before .before .before .before .before .before .before .mark-type .ensures .1), marked-type _ _ _ _ _ (a .pre .0) (type-is _ _ (a .pre .4)) (c .before .before .before .before .before .before .wide-word2 .ensures) (c .before .before .before .before .mark-type2 .ensures .0) (c .before .before .before .before .mark-type2 .ensures .1), kept-none _ _ 256)
+first-rule-requires c κs = let p = c .before .before .before .before .before .before .before .before .before .before .pre in (
+  p .0,
+  p .1,
+  p .2,
+  marked-type _ _ _ _ _ (p .0) (type-is _ _ (p .4)) (c .before .before .before .before .before .before .before .before .wide-word .ensures) (c .before .before .before .before .before .before .mark-type .ensures .0) (c .before .before .before .before .before .before .mark-type .ensures .1),
+  marked-type _ _ _ _ _ (p .0) (type-is _ _ (p .5)) (c .before .before .before .before .before .wide-word2 .ensures) (c .before .before .before .mark-type2 .ensures .0) (c .before .before .before .mark-type2 .ensures .1),
+  kept-none _ _ 256,
+)
 
 enum-told : tie.Need-enum-told
 enum-told c = search needs
@@ -34,7 +38,15 @@ enum-known-r : tie.Need-enum-known-r
 enum-known-r c = search needs
 
 first-constraint-requires : tie.Need-first-constraint-requires
-first-constraint-requires c κs = let a = c .before .before .before .before .before .before .before .before .before .before .before .before .before .before .before .before .before .before .before .before .before .before in (a .pre .0, c .before .before .before .before .before .before .before .before .before .before .before .before .before .before .before .before .before .before .before .before .places .ensures, a .pre .1, a .pre .2, marked-type _ _ _ _ _ (a .pre .0) (type-is _ _ (a .pre .3)) (c .before .before .before .before .before .before .before .before .before .before .before .before .before .before .before .before .before .before .wide-word .ensures) (c .before .before .before .before .before .before .before .before .before .before .before .before .before .before .before .before .mark-type .ensures .0) (c .before .before .before .before .before .before .before .before .before .before .before .before .before .before .before .before .mark-type .ensures .1), marked-type _ _ _ _ _ (a .pre .0) (type-is _ _ (a .pre .4)) (c .before .before .before .before .before .before .before .before .before .before .before .before .before .before .wide-word2 .ensures) (c .before .before .before .before .before .before .before .before .before .before .before .before .mark-type2 .ensures .0) (c .before .before .before .before .before .before .before .before .before .before .before .before .mark-type2 .ensures .1), c .before .before .before .before .before .before .before .first-rule .ensures .1)
+first-constraint-requires c κs = let p = c .before .before .before .before .before .before .before .before .before .before .before .before .before .before .before .before .before .pre in (
+  p .0,
+  p .1,
+  p .2,
+  p .3,
+  marked-type _ _ _ _ _ (p .0) (type-is _ _ (p .4)) (c .before .before .before .before .before .before .before .before .before .before .before .before .before .before .before .wide-word .ensures) (c .before .before .before .before .before .before .before .before .before .before .before .before .before .mark-type .ensures .0) (c .before .before .before .before .before .before .before .before .before .before .before .before .before .mark-type .ensures .1),
+  marked-type _ _ _ _ _ (p .0) (type-is _ _ (p .5)) (c .before .before .before .before .before .before .before .before .before .before .before .before .wide-word2 .ensures) (c .before .before .before .before .before .before .before .before .before .before .mark-type2 .ensures .0) (c .before .before .before .before .before .before .before .before .before .before .mark-type2 .ensures .1),
+  c .before .before .before .before .before .before .first-rule .ensures .1,
+)
 
 enum-told-2 : tie.Need-enum-told-2
 enum-told-2 c = search needs
@@ -46,16 +58,15 @@ returns : tie.Need-returns
 returns c = ap gives (sym (engine-none _ _ (sym (c .enum-told .given .1) ∙ c .before .before .first-rule .ensures .0)))
 
 returns-2 : tie.Need-returns-2
-returns-2 c = ap gives (sym (engine-permitted _ _ _ (sym (c .before .before .before .before .before .before .before .before .r .given .1) ∙ c .before .before .before .before .before .before .before .before .before .before .first-rule .ensures .0) (sym (c .enum-told2 .given .1) ∙ c .before .before .first-constraint .ensures)))
+returns-2 c = ap gives (sym (engine-permitted _ _ _ (sym (c .before .before .before .before .before .before .before .r .given .1) ∙ c .before .before .before .before .before .before .before .before .before .first-rule .ensures .0) (sym (c .enum-told2 .given .1) ∙ c .before .before .first-constraint .ensures)))
 
 returns-3 : tie.Need-returns-3
-returns-3 c = ap gives (sym (engine-unknown _ _ _ _ (sym (c .before .before .before .before .before .before .before .before .before .r .given .1) ∙ c .before .before .before .before .before .before .before .before .before .before .before .first-rule .ensures .0) (sym (c .before .c .given .1) ∙ c .before .before .before .first-constraint .ensures)))
+returns-3 c = ap gives (sym (engine-unknown _ _ _ _ (sym (c .before .before .before .before .before .before .before .before .r .given .1) ∙ c .before .before .before .before .before .before .before .before .before .before .first-rule .ensures .0) (sym (c .before .c .given .1) ∙ c .before .before .before .first-constraint .ensures)))
 
 pub judge-spec : {M : Type 1} → statement M
 judge-spec =
     tie.close
     (tie.spec
-    places-requires
     wide-word-requires
     mark-type-requires
     wide-word-requires-2

@@ -10,12 +10,13 @@ use Rattle.format.specs.Format.{countOf, countPlace}
 use Rattle.format.specs.Policy.{placeOf, recordAt}
 use Rattle.format.proofs.Accepted.{accepted-header, record-stands, place-next}
 use Rattle.format.proofs.Shapes.{Stands}
-use Rattle.decide.proofs.TypeLaws.{few-groups, first-place, placed-more}
+use Rattle.decide.proofs.ArrayLaws.{blank}
+use Rattle.decide.proofs.TypeLaws.{few-groups, first-place, placed-more, placed-past, places-all}
 use Rattle.decide.proofs.types.places.Statement.{statement}
 use Rattle.decide.proofs.types.places.Tie as tie
 
 abbrev Inv-loop : tie.InvT-loop
-Inv-loop image found₀ groups at₀ g₀ found at g = (g ≤ groups) × (at ≡ placeOf image Groups g) × (length found ≡ 256) × ((i : ℕ) → i < g → getD found i 0 ≡ placeOf image Groups i)
+Inv-loop image found₀ groups at₀ g₀ found at g = (g ≤ groups) × (at ≡ placeOf image Groups g) × (length found ≡ 256) × ((i : ℕ) → i < g → getD found i 0 ≡ placeOf image Groups i) × ((i : ℕ) → g ≤ i → getD found i 0 ≡ 0)
 
 abbrev μ-loop : tie.MeasureT-loop
 μ-loop image found₀ groups at₀ g₀ found at g = groups - g
@@ -41,7 +42,7 @@ word-at-requires : tie.Need-word-at-requires Inv-loop μ-loop
 word-at-requires c κs = omega (arith, accepted-header _ (c .before .pre) .long)
 
 loop-holds : tie.Need-loop-holds Inv-loop μ-loop
-loop-holds c = (omega arith, first-place _, refl, λ i h. absurd (omega arith))
+loop-holds c = (omega arith, first-place _, refl, λ i h. absurd (omega arith), λ i h. blank 0 256 i)
 
 mul-found : tie.Need-mul-found Inv-loop μ-loop
 mul-found c = omega (arith, counted (c .before .before), few-groups _ (c .before .before .before .before .pre))
@@ -70,10 +71,13 @@ loop-again c = let L = c .before .before .before .loop in (
   next c,
   simp length-set (L .inv .2),
   placed-more (placeOf (now (c .before .before .before .before .before .before .args .image)) Groups) (L .found) (L .g) (L .at) (omega (arith, counted (c .before .before .before .before), few-groups _ (c .before .before .before .before .before .before .pre))) (L .inv .1) (L .inv .3),
+  placed-past (L .found) (L .g) (L .at) (L .inv .4),
 )
 
 returns : tie.Need-returns Inv-loop μ-loop
-returns c = record { is = λ g h. c .before .loop .inv .3 g (omega (arith, counted (c .before .before))) }
+returns c = let L = c .before .loop in
+    let e : L .g ≡ c .before .before .word-at .result = omega arith in
+    places-all _ _ (L .g) (e ∙ counted (c .before .before)) (L .inv .3) (L .inv .4)
 
 pub places-spec : {M : Type 1} → statement M
 places-spec =

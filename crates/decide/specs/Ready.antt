@@ -1,0 +1,32 @@
+-- What a decision on a prepared policy relies on, and what preparing gives.
+--     unless f n       n, or 0 where there is the refusal f
+--     groupPlace l g   the place of group g of an accepted image; 0 past the groups, and in a refused image
+--     Prepares l p     what `prepare` answers on an image
+--     Ready l ps s     an accepted image, with its groups' places and its sections' starts
+use Prim.Native.Nat.{ℕ}
+use mathlib.Core.Path.{_≡_}
+use mathlib.Core.Option.{Option, none, some}
+use mathlib.Core.List.{List}
+use lib.ListN.{getD}
+use Rattle.format.specs.declared.Refusal.{Refusal}
+use Rattle.format.specs.declared.Starts.{Starts}
+use Rattle.format.specs.Check.{check}
+use Rattle.format.specs.Answers.{outcome, sectionsOutcome, starts}
+use Rattle.decide.specs.declared.engine.Prepared.{Prepared}
+use Rattle.decide.specs.Walks.{placeIn, Placed}
+
+abbrev pub unless : Option Refusal → ℕ → ℕ
+unless none n = n
+unless (some f) n = 0
+
+unfoldable pub groupPlace : List ℕ → ℕ → ℕ
+groupPlace l g = unless (check l) (placeIn l g)
+
+pub record Prepares (l : List ℕ) (p : Prepared) : Type 0 where
+  pub sections : sectionsOutcome (p .sections) ≡ outcome (check l) (starts l)
+  pub groups : (g : ℕ) → getD (p .groups) g 0 ≡ groupPlace l g
+
+pub record Ready (l ps : List ℕ) (s : Starts) : Type 0 where
+  pub accepted : check l ≡ none
+  pub placed : Placed l ps
+  pub starting : s ≡ starts l
