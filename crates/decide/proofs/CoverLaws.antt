@@ -127,6 +127,10 @@ module _ (l : List ℕ) (at class action : ℕ) where
     unfolding mayAt
     may-action c a e f o h = rw f (simp (ne-eqb (getD l (at + 1) 0) 3 k, eq-eqb (getD l (at + 10) 0) 1 o, eq-eqb (wordAt l (at + 6)) class (sym e ∙ h)))
 
+-- a rule that is not let through is an allow rule
+pub may-length : (l : List ℕ) (at : ℕ) (r : List ℕ) → RuleAt l at r → (class action : ℕ) → mayAt l at class action ≡ false → getD l at 0 ≡ 11
+may-length l at r h class action e = ⊎-elim (λ w. omega (arith, w .1, h .here .size)) (λ w. false-not-true (sym e ∙ may-transition l at class action w)) (h .kind)
+
 -- ---- the search from rule n on, of which k are left from a place on
 
 unfoldable pub fromRule : List ℕ → Query → ℕ → ℕ → ℕ → Found

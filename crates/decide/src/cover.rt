@@ -60,7 +60,8 @@ fn pass_over(t: usize, skip: &mut [bool; 256])
 }
 
 // The lowest rule that covers the query, whose source and destination are marked, with their sizes. Condition, class and
-// action are tested first, then the destination, with what is known of its group kept, then the source.
+// action are tested first, then the destination, with what is known of its group kept, then the source. A rule that they
+// do not let through is an allow rule, of 11 bytes, so that its length need not be read.
 pub(crate) fn first_rule(
     image: &[u8],
     groups: &[usize; 256],
@@ -107,8 +108,10 @@ pub(crate) fn first_rule(
                     pass_over(t, &mut skip);
                 }
             }
+            at += wide(image[at]);
+        } else {
+            at += 11;
         }
-        at += wide(image[at]);
         n += 1;
     };
     Found::At(rule)

@@ -21,7 +21,7 @@ use Rattle.decide.specs.Walks.{groupsIn, tallied, fullyMarked, Kept, Ski
 use Rattle.decide.proofs.MarkLaws.{walk-small, walk-rest, tally-end, tally-yes, tally-no, hits-on, hits-off}
 use Rattle.decide.proofs.TypeLaws.{span-rising, span-told, set-rising}
 use Rattle.decide.proofs.SetLaws.{full-within, hits-full, hits-short}
-use Rattle.decide.proofs.CoverLaws.{covers-no-may, covers-no-dest, covers-no-source, covers-yes, fromRule, rules-start, rules-end, rules-hit, rules-next, skips-none, skips-tell, skips-more, type-small}
+use Rattle.decide.proofs.CoverLaws.{covers-no-may, covers-no-dest, covers-no-source, covers-yes, may-length, fromRule, rules-start, rules-end, rules-hit, rules-next, skips-none, skips-tell, skips-more, type-small}
 use Rattle.decide.proofs.cover.first_rule.Statement.{statement}
 use Rattle.decide.proofs.cover.first_rule.Tie as tie
 
@@ -54,26 +54,43 @@ dest-is : (d : tie.Else1 Inv-members μ-members Inv-rules μ-rules) (r : Bool) �
     → r ≡ within (setOf (groupsIn (now (d .before .before .before .before .args .image))) (d .before .before .before .before .args .q .dest)) (setOf (groupsIn (now (d .before .before .before .before .args .image))) (wordAt (now (d .before .before .before .before .args .image)) (d .before .rules .at + 4)))
 dest-is d r e = e ∙ full-within _ _ _ (d .before .before .before .before .pre .4) _ (set-rising _ _ (d .before .before .before .before .pre .0) (here d .dest))
 
--- a rule that was passed over does not cover, and what is kept stays right
+-- a rule that was let through and passed over does not cover, and what is kept stays right
 passed :
-    (d : tie.Joined2 Inv-members μ-members Inv-rules μ-rules)
-    → (covers (requestOf (groupsIn (now (d .before .before .before .before .before .before .args .image))) (d .before .before .before .before .before .before .args .q)) (ruleOf (groupsIn (now (d .before .before .before .before .before .before .args .image))) (recordAt (now (d .before .before .before .before .before .before .args .image)) (d .before .before .before .rules .at))) ≡ false)
-    × Kept (fullyMarked (now (d .before .before .before .before .before .before .args .dest)) (d .before .before .before .before .before .before .args .dests)) (now (d .before .before .before .before .before .before .args .image)) (d .if2 .told)
-    × Skips (now (d .before .before .before .before .before .before .args .image)) (setOf (groupsIn (now (d .before .before .before .before .before .before .args .image))) (d .before .before .before .before .before .before .args .q .source)) (d .if2 .skip)
+    (d : tie.Joined3 Inv-members μ-members Inv-rules μ-rules)
+    → (covers (requestOf (groupsIn (now (d .before .before .before .before .before .before .before .before .before .args .image))) (d .before .before .before .before .before .before .before .before .before .args .q)) (ruleOf (groupsIn (now (d .before .before .before .before .before .before .before .before .before .args .image))) (recordAt (now (d .before .before .before .before .before .before .before .before .before .args .image)) (d .before .before .before .before .before .before .rules .at))) ≡ false)
+    × Skips (now (d .before .before .before .before .before .before .before .before .before .args .image)) (setOf (groupsIn (now (d .before .before .before .before .before .before .before .before .before .args .image))) (d .before .before .before .before .before .before .before .before .before .args .q .source)) (d .if3 .skip)
 passed d =
-    let p = d .before .before .before .before .before .before .pre in
-    let I = d .before .before .before .rules .inv in
-    let h = here (d .before .before) in
+    let p = d .before .before .before .before .before .before .before .before .before .pre in
+    let I = d .before .before .before .before .before .before .rules .inv in
+    let h = here (d .before .before .before .before .before) in
     ⊎-elim
     (λ w.
-    let s = w .8 .ensures in
-    let n = sym (span-told _ _ _ _ s (within _) _ (sym (hits-short _ _ _ (p .3) _ (span-rising _ _ _ _ s) _ (w .9 .inv .3 ∙ rw (tally-end _ _ _ _ (w .11 .taken)) (omega arith)) (w .10 .left)))) in
-    (covers-no-source _ _ _ _ h n, rw (w .14) (w .2 .ensures .1), subst (Skips _ _) (sym (w .15 ∙ w .13 .ensures)) (skips-more _ _ _ (I .4) _ _ (w .4 .ensures .0) n)))
+    let s = w .5 .ensures in
+    let n = sym (span-told _ _ _ _ s (within _) _ (sym (hits-short _ _ _ (p .3) _ (span-rising _ _ _ _ s) _ (w .6 .inv .3 ∙ rw (tally-end _ _ _ _ (w .8 .taken)) (omega arith)) (w .7 .left)))) in
+    (covers-no-source _ _ _ _ h n, subst (Skips _ _) (sym (w .11 ∙ w .10 .ensures)) (skips-more _ _ _ (I .4) _ _ (w .1 .ensures .0) n)))
     (⊎-elim
-    (λ w. (covers-no-source _ _ _ _ h (skips-tell _ _ _ (I .4) _ _ (w .4 .ensures .0) (sym (w .6 .ensures) ∙ not-false _ (w .7 .left))), rw (w .8) (w .2 .ensures .1), rw (w .9) (I .4)))
-    (⊎-elim
-    (λ w. (covers-no-dest _ _ _ _ h (sym (dest-is (d .before .before) _ (w .2 .ensures .0)) ∙ w .3 .left), rw (w .4) (w .2 .ensures .1), rw (w .5) (I .4)))
-    (λ w. (covers-no-may _ _ _ _ h (sym (d .before .may .ensures) ∙ w .0 .left), rw (w .1) (I .3), rw (w .2) (I .4)))))
+    (λ w. (covers-no-source _ _ _ _ h (skips-tell _ _ _ (I .4) _ _ (w .1 .ensures .0) (sym (w .3 .ensures) ∙ not-false _ (w .4 .left))), rw (w .5) (I .4)))
+    (λ w. (covers-no-dest _ _ _ _ h (sym (dest-is (d .before .before .before .before .before) _ (d .before .inside .ensures .0)) ∙ w .0 .left), rw (w .1) (I .4))))
+    (d .if3 .came)
+
+-- what a turn that finds nothing leaves: no cover, the next place, and what is kept
+gone :
+    (d : tie.Joined2 Inv-members μ-members Inv-rules μ-rules)
+    → (covers (requestOf (groupsIn (now (d .before .before .before .before .before .before .args .image))) (d .before .before .before .before .before .before .args .q)) (ruleOf (groupsIn (now (d .before .before .before .before .before .before .args .image))) (recordAt (now (d .before .before .before .before .before .before .args .image)) (d .before .before .before .rules .at))) ≡ false)
+    × (d .if2 .at ≡ d .before .before .before .rules .at + getD (now (d .before .before .before .before .before .before .args .image)) (d .before .before .before .rules .at) 0)
+    × Kept (fullyMarked (now (d .before .before .before .before .before .before .args .dest)) (d .before .before .before .before .before .before .args .dests)) (now (d .before .before .before .before .before .before .args .image)) (d .if2 .told)
+    × Skips (now (d .before .before .before .before .before .before .args .image)) (setOf (groupsIn (now (d .before .before .before .before .before .before .args .image))) (d .before .before .before .before .before .before .args .q .source)) (d .if2 .skip)
+gone d =
+    let I = d .before .before .before .rules .inv in
+    let h = here (d .before .before) in
+    let step : ℕ → ℕ = λ n. d .before .before .before .rules .at + n in
+    ⊎-elim
+    (λ w.
+    let k = passed (record { before = record { before = record { before = record { before = d .before; if2 = w .0 }; inside-arg = w .1 }; inside = w .2 }; if3 = w .3 }) in
+    (k .0, w .8 ∙ ap step (w .5 .ensures .0), rw (w .6) (w .2 .ensures .1), rw (w .7) (k .1)))
+    (λ w.
+    let m = sym (d .before .may .ensures) ∙ w .0 .left in
+    (covers-no-may _ _ _ _ h m, w .3 ∙ ap step (sym (may-length _ _ _ h _ _ m)), rw (w .1) (I .3), rw (w .2) (I .4)))
     (d .if2 .came)
 
 word-at-requires : tie.Need-word-at-requires Inv-members μ-members Inv-rules μ-rules
@@ -147,13 +164,16 @@ pass-over-requires : tie.Need-pass-over-requires Inv-members μ-members Inv-rule
 pass-over-requires c κs = type-small _ _ _ (c .before .before .before .before .before .before .before .before .word-at2 .ensures .0) (c .before .before .before .before .before .before .before .before .before .before .before .before .before .before .before .before .before .before .pre .0) (here (c .before .before .before .before .before .before .before .before .before .before .before .before .before .before) .source)
 
 shared-slice-read-wide : tie.Need-shared-slice-read-wide Inv-members μ-members Inv-rules μ-rules
-shared-slice-read-wide c = omega (arith, room (c .before .before .before))
+shared-slice-read-wide c = omega (arith, room (c .before .before .before .before .before .before))
 
 wide-requires : tie.Need-wide-requires Inv-members μ-members Inv-rules μ-rules
 wide-requires c κs = search needs
 
 add-at : tie.Need-add-at Inv-members μ-members Inv-rules μ-rules
-add-at c = omega (arith, here (c .before .before .before .before) .here .inside, here (c .before .before .before .before) .here .size, c .wide .ensures .0)
+add-at c = omega (arith, here (c .before .before .before .before .before .before .before) .here .inside, here (c .before .before .before .before .before .before .before) .here .size, c .wide .ensures .0)
+
+add-at-2 : tie.Need-add-at-2 Inv-members μ-members Inv-rules μ-rules
+add-at-2 c = let h = here (c .before .before) in omega (arith, h .here .inside, h .here .size, may-length _ _ _ h _ _ (sym (c .before .may .ensures) ∙ c .if2 .left))
 
 add-n : tie.Need-add-n Inv-members μ-members Inv-rules μ-rules
 add-n c = omega arith
@@ -162,18 +182,16 @@ rules-less : tie.Need-rules-less Inv-members μ-members Inv-rules μ-rules
 rules-less c = omega arith
 
 rules-again : tie.Need-rules-again Inv-members μ-members Inv-rules μ-rules
-rules-again c = let d = c .before .before .before .before in
-    let R = d .before .rules in
-    let N : ℕ = d .before .before .word-at .result in
-    let l = now (d .before .before .before .before .args .image) in
+rules-again c = let R = c .before .before .before .rules in
+    let N : ℕ = c .before .before .before .before .word-at .result in
+    let l = now (c .before .before .before .before .before .before .args .image) in
     let e : N - R .n ≡ suc (N - (R .n + 1)) = omega arith in
-    let k = passed (c .before .before) in
-    let step : R .at + c .wide .result ≡ R .at + getD l (R .at) 0 = ap (λ x. R .at + x) (c .wide .ensures .0) in (
+    let k = gone c in (
       omega arith,
-      step ∙ ap (λ a. a + getD l a 0) (R .inv .1) ∙ sym (place-next l Rules (R .n)),
-      R .inv .2 ∙ rules-next _ _ _ _ _ _ e (k .0) ∙ ap (fromRule l (d .before .before .before .before .args .q) (N - (R .n + 1)) (R .n + 1)) (sym step),
-      k .1,
+      k .1 ∙ ap (λ a. a + getD l a 0) (R .inv .1) ∙ sym (place-next l Rules (R .n)),
+      R .inv .2 ∙ rules-next _ _ _ _ _ _ e (k .0) ∙ ap (fromRule l (c .before .before .before .before .before .before .args .q) (N - (R .n + 1)) (R .n + 1)) (sym (k .1)),
       k .2,
+      k .3,
     )
 
 returns-2 : tie.Need-returns-2 Inv-members μ-members Inv-rules μ-rules
@@ -219,6 +237,7 @@ first-rule-spec =
     shared-slice-read-wide
     wide-requires
     add-at
+    add-at-2
     add-n
     rules-less
     rules-again
