@@ -5,6 +5,7 @@ pub mod SetLaws
 pub mod MarkedLaws
 pub mod CompareLaws
 pub mod PredicateLaws
+pub mod NameLaws
 pub mod ConstraintLaws
 pub mod EngineLaws
 pub mod CoverLaws

@@ -16,7 +16,7 @@ use Rattle.format.proofs.Shapes.{stands-word}
 use Rattle.format.proofs.Places.{RuleAt}
 use Rattle.decision.specs.Sets.{anyOf, setOf}
 use Rattle.decision.specs.Decide.{Rule, ruleOf, live}
-use Rattle.decide.specs.Walks.{groupsIn, rulesIn, Kept, anyMarked, liveAt, wanted}
+use Rattle.decide.specs.Walks.{groupsIn, rulesIn, Kept, anyMarked, liveAt, wanted, reaching}
 use Rattle.decide.proofs.ArrayLaws.{blank}
 
 -- nothing is kept at first
@@ -35,13 +35,24 @@ module _ (l : List ℕ) (at : ℕ) (r : List ℕ) (h : RuleAt l at r) where
       (λ w. simp (k1, ne-eqb (getD l (at + 1) 0) 2 (omega (arith, w))))
       (h .kind)
 
-  source-is : ruleOf (groupsIn l) r .source ≡ setOf (groupsIn l) (wordAt l (at + 2))
+  pub source-is : ruleOf (groupsIn l) r .source ≡ setOf (groupsIn l) (wordAt l (at + 2))
   unfolding ruleOf
   source-is = ap (setOf (groupsIn l)) (stands-word l at r 2 (h .here) (omega (arith, h .long)))
 
   dest-is : ruleOf (groupsIn l) r .dest ≡ setOf (groupsIn l) (wordAt l (at + 4))
   unfolding ruleOf
   dest-is = ap (setOf (groupsIn l)) (stands-word l at r 4 (h .here) (omega (arith, h .long)))
+
+  module _ (ms : List Bool) where
+    reaching-is : reaching ms (ruleOf (groupsIn l) r) ≡ liveAt l at && anyMarked ms (setOf (groupsIn l) (wordAt l (at + 4)))
+    unfolding reaching
+    reaching-is = rw (live-is, dest-is)
+
+    pub reaching-off : liveAt l at ≡ false → reaching ms (ruleOf (groupsIn l) r) ≡ false
+    reaching-off e = reaching-is ∙ simp e
+
+    pub reaching-dest : liveAt l at ≡ true → reaching ms (ruleOf (groupsIn l) r) ≡ anyMarked ms (setOf (groupsIn l) (wordAt l (at + 4)))
+    reaching-dest e = reaching-is ∙ simp e
 
   module _ (ms : List Bool) (f : List ℕ → Bool) where
     wanted-is : wanted ms f (ruleOf (groupsIn l) r) ≡ liveAt l at && anyMarked ms (setOf (groupsIn l) (wordAt l (at + 4))) && f (setOf (groupsIn l) (wordAt l (at + 2)))

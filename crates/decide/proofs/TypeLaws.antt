@@ -119,8 +119,16 @@ module _ (l : List ℕ) (at t : ℕ) (is : t ≡ wordAt l at) (room : at + 1 < l
     pub group-here : GroupAt l (getD ps (t - 32768) 0) (getD (groupsIn l) (t - 32768) [])
     group-here = type-here l ps t c p ours k
 
-    pub span-group : (n : ℕ) → n ≡ getD l (getD ps (t - 32768) 0) 0 → Spans l (getD ps (t - 32768) 0 + 2) ((n - 2) / 2) (setOf (groupsIn l) (wordAt l at))
-    span-group n e = subst (λ w. Spans l (getD ps (t - 32768) 0 + 2) ((n - 2) / 2) (setOf (groupsIn l) w)) is (type-span l ps t c p ours k n e)
+-- the members of group g
+pub group-span-is : (l ps : List ℕ) (g : ℕ) → check l ≡ none → Placed l ps → g < countOf l Groups → (n : ℕ) → n ≡ getD l (getD ps g 0) 0 → Spans l (getD ps g 0 + 2) ((n - 2) / 2) (setOf (groupsIn l) (32768 + g))
+group-span-is l ps g c p h n e =
+    let z : 32768 + g - 32768 ≡ g = omega arith in
+    rw z at (type-span l ps (32768 + g) c p (inr (g, h, refl)) (omega arith) n (e ∙ ap (λ x. getD l (getD ps x 0) 0) (sym z)))
+
+pub span-number : (l : List ℕ) (from count t w : ℕ) → t ≡ w → 32768 ≤ t → Spans l from count (setOf (groupsIn l) (32768 + (t - 32768))) → Spans l from count (setOf (groupsIn l) w)
+span-number l from count t w is k s =
+    let z : 32768 + (t - 32768) ≡ w = omega arith in
+    rw z at s
 
 module _ (l : List ℕ) (from count : ℕ) (S : List ℕ) (s : Spans l from count S) where
   pub span-rising : Rising 0 (wordsAt l count from)

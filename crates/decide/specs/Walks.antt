@@ -20,7 +20,13 @@
 --                           that breaks a roster by its second argument and list, and `friend`, one that a companion wants
 --     pairedIn l ms s       a live rule whose destination touches marks has s for its source
 --     sameList              two lists are the same
-use Prim.Native.Nat.{ℕ, _+_, _-_, _*_, _≤_, _<_}
+--     twinFrom gs S k h     of k groups from h on the lowest that stands for S
+--     nameOf l S            the name of a set: its member, or 1,024 and the lowest group that stands for it
+--     Names l names         what is kept of the groups' names: 1 more than the name, or 0
+--     reaching ms a         a live rule whose destination touches marks
+--     reachedOf l ms rs ts  a table of names with those of the sources of the rules that reach marks; noNames the empty one
+--     named l ts s          a set has its name in a table
+use Prim.Native.Nat.{ℕ, zero, suc, _+_, _-_, _*_, _≤_, _<_}
 use mathlib.Core.Path.{_≡_}
 use mathlib.Core.Bool.{Bool, true, false, not, _&&_, cond}
 use mathlib.Core.Option.{Option, none, some}
@@ -134,3 +140,28 @@ sameList (x ∷ xs) (y ∷ ys) = cond (eqb x y) (sameList xs ys) false
 
 unfoldable pub firstConstraint : List ℕ → Query → Found
 firstConstraint l q = foundOf (firstAt (fails (rulesIn l) (requestOf (groupsIn l) q)) 0 (map (constraintOf (groupsIn l)) (policyOf l .constraints)))
+
+-- ---- names of sets
+
+unfoldable pub twinFrom : List (List ℕ) → List ℕ → ℕ → ℕ → ℕ
+twinFrom gs S zero h = h
+twinFrom gs S (suc k) h = cond (sameList S (setOf gs (32768 + h))) h (twinFrom gs S k (h + 1))
+
+unfoldable pub nameOf : List ℕ → List ℕ → ℕ
+nameOf l S = cond (eqb (length S) 1) (getD S 0 0) (1024 + twinFrom (groupsIn l) S (countOf l Groups) 0)
+
+pub record Names (l names : List ℕ) : Type 0 where
+  pub is : (g : ℕ) → 0 < getD names g 0 → getD names g 0 ≡ nameOf l (setOf (groupsIn l) (32768 + g)) + 1
+
+unfoldable pub reaching : List Bool → Rule → Bool
+reaching ms a = live a && anyMarked ms (a .dest)
+
+unfoldable pub reachedOf : List ℕ → List Bool → List Rule → List Bool → List Bool
+reachedOf l ms [] ts = ts
+reachedOf l ms (a ∷ rs) ts = reachedOf l ms rs (cond (reaching ms a) (set ts (nameOf l (a .source)) true) ts)
+
+unfoldable pub noNames : List Bool
+noNames = replicate 1280 false
+
+abbrev pub named : List ℕ → List Bool → List ℕ → Bool
+named l ts s = getD ts (nameOf l s) false

@@ -1,25 +1,17 @@
-// Two types that stand for the same set.
-use crate::types::members;
+// Two lists of members that are the same.
+use crate::types::Span;
 use crate::word::word_at;
 ghost use mathlib.Core.Path.{_≡_};
-ghost use mathlib.Core.Option.{none};
-ghost use Prim.Native.Nat.{_+_, _<_};
+ghost use Prim.Native.Nat.{_+_, _*_, _≤_};
 ghost use lib.ListN.{length};
-ghost use Rattle.format.specs.declared.Section.the-variants.{Groups};
-ghost use Rattle.format.specs.Bytes.{wordAt};
-ghost use Rattle.format.specs.Format.{countOf};
-ghost use Rattle.format.specs.Check.{check};
-ghost use Rattle.format.specs.Claims.{IsType};
-ghost use Rattle.decision.specs.Sets.{setOf, sameSet};
-ghost use Rattle.decide.specs.Walks.{groupsIn, Placed};
+ghost use Rattle.format.proofs.Places.{wordsAt};
+ghost use Rattle.decide.specs.Walks.{sameList};
 
-// Whether the types in the fields at two places stand for the same set: members rise, so their lists are the same.
-pub(crate) fn same_set(image: &[u8], groups: &[usize; 256], a: usize, b: usize) -> bool
-    requires { ⌜ (check (now image) ≡ none) × Placed (now image) (now groups) × (a + 1 < length (now image)) × IsType (countOf (now image) Groups) (wordAt (now image) a) × (b + 1 < length (now image)) × IsType (countOf (now image) Groups) (wordAt (now image) b) ⌝ }
-    ensures { λ r. ⌜ r ≡ sameSet (setOf (groupsIn (now (image .entry))) (wordAt (now (image .entry)) a)) (setOf (groupsIn (now (image .entry))) (wordAt (now (image .entry)) b)) ⌝ }
+// Whether two parts of the image hold the same members. Members rise, so the sets are then the same, and only then.
+pub(crate) fn same_members(image: &[u8], s: Span, t: Span) -> bool
+    requires { ⌜ (s .from + 2 * s .count ≤ length (now image)) × (t .from + 2 * t .count ≤ length (now image)) ⌝ }
+    ensures { λ r. ⌜ r ≡ sameList (wordsAt (now (image .entry)) (s .count) (s .from)) (wordsAt (now (image .entry)) (t .count) (t .from)) ⌝ }
 {
-    let s = members(image, groups, a);
-    let t = members(image, groups, b);
     let mut i = s.from;
     let mut j = t.from;
     let mut left = s.count;

@@ -18,18 +18,24 @@ ghost use Rattle.format.specs.Check.{check};
 ghost use Rattle.format.proofs.Places.{ConstraintAt};
 ghost use Rattle.decision.specs.Sets.{setOf};
 ghost use Rattle.decision.specs.Decide.{constraintOf, requestOf, separationBroken, rosterBroken, companionBroken, broken, fails};
-ghost use Rattle.decide.specs.Walks.{groupsIn, rulesIn, Placed, Marked, Kept, fullyMarked, firstConstraint};
+ghost use Rattle.decide.specs.Walks.{groupsIn, rulesIn, Placed, Marked, Kept, Names, fullyMarked, firstConstraint};
 
 // Whether the separation at a place fails.
-fn separation(image: &[u8], groups: &[usize; 256], from: usize, at: usize) -> bool
-    requires { ⌜ (check (now image) ≡ none) × Placed (now image) (now groups) × (from ≡ startOf (now image) Rules) × ConstraintAt (now image) at (recordAt (now image) at) ⌝ }
-    ensures { λ r. ⌜ r ≡ separationBroken (rulesIn (now (image .entry))) (constraintOf (groupsIn (now (image .entry))) (recordAt (now (image .entry)) at)) ⌝ }
+fn separation(
+    image: &[u8],
+    groups: &[usize; 256],
+    from: usize,
+    at: usize,
+    names: &mut [u16; 256],
+) -> bool
+    requires { ⌜ (check (now image) ≡ none) × Placed (now image) (now groups) × (from ≡ startOf (now image) Rules) × ConstraintAt (now image) at (recordAt (now image) at) × Names (now image) (now names) ⌝ }
+    ensures { λ r. ⌜ (r ≡ separationBroken (rulesIn (now (image .entry))) (constraintOf (groupsIn (now (image .entry))) (recordAt (now (image .entry)) at))) × Names (now (image .entry)) (now (names .exit)) ⌝ }
 {
     let mut first = [false; 1024];
     mark_type(image, groups, word_at(image, at + 6), &mut first);
     let mut second = [false; 1024];
     mark_type(image, groups, word_at(image, at + 8), &mut second);
-    clashed(image, groups, from, &first, &second)
+    clashed(image, groups, from, &first, &second, names)
 }
 
 // Whether the roster at a place fails.
@@ -63,13 +69,19 @@ fn companion(image: &[u8], groups: &[usize; 256], from: usize, at: usize) -> boo
 }
 
 // Whether the predicate of the constraint at a place is false: ban, separation, roster or companion.
-fn predicate_fails(image: &[u8], groups: &[usize; 256], from: usize, at: usize) -> bool
-    requires { ⌜ (check (now image) ≡ none) × Placed (now image) (now groups) × (from ≡ startOf (now image) Rules) × ConstraintAt (now image) at (recordAt (now image) at) ⌝ }
-    ensures { λ r. ⌜ r ≡ broken (rulesIn (now (image .entry))) (constraintOf (groupsIn (now (image .entry))) (recordAt (now (image .entry)) at)) ⌝ }
+fn predicate_fails(
+    image: &[u8],
+    groups: &[usize; 256],
+    from: usize,
+    at: usize,
+    names: &mut [u16; 256],
+) -> bool
+    requires { ⌜ (check (now image) ≡ none) × Placed (now image) (now groups) × (from ≡ startOf (now image) Rules) × ConstraintAt (now image) at (recordAt (now image) at) × Names (now image) (now names) ⌝ }
+    ensures { λ r. ⌜ (r ≡ broken (rulesIn (now (image .entry))) (constraintOf (groupsIn (now (image .entry))) (recordAt (now (image .entry)) at))) × Names (now (image .entry)) (now (names .exit)) ⌝ }
 {
     match image[at + 10] {
         0 => true,
-        1 => separation(image, groups, from, at),
+        1 => separation(image, groups, from, at, names),
         2 => roster(image, groups, from, at),
         _ => companion(image, groups, from, at),
     }
@@ -89,9 +101,10 @@ fn constraint_fails(
     dests: usize,
     held: &mut [u8; 256],
     told: &mut [u8; 256],
+    names: &mut [u16; 256],
 ) -> bool
-    requires { ⌜ (check (now image) ≡ none) × Placed (now image) (now groups) × (from ≡ startOf (now image) Rules) × ConstraintAt (now image) at (recordAt (now image) at) × Marked (setOf (groupsIn (now image)) (q .source)) (now source) sources × Marked (setOf (groupsIn (now image)) (q .dest)) (now dest) dests × Kept (fullyMarked (now source) sources) (now image) (now held) × Kept (fullyMarked (now dest) dests) (now image) (now told) ⌝ }
-    ensures { λ r. ⌜ (r ≡ fails (rulesIn (now (image .entry))) (requestOf (groupsIn (now (image .entry))) q) (constraintOf (groupsIn (now (image .entry))) (recordAt (now (image .entry)) at))) × Kept (fullyMarked (now (source .entry)) sources) (now (image .entry)) (now (held .exit)) × Kept (fullyMarked (now (dest .entry)) dests) (now (image .entry)) (now (told .exit)) ⌝ }
+    requires { ⌜ (check (now image) ≡ none) × Placed (now image) (now groups) × (from ≡ startOf (now image) Rules) × ConstraintAt (now image) at (recordAt (now image) at) × Marked (setOf (groupsIn (now image)) (q .source)) (now source) sources × Marked (setOf (groupsIn (now image)) (q .dest)) (now dest) dests × Kept (fullyMarked (now source) sources) (now image) (now held) × Kept (fullyMarked (now dest) dests) (now image) (now told) × Names (now image) (now names) ⌝ }
+    ensures { λ r. ⌜ (r ≡ fails (rulesIn (now (image .entry))) (requestOf (groupsIn (now (image .entry))) q) (constraintOf (groupsIn (now (image .entry))) (recordAt (now (image .entry)) at))) × Kept (fullyMarked (now (source .entry)) sources) (now (image .entry)) (now (held .exit)) × Kept (fullyMarked (now (dest .entry)) dests) (now (image .entry)) (now (told .exit)) × Names (now (image .entry)) (now (names .exit)) ⌝ }
 {
     if word_at(image, at + 2) != wide_word(q.class) {
         return false;
@@ -105,7 +118,7 @@ fn constraint_fails(
     if !inside(image, groups, at + 8, dest, dests, told) {
         return false;
     }
-    predicate_fails(image, groups, from, at)
+    predicate_fails(image, groups, from, at, names)
 }
 
 // The lowest constraint that applies to the query and fails.
@@ -126,6 +139,7 @@ pub(crate) fn first_constraint(
 {
     let count = word_at(image, 7);
     let mut held = [0u8; 256];
+    let mut names = [0u16; 256];
     let mut at = from;
     let mut n: usize = 0;
     while n < count {
@@ -141,6 +155,7 @@ pub(crate) fn first_constraint(
             dests,
             &mut held,
             told,
+            &mut names,
         ) {
             return Found::At(n);
         }

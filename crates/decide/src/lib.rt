@@ -4,7 +4,8 @@ mod types; // types.rt: where the members of a type lie in the image
 mod marks; // marks.rt: sets as 1,024 marks, and the members of a type against them
 mod kept; // kept.rt: the same for a group, with what is known of it kept
 mod sets; // sets.rt: the sets of types, as marks
-mod compare; // compare.rt: two types that stand for the same set
+mod compare; // compare.rt: two lists of members that are the same
+mod names; // names.rt: names of sets, the same for types that stand for the same set
 mod predicates; // predicates.rt: what the predicates ask of the rules
 mod cover; // cover.rt: the lowest rule that covers a query
 mod constraint; // constraint.rt: whether a constraint fails, and the lowest that does

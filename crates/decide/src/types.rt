@@ -34,6 +34,18 @@ pub(crate) fn places(image: &[u8]) -> [usize; 256]
     found
 }
 
+// The members of a group.
+pub(crate) fn group_span(image: &[u8], groups: &[usize; 256], g: usize) -> Span
+    requires { ⌜ (check (now image) ≡ none) × Placed (now image) (now groups) × (g < countOf (now image) Groups) ⌝ }
+    ensures { λ r. ⌜ Spans (now (image .entry)) (r .from) (r .count) (setOf (groupsIn (now (image .entry))) (32768 + g)) ⌝ }
+{
+    let at = groups[g];
+    Span {
+        from: at + 2,
+        count: (wide(image[at]) - 2) / 2,
+    }
+}
+
 // The members of the type in the field at a place: the field itself, or the group's.
 pub(crate) fn members(image: &[u8], groups: &[usize; 256], at: usize) -> Span
     requires { ⌜ (check (now image) ≡ none) × Placed (now image) (now groups) × (at + 1 < length (now image)) × IsType (countOf (now image) Groups) (wordAt (now image) at) ⌝ }
@@ -43,9 +55,5 @@ pub(crate) fn members(image: &[u8], groups: &[usize; 256], at: usize) -> Span
     if t < 32768 {
         return Span { from: at, count: 1 };
     }
-    let g = groups[t - 32768];
-    Span {
-        from: g + 2,
-        count: (wide(image[g]) - 2) / 2,
-    }
+    group_span(image, groups, t - 32768)
 }

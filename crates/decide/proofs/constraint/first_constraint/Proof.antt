@@ -10,17 +10,18 @@ use Rattle.format.specs.Format.{countOf, countPlace}
 use Rattle.format.specs.Policy.{recordAt, placeOf}
 use Rattle.format.proofs.Accepted.{accepted-header, place-next}
 use Rattle.format.proofs.Places.{ConstraintAt, constraint-at}
-use Rattle.decide.specs.Walks.{Kept, fullyMarked, firstConstraint}
+use Rattle.decide.specs.Walks.{Kept, Names, fullyMarked, firstConstraint}
 use Rattle.decide.proofs.PredicateLaws.{kept-none}
+use Rattle.decide.proofs.NameLaws.{names-none}
 use Rattle.decide.proofs.ConstraintLaws.{fromConstraint, constraints-start, constraints-end, constraints-hit, constraints-next}
 use Rattle.decide.proofs.constraint.first_constraint.Statement.{statement}
 use Rattle.decide.proofs.constraint.first_constraint.Tie as tie
 
 abbrev Inv-loop : tie.InvT-loop
-Inv-loop image groups rules from q source sources dest dests told₀ count held₀ at₀ n₀ told held at n = (n ≤ count) × (at ≡ placeOf image Constraints n) × (firstConstraint image q ≡ fromConstraint image q (count - n) n at) × Kept (fullyMarked source sources) image held × Kept (fullyMarked dest dests) image told
+Inv-loop image groups rules from q source sources dest dests told₀ count held₀ names₀ at₀ n₀ told held names at n = (n ≤ count) × (at ≡ placeOf image Constraints n) × (firstConstraint image q ≡ fromConstraint image q (count - n) n at) × Kept (fullyMarked source sources) image held × Kept (fullyMarked dest dests) image told × Names image names
 
 abbrev μ-loop : tie.MeasureT-loop
-μ-loop image groups rules from q source sources dest dests told₀ count held₀ at₀ n₀ told held at n = count - n
+μ-loop image groups rules from q source sources dest dests told₀ count held₀ names₀ at₀ n₀ told held names at n = count - n
 
 counted : (d : tie.After-word-at Inv-loop μ-loop) → d .word-at .result ≡ countOf (now (d .before .before .args .image)) Constraints
 unfolding countOf countPlace
@@ -38,25 +39,25 @@ word-at-requires c κs = omega (arith, accepted-header _ (c .before .pre .0) .lo
 loop-holds : tie.Need-loop-holds Inv-loop μ-loop
 loop-holds c = let a = c .before .before in
     let e = constraints-start _ (a .args .q) _ _ (a .pre .3) (counted c) in
-    (omega arith, e .0, e .1, kept-none _ _ 256, a .pre .6)
+    (omega arith, e .0, e .1, kept-none _ _ 256, a .pre .6, names-none _)
 
 constraint-fails-requires : tie.Need-constraint-fails-requires Inv-loop μ-loop
-constraint-fails-requires c κs = let p = c .before .before .before .before .before .before .pre in let I = c .before .before .before .loop .inv in (p .0, p .1, p .2, here (c .before .before), p .4, p .5, I .3, I .4)
+constraint-fails-requires c κs = let p = c .before .before .before .before .before .before .before .pre in let I = c .before .before .before .before .loop .inv in (p .0, p .1, p .2, here (c .before .before .before), p .4, p .5, I .3, I .4, I .5)
 
 returns : tie.Need-returns Inv-loop μ-loop
-returns c = let L = c .before .before .before .before .before .loop in
-    let N : ℕ = c .before .before .before .before .before .before .word-at .result in
+returns c = let L = c .before .before .before .before .before .before .loop in
+    let N : ℕ = c .before .before .before .before .before .before .before .word-at .result in
     let e : N - L .n ≡ suc (N - (L .n + 1)) = omega arith in
     sym (L .inv .2 ∙ constraints-hit _ _ _ _ _ _ e (sym (c .before .constraint-fails .ensures .0) ∙ c .if1 .taken))
 
 shared-slice-read-wide : tie.Need-shared-slice-read-wide Inv-loop μ-loop
-shared-slice-read-wide c = let h = here (c .before .before .before .before .before) in omega (arith, h .long, h .here .inside)
+shared-slice-read-wide c = let h = here (c .before .before .before .before .before .before) in omega (arith, h .long, h .here .inside)
 
 wide-requires : tie.Need-wide-requires Inv-loop μ-loop
 wide-requires c κs = search needs
 
 add-at : tie.Need-add-at Inv-loop μ-loop
-add-at c = let h = here (c .before .before .before .before .before .before) in omega (arith, h .here .inside, h .here .size, c .wide .ensures .0)
+add-at c = let h = here (c .before .before .before .before .before .before .before) in omega (arith, h .here .inside, h .here .size, c .wide .ensures .0)
 
 add-n : tie.Need-add-n Inv-loop μ-loop
 add-n c = omega arith
@@ -65,9 +66,9 @@ loop-less : tie.Need-loop-less Inv-loop μ-loop
 loop-less c = omega arith
 
 loop-again : tie.Need-loop-again Inv-loop μ-loop
-loop-again c = let a = c .before .before .before .before .before .before .before .before .before .before in
-    let L = c .before .before .before .before .before .before .before .loop in
-    let N : ℕ = c .before .before .before .before .before .before .before .before .word-at .result in
+loop-again c = let a = c .before .before .before .before .before .before .before .before .before .before .before in
+    let L = c .before .before .before .before .before .before .before .before .loop in
+    let N : ℕ = c .before .before .before .before .before .before .before .before .before .word-at .result in
     let l = now (a .args .image) in
     let e : N - L .n ≡ suc (N - (L .n + 1)) = omega arith in
     let step : L .at + c .wide .result ≡ L .at + getD l (L .at) 0 = ap (λ x. L .at + x) (c .wide .ensures .0) in (
@@ -76,6 +77,7 @@ loop-again c = let a = c .before .before .before .before .before .before .before
       L .inv .2 ∙ constraints-next _ _ _ _ _ _ e (sym (c .before .before .before .constraint-fails .ensures .0) ∙ c .before .before .if1 .left) ∙ ap (fromConstraint l (a .args .q) (N - (L .n + 1)) (L .n + 1)) (sym step),
       c .before .before .before .constraint-fails .ensures .1,
       c .before .before .before .constraint-fails .ensures .2,
+      c .before .before .before .constraint-fails .ensures .3,
     )
 
 returns-2 : tie.Need-returns-2 Inv-loop μ-loop

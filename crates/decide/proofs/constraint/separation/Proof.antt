@@ -30,15 +30,17 @@ mark-type-requires-2 : tie.Need-mark-type-requires-2
 mark-type-requires-2 c κs = let p = c .before .before .before .before .before .before .pre in (p .0, p .1, subst (IsType _) (sym (c .before .word-at2 .ensures .0)) (p .3 .second))
 
 clashed-requires : tie.Need-clashed-requires
-clashed-requires c κs = let p = c .before .before .before .before .before .before .before .before .before .pre in (p .0, p .1, p .2)
+clashed-requires c κs = let p = c .before .before .before .before .before .before .before .before .before .before .pre in (p .0, p .1, p .2, p .4)
 
 returns : tie.Need-returns
-returns c = let a = c .before .before .before .before .before .before .before .before .before .before in
-    let l = now (a .args .image) in
-    c .clashed .ensures
-    ∙ separation-is l (constraintOf (groupsIn l) (recordAt l (a .args .at))) _ _
-    (marks-type _ _ _ _ _ (a .pre .0) (a .pre .3 .first) (c .before .before .before .before .before .before .before .before .word-at .ensures .0) (first-is _ _ _ (a .pre .3)) (c .before .before .before .before .before .before .mark-type .ensures .0))
-    (marks-type _ _ _ _ _ (a .pre .0) (a .pre .3 .second) (c .before .before .before .before .before .word-at2 .ensures .0) (second-is _ _ _ (a .pre .3)) (c .before .before .before .mark-type2 .ensures .0))
+returns c = let a = c .before .before .before .before .before .before .before .before .before .before .before in
+    let l = now (a .args .image) in (
+      c .clashed .ensures .0
+          ∙ separation-is l (constraintOf (groupsIn l) (recordAt l (a .args .at))) _ _
+          (marks-type _ _ _ _ _ (a .pre .0) (a .pre .3 .first) (c .before .before .before .before .before .before .before .before .before .word-at .ensures .0) (first-is _ _ _ (a .pre .3)) (c .before .before .before .before .before .before .before .mark-type .ensures .0))
+          (marks-type _ _ _ _ _ (a .pre .0) (a .pre .3 .second) (c .before .before .before .before .before .before .word-at2 .ensures .0) (second-is _ _ _ (a .pre .3)) (c .before .before .before .before .mark-type2 .ensures .0)),
+      c .clashed .ensures .1,
+    )
 
 pub separation-spec : {M : Type 1} → statement M
 separation-spec =

@@ -1,47 +1,34 @@
--- `clashes` meets its contract: kind and condition first, then the destination, then the source. Assumes nothing.
+-- `clashes` meets its contract: the destination first, then the source's name. Assumes nothing.
 use native.Mathlib.Omega.{arith}
 use mathlib.Core.Path.{_≡_, sym, ap, _∙_}
-use mathlib.Core.Logic.{⊎-elim}
+use mathlib.Core.Bool.{false}
 use denote.Ref.{now}
+use lib.ListN.{getD}
 use borrow.Author.Tests.{not-true, not-false}
-use Rattle.decide.specs.Walks.{pairedIn}
-use Rattle.decide.proofs.PredicateLaws.{unwanted-off, unwanted-dest, wanted-source}
+use Rattle.decide.specs.Walks.{named}
+use Rattle.decide.proofs.NameLaws.{name-small, unwanted-far, wanted-near}
 use Rattle.decide.proofs.predicates.clashes.Statement.{statement}
 use Rattle.decide.proofs.predicates.clashes.Tie as tie
 
-on-requires : tie.Need-on-requires
-on-requires c κs = let h = c .before .pre .3 in (omega (arith, h .long, h .here .inside), λ k. ⊎-elim (λ w. omega (arith, w .1, h .here .inside)) (λ w. absurd (omega arith)) (h .kind))
+reaches-requires : tie.Need-reaches-requires
+reaches-requires c κs = let p = c .before .before .pre in (p .0, p .1, p .2, p .3)
 
 returns : tie.Need-returns
-returns c = let a = c .before .before .before in (sym (unwanted-off _ _ _ (a .pre .3) (now (a .args .first)) (pairedIn (now (a .args .image)) (now (a .args .second))) (sym (c .before .on .ensures) ∙ not-true _ (c .if1 .taken))), a .pre .4, a .pre .5, a .pre .6)
+returns c = let a = c .before .before .before .before in (sym (unwanted-far _ _ _ (a .pre .2) (now (a .args .first)) (named (now (a .args .image)) (now (a .args .table))) (sym (c .before .reaches .ensures .0) ∙ not-true _ (c .if1 .taken))), c .before .reaches .ensures .1, a .pre .4)
 
-add-meets : tie.Need-add-meets
-add-meets c = let h = c .before .before .before .pre .3 in omega (arith, h .long, h .here .inside)
+add-name : tie.Need-add-name
+add-name c = let h = c .before .before .before .before .pre .2 in omega (arith, h .long, h .here .inside)
 
-meets-requires : tie.Need-meets-requires
-meets-requires c κs = let p = c .before .before .before .before .pre in (p .0, p .1, omega (arith, p .3 .long, p .3 .here .inside), p .3 .dest, p .4)
+name-requires : tie.Need-name-requires
+name-requires c κs = let p = c .before .before .before .before .before .pre in (p .0, p .1, omega (arith, p .2 .long, p .2 .here .inside), p .2 .source, p .4)
+
+element-copy-out-result : tie.Need-element-copy-out-result
+element-copy-out-result c = let p = c .before .before .before .before .before .before .pre in omega (arith, name-small _ _ (p .0) (p .2 .source), c .name .ensures .0)
 
 returns-2 : tie.Need-returns-2
-returns-2 c = let a = c .before .before .before .before .before .before in (sym (unwanted-dest _ _ _ (a .pre .3) (now (a .args .first)) (pairedIn (now (a .args .image)) (now (a .args .second))) (sym (c .before .before .before .before .on .ensures) ∙ not-false _ (c .before .before .before .if1 .left)) (sym (c .before .meets .ensures .0) ∙ not-true _ (c .if2 .taken))), c .before .meets .ensures .1, a .pre .5, a .pre .6)
-
-add-paired-once : tie.Need-add-paired-once
-add-paired-once c = let h = c .before .before .before .before .before .before .pre .3 in omega (arith, h .long, h .here .inside)
-
-paired-once-requires : tie.Need-paired-once-requires
-paired-once-requires c κs = let p = c .before .before .before .before .before .before .before .before .pre in (p .0, p .1, p .2, p .5, omega (arith, p .3 .long, p .3 .here .inside), p .3 .source, p .6)
-
-returns-3 : tie.Need-returns-3
-returns-3 c = let a = c .before .before .before .before .before .before .before .before .before in (c .paired-once .ensures .0 ∙ sym (wanted-source _ _ _ (a .pre .3) (now (a .args .first)) (pairedIn (now (a .args .image)) (now (a .args .second))) (sym (c .before .before .before .before .before .before .before .on .ensures) ∙ not-false _ (c .before .before .before .before .before .before .if1 .left)) (sym (c .before .before .before .before .meets .ensures .0) ∙ not-false _ (c .before .before .before .if2 .left))), c .before .before .before .before .meets .ensures .1, c .paired-once .ensures .1, c .paired-once .ensures .2)
+returns-2 c = let a = c .before .before .before .before .before .before .before in (ap (λ n. getD (now (a .args .table)) n false) (c .before .name .ensures .0) ∙ sym (wanted-near _ _ _ (a .pre .2) (now (a .args .first)) (named (now (a .args .image)) (now (a .args .table))) (sym (c .before .before .before .before .reaches .ensures .0) ∙ not-false _ (c .before .before .before .if1 .left))), c .before .before .before .before .reaches .ensures .1, c .before .name .ensures .1)
 
 pub clashes-spec : {M : Type 1} → statement M
 clashes-spec =
     tie.close
-    (tie.spec
-    on-requires
-    returns
-    add-meets
-    meets-requires
-    returns-2
-    add-paired-once
-    paired-once-requires
-    returns-3)
+    (tie.spec reaches-requires returns add-name name-requires element-copy-out-result returns-2)

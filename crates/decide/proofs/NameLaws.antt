@@ -1,0 +1,316 @@
+-- Laws of the names of sets: a set has its name back, so that the same name is the same set; and of tables of names. Assumes nothing.
+use Prim.Native.Nat.{ℕ, zero, suc, _+_, _-_, _≤_, _<_}
+use mathlib.Core.Path.{_≡_, refl, sym, subst, ap, _∙_}
+use mathlib.Core.Logic.{_⊎_, inl, inr, ⊎-elim}
+use mathlib.Core.Bool.{Bool, true, false, cond, _&&_, _||_}
+use mathlib.Core.Option.{none}
+use mathlib.Core.List.{List, [], _∷_, map}
+use native.Mathlib.Omega.{arith}
+use lib.ListN.{length, getD, set, replicate, length-set, length-replicate}
+use lib.Seq.{getD-set-same, getD-set-other}
+use lib.Dec.{eqb, ltb}
+use borrow.Author.Tests.{lt-ltb, le-ltb, eq-eqb, ne-eqb, eqb-true, eqb-false}
+use Rattle.format.specs.declared.Section.the-variants.{Groups, Rules}
+use Rattle.format.specs.Bytes.{wordAt}
+use Rattle.format.specs.Format.{countOf}
+use Rattle.format.specs.Policy.{policyOf, recordAt, recordsAt, startOf, placeOf, placeAfter}
+use Rattle.format.specs.Check.{check}
+use Rattle.format.specs.Claims.{IsType}
+use Rattle.format.proofs.Tests.{false-not-true}
+use Rattle.format.proofs.Fields.{Rising}
+use Rattle.format.proofs.Accepted.{place-next}
+use Rattle.format.proofs.Places.{wordsAt, RuleAt, rule-at}
+use Rattle.decision.specs.Sets.{anyOf, setOf, sameSet}
+use Rattle.decision.specs.Decide.{Rule, ruleOf, live}
+use Rattle.decide.specs.Walks.{groupsIn, rulesIn, Spans, anyMarked, wanted, pairedIn, sameList, twinFrom, nameOf, Names, reaching, reachedOf, noNames, named}
+use Rattle.decide.proofs.ArrayLaws.{blank, by-set}
+use Rattle.decide.proofs.TypeLaws.{few-groups, set-basic, set-rising}
+use Rattle.decide.proofs.CompareLaws.{same-is}
+use Rattle.decide.proofs.PredicateLaws.{source-is, anyFrom, any-rules-start}
+
+list-same : (S : List ℕ) → sameList S S ≡ true
+unfolding sameList
+list-same [] = refl
+list-same (x ∷ xs) = simp (eq-eqb x x refl, list-same xs)
+
+list-eq : (S T : List ℕ) → sameList S T ≡ true → S ≡ T
+unfolding sameList
+list-eq [] [] e = refl
+list-eq [] (y ∷ ys) e = false-not-true e
+list-eq (x ∷ xs) [] e = false-not-true e
+list-eq (x ∷ xs) (y ∷ ys) e = go (list-eq xs ys) (eqb x y) refl e
+  where
+    go : (sameList xs ys ≡ true → xs ≡ ys) → (b : Bool) → eqb x y ≡ b → cond b (sameList xs ys) false ≡ true → x ∷ xs ≡ y ∷ ys
+    go rest true h f = rw (eqb-true x y h, rest f) refl
+    go rest false h f = false-not-true f
+
+-- ---- the lowest group that stands for a set
+
+module _ (gs : List (List ℕ)) (S : List ℕ) where
+  module _ (k h : ℕ) where
+    pub twin-end : k ≡ 0 → twinFrom gs S k h ≡ h
+    unfolding twinFrom
+    twin-end e = rw e refl
+
+    module _ (j : ℕ) (more : k ≡ suc j) where
+      pub twin-hit : sameList S (setOf gs (32768 + h)) ≡ true → twinFrom gs S k h ≡ h
+      unfolding twinFrom
+      twin-hit e = rw more (simp e)
+
+      pub twin-next : sameList S (setOf gs (32768 + h)) ≡ false → twinFrom gs S k h ≡ twinFrom gs S j (h + 1)
+      unfolding twinFrom
+      twin-next e = rw more (simp e)
+
+  -- where group g stands for it, one is found
+  module _ (g : ℕ) (is : S ≡ setOf gs (32768 + g)) where
+    twin-found : (k h : ℕ) → h ≤ g → g < h + k → (twinFrom gs S k h ≤ g) × (sameList S (setOf gs (32768 + twinFrom gs S k h)) ≡ true)
+    unfolding twinFrom
+    twin-found zero h a b = absurd (omega arith)
+    twin-found (suc k) h a b = go (λ c. twin-found k (h + 1) c (omega arith)) (sameList S (setOf gs (32768 + h))) refl
+      where
+        go :
+            (h + 1 ≤ g → (twinFrom gs S k (h + 1) ≤ g) × (sameList S (setOf gs (32768 + twinFrom gs S k (h + 1))) ≡ true)) → (b : Bool) → sameList S (setOf gs (32768 + h)) ≡ b
+            → (cond b h (twinFrom gs S k (h + 1)) ≤ g) × (sameList S (setOf gs (32768 + cond b h (twinFrom gs S k (h + 1)))) ≡ true)
+        go rest true e = (a, e)
+        go rest false e =
+            let other : h ≡ g → ⊥ = λ q. false-not-true (sym e ∙ ap (λ x. sameList S (setOf gs (32768 + x))) q ∙ ap (sameList S) (sym is) ∙ list-same S) in
+            rest (omega (arith, other))
+
+-- ---- the set that has a name
+
+abbrev setNamed : List ℕ → ℕ → List ℕ
+setNamed l n = cond (ltb n 1024) (n ∷ []) (setOf (groupsIn l) (32768 + (n - 1024)))
+
+single : (S : List ℕ) (low : ℕ) → Rising low S → length S ≡ 1 → (S ≡ getD S 0 0 ∷ []) × (getD S 0 0 < 1024)
+unfolding Rising
+single [] low r e = absurd (omega arith)
+single (x ∷ []) low r e = (refl, r .1)
+single (x ∷ (y ∷ ys)) low r e = absurd (omega arith)
+
+group-named : (l : List ℕ) (n : ℕ) → setNamed l (1024 + n) ≡ setOf (groupsIn l) (32768 + n)
+group-named l n =
+    let z : 1024 + n - 1024 ≡ n = omega arith in
+    simp (le-ltb (1024 + n) 1024 (omega arith), z)
+
+module _ (l : List ℕ) (t : ℕ) (c : check l ≡ none) where
+  name-back : IsType (countOf l Groups) t → (setNamed l (nameOf l (setOf (groupsIn l) t)) ≡ setOf (groupsIn l) t) × (nameOf l (setOf (groupsIn l) t) < 1280)
+  unfolding nameOf
+  name-back ok = go ok (eqb (length S) 1) refl
+    where
+      S : List ℕ
+      S = setOf (groupsIn l) t
+
+      twin : ℕ
+      twin = twinFrom (groupsIn l) S (countOf l Groups) 0
+
+      go : IsType (countOf l Groups) t → (b : Bool) → eqb (length S) 1 ≡ b → (setNamed l (cond b (getD S 0 0) (1024 + twin)) ≡ S) × (cond b (getD S 0 0) (1024 + twin) < 1280)
+      go k true e =
+          let s = single S 0 (set-rising l t c k) (eqb-true (length S) 1 e) in
+          (simp (lt-ltb (getD S 0 0) 1024 (s .1)) (sym (s .0)), omega (arith, s .1))
+      go (inl h) false e = absurd (eqb-false (length S) 1 e (ap length (set-basic l t (omega arith))))
+      go (inr q) false e =
+          let w = twin-found (groupsIn l) S (q .0) (ap (setOf (groupsIn l)) (q .2)) (countOf l Groups) 0 (omega arith) (omega (arith, q .1)) in
+          (group-named l twin ∙ sym (list-eq S (setOf (groupsIn l) (32768 + twin)) (w .1)), omega (arith, w .0, q .1, few-groups l c))
+
+  pub name-small : IsType (countOf l Groups) t → nameOf l (setOf (groupsIn l) t) < 1280
+  name-small ok = name-back ok .1
+
+-- the same name is the same set
+name-same : (l : List ℕ) (t u : ℕ) → check l ≡ none → IsType (countOf l Groups) t → IsType (countOf l Groups) u → eqb (nameOf l (setOf (groupsIn l) u)) (nameOf l (setOf (groupsIn l) t)) ≡ sameSet (setOf (groupsIn l) t) (setOf (groupsIn l) u)
+name-same l t u c okt oku = go (sameList S T) refl ∙ sym (same-is S T 0 0 (set-rising l t c okt) (set-rising l u c oku))
+  where
+    S : List ℕ
+    S = setOf (groupsIn l) t
+
+    T : List ℕ
+    T = setOf (groupsIn l) u
+
+    go : (b : Bool) → sameList S T ≡ b → eqb (nameOf l T) (nameOf l S) ≡ b
+    go true e = eq-eqb (nameOf l T) (nameOf l S) (ap (nameOf l) (sym (list-eq S T e)))
+    go false e =
+        ne-eqb (nameOf l T) (nameOf l S)
+        (λ q. false-not-true (sym e ∙ ap (sameList S) (sym (name-back l u c oku .0) ∙ ap (setNamed l) q ∙ name-back l t c okt .0) ∙ list-same S))
+
+-- ---- a name, as the code finds it
+
+length-words-at : (l : List ℕ) (n at : ℕ) → length (wordsAt l n at) ≡ n
+unfolding wordsAt
+length-words-at l zero at = refl
+length-words-at l (suc n) at = ap suc (length-words-at l n (at + 2))
+
+module _ (l S : List ℕ) where
+  pub name-single : length S ≡ 1 → nameOf l S ≡ getD S 0 0
+  unfolding nameOf
+  name-single e = simp (eq-eqb (length S) 1 e)
+
+  pub name-group : (length S ≡ 1 → ⊥) → nameOf l S ≡ 1024 + twinFrom (groupsIn l) S (countOf l Groups) 0
+  unfolding nameOf
+  name-group e = simp (ne-eqb (length S) 1 e)
+
+-- a part of one member, and how many members a part has
+module _ (l : List ℕ) (from count : ℕ) (S : List ℕ) (s : Spans l from count S) where
+  pub span-length : length S ≡ count
+  span-length = ap length (sym (s .are)) ∙ length-words-at l count from
+
+  pub span-one : count ≡ 1 → getD S 0 0 ≡ wordAt l from
+  unfolding wordsAt
+  span-one e = ap (λ x. getD x 0 0) (sym (s .are)) ∙ rw e refl
+
+pub name-basic : (l : List ℕ) (t w : ℕ) → t ≡ w → t < 32768 → t ≡ nameOf l (setOf (groupsIn l) w)
+name-basic l t w is h =
+    let e : setOf (groupsIn l) w ≡ w ∷ [] = set-basic l w (omega arith) in
+    is ∙ sym (name-single l (setOf (groupsIn l) w) (ap length e) ∙ ap (λ x. getD x 0 0) e)
+
+pub names-none : (l : List ℕ) → Names l (replicate 256 0)
+names-none l = record { is = λ g h. absurd (omega (arith, h, blank {A = ℕ} 0 256 g)) }
+
+module _ (l names : List ℕ) (k : Names l names) (t w : ℕ) (is : t ≡ w) (h : 32768 ≤ t) where
+  number-is : 32768 + (t - 32768) ≡ w
+  number-is = omega arith
+
+  pub names-tell : (n : ℕ) → n ≡ getD names (t - 32768) 0 → 0 < n → n - 1 ≡ nameOf l (setOf (groupsIn l) w)
+  names-tell n e p = let f = rw number-is at (k .is (t - 32768) (omega arith)) in omega (arith, f)
+
+  pub names-more : (n : ℕ) → n ≡ nameOf l (setOf (groupsIn l) w) → Names l (set names (t - 32768) (n + 1))
+  names-more n e = record { is = by-set 0 (λ (j x : ℕ). 0 < x → x ≡ nameOf l (setOf (groupsIn l) (32768 + j)) + 1) names (t - 32768) (n + 1) (k .is) (λ p. rw (number-is, e) refl) }
+
+-- ---- tables of names
+
+or-false : (b : Bool) → b || false ≡ b
+or-false true = refl
+or-false false = refl
+
+or-true : (b : Bool) → true ≡ b || true
+or-true true = refl
+or-true false = refl
+
+or-assoc : (a b c : Bool) → (a || b) || c ≡ a || (b || c)
+or-assoc true b c = refl
+or-assoc false b c = refl
+
+or-both : (a a' b b' : Bool) → a ≡ a' → b ≡ b' → a || b ≡ a' || b'
+or-both a a' b b' e f = rw (e, f) refl
+
+-- a table with one more name, where a test says so
+stored : (b : Bool) (ts : List Bool) (n x : ℕ) → x < length ts → getD (cond b (set ts n true) ts) x false ≡ getD ts x false || (b && eqb n x)
+stored false ts n x h = sym (or-false (getD ts x false))
+stored true ts n x h = go (eqb n x) refl
+  where
+    go : (b : Bool) → eqb n x ≡ b → getD (set ts n true) x false ≡ getD ts x false || b
+    go true e = let q : n ≡ x = eqb-true n x e in rw q (getD-set-same ts x true false h ∙ or-true (getD ts x false))
+    go false e = getD-set-other ts n x true false (λ q. eqb-false n x e (sym q)) ∙ sym (or-false (getD ts x false))
+
+stored-length : (b : Bool) (ts : List Bool) (n : ℕ) → length (cond b (set ts n true) ts) ≡ length ts
+stored-length true ts n = length-set ts n true
+stored-length false ts n = refl
+
+pub wanted-reaching : (ms : List Bool) (f : List ℕ → Bool) (a : Rule) → wanted ms f a ≡ reaching ms a && f (a .source)
+unfolding wanted reaching
+wanted-reaching ms f a = go (live a) (anyMarked ms (a .dest)) (f (a .source))
+  where
+    go : (x y z : Bool) → x && y && z ≡ (x && y) && z
+    go true y z = refl
+    go false y z = refl
+
+module _ (l : List ℕ) (ms : List Bool) where
+  reached-get : (rs : List Rule) (ts : List Bool) (x : ℕ) → x < length ts → getD (reachedOf l ms rs ts) x false ≡ getD ts x false || anyOf (wanted ms (λ s. eqb (nameOf l s) x)) rs
+  unfolding reachedOf anyOf
+  reached-get [] ts x h = sym (or-false (getD ts x false))
+  reached-get (a ∷ rs) ts x h =
+      let F : List ℕ → Bool = λ s. eqb (nameOf l s) x in
+      let n : ℕ = nameOf l (a .source) in
+      let b : Bool = reaching ms a in
+      let old : Bool = getD ts x false in
+      let rest : Bool = anyOf (wanted ms F) rs in
+      reached-get rs (cond b (set ts n true) ts) x (rw (stored-length b ts n) h)
+      ∙ ap (λ y. y || rest) (stored b ts n x h ∙ ap (λ y. old || y) (sym (wanted-reaching ms F a)))
+      ∙ or-assoc old (wanted ms F a) rest
+
+-- ---- rules that pass one test and another
+
+any-from-same :
+    (f g : Rule → Bool) (l : List ℕ) → ((n : ℕ) → n < countOf l Rules → f (ruleOf (groupsIn l) (recordAt l (placeOf l Rules n))) ≡ g (ruleOf (groupsIn l) (recordAt l (placeOf l Rules n))))
+    → (k n : ℕ) → n + k ≡ countOf l Rules → anyFrom f l k (placeOf l Rules n) ≡ anyFrom g l k (placeOf l Rules n)
+unfolding anyFrom anyOf recordsAt
+any-from-same f g l same zero n e = refl
+any-from-same f g l same (suc k) n e = or-both _ _ _ _ (same n (omega arith)) (rw (place-next l Rules n) at (any-from-same f g l same k (n + 1) (omega arith)))
+
+any-rules-same :
+    (f g : Rule → Bool) (l : List ℕ) → ((n : ℕ) → n < countOf l Rules → f (ruleOf (groupsIn l) (recordAt l (placeOf l Rules n))) ≡ g (ruleOf (groupsIn l) (recordAt l (placeOf l Rules n))))
+    → anyOf f (rulesIn l) ≡ anyOf g (rulesIn l)
+any-rules-same f g l same =
+    let at : ℕ = startOf l Rules in
+    let n : ℕ = countOf l Rules in
+    let s = any-rules-start f l at n refl refl in
+    let z : n - n ≡ 0 = omega arith in
+    let p : at ≡ placeOf l Rules 0 = rw z at (s .0) in
+    s .1 ∙ rw p (any-from-same f g l same n 0 (omega arith)) ∙ sym (any-rules-start g l at n refl refl .1)
+
+wanted-same : (ms : List Bool) (f g : List ℕ → Bool) (a : Rule) → f (a .source) ≡ g (a .source) → wanted ms f a ≡ wanted ms g a
+unfolding wanted
+wanted-same ms f g a e = rw e refl
+
+module _ (l : List ℕ) (ms : List Bool) (c : check l ≡ none) where
+  -- rules whose sources are told apart by two tests that agree on every type
+  wanted-types : (f g : List ℕ → Bool) → ((t : ℕ) → IsType (countOf l Groups) t → f (setOf (groupsIn l) t) ≡ g (setOf (groupsIn l) t)) → anyOf (wanted ms f) (rulesIn l) ≡ anyOf (wanted ms g) (rulesIn l)
+  wanted-types f g same =
+      any-rules-same (wanted ms f) (wanted ms g) l
+      (λ n h.
+      let r = rule-at l c n h in
+      let e = source-is l (placeOf l Rules n) (recordAt l (placeOf l Rules n)) r in
+      wanted-same ms f g _ (ap f e ∙ same _ (r .source) ∙ sym (ap g e)))
+
+module _ (l : List ℕ) (c : check l ≡ none) (second : List Bool) where
+  -- a set has its name in the table where a rule that reaches the marks has it for its source
+  named-paired : (t : ℕ) → IsType (countOf l Groups) t → named l (reachedOf l second (rulesIn l) noNames) (setOf (groupsIn l) t) ≡ pairedIn l second (setOf (groupsIn l) t)
+  unfolding noNames pairedIn
+  named-paired t ok =
+      let n : ℕ = nameOf l (setOf (groupsIn l) t) in
+      reached-get l second (rulesIn l) (replicate 1280 false) n (rw (length-replicate 1280 false) (name-small l t c ok))
+      ∙ ap (λ b. b || anyOf (wanted second (λ s. eqb (nameOf l s) n)) (rulesIn l)) (blank false 1280 n)
+      ∙ wanted-types l second c (λ s. eqb (nameOf l s) n) (sameSet (setOf (groupsIn l) t)) (λ u k. name-same l t u c ok k)
+
+  pub clashed-is : (first : List Bool) → anyOf (wanted first (named l (reachedOf l second (rulesIn l) noNames))) (rulesIn l) ≡ anyOf (wanted first (pairedIn l second)) (rulesIn l)
+  clashed-is first = wanted-types l first c (named l (reachedOf l second (rulesIn l) noNames)) (pairedIn l second) named-paired
+
+-- ---- a rule's part in a table
+
+module _ (l : List ℕ) (at : ℕ) (r : List ℕ) (h : RuleAt l at r) (ms : List Bool) (f : List ℕ → Bool) where
+  pub unwanted-far : reaching ms (ruleOf (groupsIn l) r) ≡ false → wanted ms f (ruleOf (groupsIn l) r) ≡ false
+  unwanted-far e = wanted-reaching ms f (ruleOf (groupsIn l) r) ∙ simp e
+
+  pub wanted-near : reaching ms (ruleOf (groupsIn l) r) ≡ true → wanted ms f (ruleOf (groupsIn l) r) ≡ f (setOf (groupsIn l) (wordAt l (at + 2)))
+  wanted-near e = wanted-reaching ms f (ruleOf (groupsIn l) r) ∙ simp e (ap f (source-is l at r h))
+
+-- the table that k rules from a place on make of one
+unfoldable pub reachedFrom : List ℕ → List Bool → ℕ → ℕ → List Bool → List Bool
+reachedFrom l ms k at ts = reachedOf l ms (map (ruleOf (groupsIn l)) (recordsAt l at k)) ts
+
+pub reached-start : (l : List ℕ) (ms : List Bool) (from n : ℕ) → from ≡ startOf l Rules → n ≡ countOf l Rules → (from ≡ placeOf l Rules (n - n)) × (reachedOf l ms (rulesIn l) noNames ≡ reachedFrom l ms n from noNames)
+unfolding reachedFrom rulesIn policyOf placeOf placeAfter
+reached-start l ms from n e h =
+    let z : n - n ≡ 0 = omega arith in
+    (rw (z, e), rw (h, e))
+
+module _ (l : List ℕ) (ms : List Bool) (k at : ℕ) (ts : List Bool) where
+  pub reached-end : k ≡ 0 → reachedFrom l ms k at ts ≡ ts
+  unfolding reachedFrom reachedOf recordsAt
+  reached-end e = rw e refl
+
+  module _ (j : ℕ) (more : k ≡ suc j) where
+    reached-cons : (b : Bool) → reaching ms (ruleOf (groupsIn l) (recordAt l at)) ≡ b → reachedFrom l ms k at ts ≡ reachedFrom l ms j (at + getD l at 0) (cond b (set ts (nameOf l (ruleOf (groupsIn l) (recordAt l at) .source)) true) ts)
+    unfolding reachedFrom reachedOf recordsAt
+    reached-cons b e =
+        ap (λ n. reachedFrom l ms n at ts) more
+        ∙ ap (λ c. reachedOf l ms (map (ruleOf (groupsIn l)) (recordsAt l (at + getD l at 0) j)) (cond c (set ts (nameOf l (ruleOf (groupsIn l) (recordAt l at) .source)) true) ts)) e
+
+    pub reached-far : reaching ms (ruleOf (groupsIn l) (recordAt l at)) ≡ false → (ts' : List Bool) → ts' ≡ ts → reachedFrom l ms k at ts ≡ reachedFrom l ms j (at + getD l at 0) ts'
+    reached-far e ts' same = reached-cons false e ∙ ap (reachedFrom l ms j (at + getD l at 0)) (sym same)
+
+    pub reached-near :
+        RuleAt l at (recordAt l at) → reaching ms (ruleOf (groupsIn l) (recordAt l at)) ≡ true → (n : ℕ) → n ≡ nameOf l (setOf (groupsIn l) (wordAt l (at + 2))) → (ts' : List Bool) → ts' ≡ set ts n true
+        → reachedFrom l ms k at ts ≡ reachedFrom l ms j (at + getD l at 0) ts'
+    reached-near h e n is ts' same =
+        reached-cons true e
+        ∙ ap (λ m. reachedFrom l ms j (at + getD l at 0) (set ts m true)) (ap (nameOf l) (source-is l at (recordAt l at) h) ∙ sym is)
+        ∙ ap (reachedFrom l ms j (at + getD l at 0)) (sym same)

@@ -1,0 +1,123 @@
+-- `reached` meets its contract: the rules from the running one on fill the table as all do. Assumes nothing.
+use native.Mathlib.Omega.{arith}
+use borrow.Author.Needs.{needs}
+use Prim.Native.Nat.{ℕ, suc, _+_, _-_, _≤_, _<_}
+use mathlib.Core.Path.{_≡_, refl, sym, subst, ap, _∙_}
+use mathlib.Core.Logic.{⊎-elim}
+use mathlib.Core.Bool.{Bool, true, false, cond}
+use denote.Ref.{now}
+use lib.ListN.{length, getD, set}
+use Rattle.format.specs.declared.Section.the-variants.{Rules}
+use Rattle.format.specs.Format.{countOf, countPlace}
+use Rattle.format.specs.Policy.{recordAt, placeOf}
+use Rattle.format.proofs.Accepted.{accepted-header, place-next}
+use Rattle.format.proofs.Places.{RuleAt, rule-at}
+use Rattle.decide.specs.Walks.{rulesIn, Kept, Names, anyMarked, reachedOf, noNames}
+use Rattle.decide.proofs.PredicateLaws.{kept-none}
+use Rattle.decide.proofs.NameLaws.{name-small, reachedFrom, reached-start, reached-end, reached-near, reached-far}
+use Rattle.decide.proofs.predicates.reached.Statement.{statement}
+use Rattle.decide.proofs.predicates.reached.Tie as tie
+
+abbrev Inv-loop : tie.InvT-loop
+Inv-loop image groups from marks names₀ table₀ told₀ at₀ left₀ names table told at left = (left ≤ left₀) × (left₀ ≡ countOf image Rules) × (at ≡ placeOf image Rules (left₀ - left)) × (reachedOf image marks (rulesIn image) noNames ≡ reachedFrom image marks left at table) × Kept (anyMarked marks) image told × Names image names
+
+abbrev μ-loop : tie.MeasureT-loop
+μ-loop image groups from marks names₀ table₀ told₀ at₀ left₀ names table told at left = left
+
+counted : (d : tie.After-word-at Inv-loop μ-loop) → d .word-at .result ≡ countOf (now (d .before .before .args .image)) Rules
+unfolding countOf countPlace
+counted d = d .word-at .ensures .0
+
+-- the rule at the running place
+here : (d : tie.In-loop Inv-loop μ-loop) → RuleAt (now (d .before .before .before .before .args .image)) (d .before .loop .at) (recordAt (now (d .before .before .before .before .args .image)) (d .before .loop .at))
+here d =
+    let L = d .before .loop in
+    rw (L .inv .2) (rule-at (now (d .before .before .before .before .args .image)) (d .before .before .before .before .pre .0) (d .before .before .word-at .result - L .left) (omega (arith, L .inv .0, L .inv .1)))
+
+-- what a turn leaves in the table and of the names
+turned :
+    (d : tie.Joined1 Inv-loop μ-loop) (j : ℕ) → d .before .before .before .before .loop .left ≡ suc j
+    → (reachedFrom (now (d .before .before .before .before .before .before .before .args .image)) (now (d .before .before .before .before .before .before .before .args .marks)) (d .before .before .before .before .loop .left) (d .before .before .before .before .loop .at) (d .before .before .before .before .loop .table) ≡ reachedFrom (now (d .before .before .before .before .before .before .before .args .image)) (now (d .before .before .before .before .before .before .before .args .marks)) j (d .before .before .before .before .loop .at + getD (now (d .before .before .before .before .before .before .before .args .image)) (d .before .before .before .before .loop .at) 0) (d .if1 .table))
+    × Names (now (d .before .before .before .before .before .before .before .args .image)) (d .if1 .names)
+turned d j e =
+    let r = d .before .reaches .ensures .0 in
+    let h = here (d .before .before .before) in
+    ⊎-elim
+    (λ w. (reached-near _ _ _ _ _ _ e h (sym r ∙ w .0 .taken) (w .2 .result) (w .2 .ensures .0) _ (w .4), rw (w .3) (w .2 .ensures .1)))
+    (λ w. (reached-far _ _ _ _ _ _ e (sym r ∙ w .0 .left) _ (w .2), rw (w .1) (d .before .before .before .before .loop .inv .5)))
+    (d .if1 .came)
+
+word-at-requires : tie.Need-word-at-requires Inv-loop μ-loop
+word-at-requires c κs = omega (arith, accepted-header _ (c .before .pre .0) .long)
+
+loop-holds : tie.Need-loop-holds Inv-loop μ-loop
+unfolding noNames
+loop-holds c = let a = c .before .before in
+    let e = reached-start _ (now (a .args .marks)) _ _ (a .pre .2) (counted c) in
+    (omega arith, counted c, e .0, e .1, kept-none _ _ 256, a .pre .3)
+
+reaches-requires : tie.Need-reaches-requires Inv-loop μ-loop
+reaches-requires c κs = (c .before .before .before .before .before .pre .0, c .before .before .before .before .before .pre .1, here (c .before), c .before .before .loop .inv .4)
+
+add-name : tie.Need-add-name Inv-loop μ-loop
+add-name c = let h = here (c .before .before .before) in omega (arith, h .long, h .here .inside)
+
+name-requires : tie.Need-name-requires Inv-loop μ-loop
+name-requires c κs = let h = here (c .before .before .before .before) in (c .before .before .before .before .before .before .before .before .pre .0, c .before .before .before .before .before .before .before .before .pre .1, omega (arith, h .long, h .here .inside), h .source, c .before .before .before .before .before .loop .inv .5)
+
+array-write-table : tie.Need-array-write-table Inv-loop μ-loop
+array-write-table c = omega (arith, name-small _ _ (c .before .before .before .before .before .before .before .before .before .pre .0) (here (c .before .before .before .before .before) .source), c .name .ensures .0)
+
+shared-slice-read-wide : tie.Need-shared-slice-read-wide Inv-loop μ-loop
+shared-slice-read-wide c = let h = here (c .before .before .before .before) in omega (arith, h .long, h .here .inside)
+
+wide-requires : tie.Need-wide-requires Inv-loop μ-loop
+wide-requires c κs = search needs
+
+add-at : tie.Need-add-at Inv-loop μ-loop
+add-at c = let h = here (c .before .before .before .before .before) in omega (arith, h .here .inside, h .here .size, c .wide .ensures .0)
+
+sub-left : tie.Need-sub-left Inv-loop μ-loop
+sub-left c = omega arith
+
+loop-less : tie.Need-loop-less Inv-loop μ-loop
+loop-less c = omega arith
+
+loop-again : tie.Need-loop-again Inv-loop μ-loop
+loop-again c = let L = c .before .before .before .before .before .before .loop in
+    let N : ℕ = c .before .before .before .before .before .before .before .word-at .result in
+    let l = now (c .before .before .before .before .before .before .before .before .before .args .image) in
+    let e : L .left ≡ suc (L .left - 1) = omega arith in
+    let z : N - (L .left - 1) ≡ N - L .left + 1 = omega (arith, L .inv .0) in
+    let step : L .at + c .wide .result ≡ L .at + getD l (L .at) 0 = ap (λ x. L .at + x) (c .wide .ensures .0) in
+    let k = turned (c .before .before) _ e in (
+      omega (arith, L .inv .0),
+      L .inv .1,
+      step ∙ ap (λ x. x + getD l x 0) (L .inv .2) ∙ sym (place-next l Rules (N - L .left)) ∙ ap (placeOf l Rules) (sym z),
+      L .inv .3 ∙ k .0 ∙ ap (λ at. reachedFrom l (now (c .before .before .before .before .before .before .before .before .before .args .marks)) (L .left - 1) at (c .before .before .if1 .table)) (sym step),
+      c .before .before .before .reaches .ensures .1,
+      k .1,
+    )
+
+returns : tie.Need-returns Inv-loop μ-loop
+returns c = let L = c .before .loop in (sym (L .inv .3 ∙ reached-end _ _ _ _ _ (omega arith)), L .inv .5)
+
+pub reached-spec : {M : Type 1} → statement M
+reached-spec =
+    tie.close
+    (tie.spec
+    Inv-loop
+    μ-loop
+    word-at-requires
+    loop-holds
+    reaches-requires
+    add-name
+    name-requires
+    array-write-table
+    shared-slice-read-wide
+    wide-requires
+    add-at
+    sub-left
+    loop-less
+    loop-again
+    returns)
