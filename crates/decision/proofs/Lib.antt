@@ -1,4 +1,5 @@
 pub mod Cases
 pub mod Implies
+pub mod Lowest
 pub mod Order
 pub mod Tepla

@@ -1,5 +1,6 @@
 pub mod Sets
 pub mod Decide
+pub mod Lowest
 pub mod Order
 pub mod Tepla
 pub mod Cases

@@ -1,0 +1,25 @@
+-- Which rule and which constraint an answer names (document 01, "How a draw is decided": "the lowest-numbered").
+--     Lowest f xs n          element n passes a test, and none before it does
+--     Names rs cs a d        what a decision says of the rules and the constraints: where it names one, that is the lowest, and
+--                            where it names none, there is none
+--     LowestNamed            the decision names the lowest, for all rules, constraints and queries
+use Prim.Native.Nat.{ℕ}
+use mathlib.Core.Path.{_≡_}
+use mathlib.Core.Bool.{Bool, true, false}
+use mathlib.Core.List.{List}
+use lib.ListN.{take, drop}
+use Rattle.decision.specs.Sets.{anyOf}
+use Rattle.decision.specs.Decide.{Rule, Constraint, Request, covers, fails, Decision, notPermitted, permitted, unknown, judge}
+
+module _ {A : Type 0} where
+  pub record Lowest (f : A → Bool) (xs : List A) (n : ℕ) : Type 0 where
+    pub here : anyOf f (take 1 (drop n xs)) ≡ true
+    pub before : anyOf f (take n xs) ≡ false
+
+abbrev pub Names : List Rule → List Constraint → Request → Decision → Type 0
+Names rs cs a notPermitted = anyOf (covers a) rs ≡ false
+Names rs cs a (permitted r) = Lowest (covers a) rs r × (anyOf (fails rs a) cs ≡ false)
+Names rs cs a (unknown r c) = Lowest (covers a) rs r × Lowest (fails rs a) cs c
+
+abbrev pub LowestNamed : Type 0
+LowestNamed = (rs : List Rule) (cs : List Constraint) (a : Request) → Names rs cs a (judge rs cs a)
