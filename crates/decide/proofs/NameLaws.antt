@@ -19,7 +19,7 @@ use Rattle.format.specs.Claims.{IsType}
 use Rattle.format.proofs.Tests.{false-not-true}
 use Rattle.format.proofs.Fields.{Rising}
 use Rattle.format.proofs.Accepted.{place-next}
-use Rattle.format.proofs.Places.{wordsAt, RuleAt, rule-at}
+use Rattle.format.proofs.Places.{wordsAt, words-at-length, RuleAt, rule-at}
 use Rattle.decision.specs.Sets.{anyOf, setOf, sameSet}
 use Rattle.decision.specs.Decide.{Rule, ruleOf, live}
 use Rattle.decide.specs.Walks.{groupsIn, rulesIn, Spans, anyMarked, wanted, pairedIn, sameList, twinFrom, nameOf, Names, reaching, reachedOf, noNames, named}
@@ -133,11 +133,6 @@ name-same l t u c okt oku = go (sameList S T) refl ∙ sym (same-is S T 0 0 (set
 
 -- ---- a name, as the code finds it
 
-length-words-at : (l : List ℕ) (n at : ℕ) → length (wordsAt l n at) ≡ n
-unfolding wordsAt
-length-words-at l zero at = refl
-length-words-at l (suc n) at = ap suc (length-words-at l n (at + 2))
-
 module _ (l S : List ℕ) where
   pub name-single : length S ≡ 1 → nameOf l S ≡ getD S 0 0
   unfolding nameOf
@@ -150,7 +145,7 @@ module _ (l S : List ℕ) where
 -- a part of one member, and how many members a part has
 module _ (l : List ℕ) (from count : ℕ) (S : List ℕ) (s : Spans l from count S) where
   pub span-length : length S ≡ count
-  span-length = ap length (sym (s .are)) ∙ length-words-at l count from
+  span-length = ap length (sym (s .are)) ∙ words-at-length l count from
 
   pub span-one : count ≡ 1 → getD S 0 0 ≡ wordAt l from
   unfolding wordsAt
