@@ -12,16 +12,20 @@ use Rattle.format.specs.Format.{countOf, isType}
 use Rattle.format.specs.Policy.{policyOf}
 use Rattle.format.specs.Check.{check}
 use Rattle.format.specs.Claims.{IsType}
-use Rattle.format.specs.Answers.{refused, gives, outcome}
+use Rattle.format.specs.Answers.{refused, gives, outcome, sectionsOutcome, starts}
 use Rattle.decision.specs.declared.Query.{Query}
 use Rattle.decision.specs.Sets.{setOf}
 use Rattle.decision.specs.Decide as tepla
 use Rattle.decide.specs.declared.cover.Found.{Found}
 use Rattle.decide.specs.declared.cover.Found.the-variants.{At, Nothing}
 use Rattle.decide.specs.Walks.{groupsIn, rulesIn, placeIn, Places, markAll, Marked, foundOf, firstRule, firstConstraint}
-use Rattle.decide.specs.Ready.{unless, groupPlace}
+use Rattle.decide.specs.Ready.{unless, groupPlace, Prepares, Ready}
+use Rattle.decide.specs.declared.engine.Prepared.{Prepared}
+use Rattle.format.specs.declared.Starts.{Starts}
+use Rattle.format.specs.declared.Sections.the-variants as sections
+use Rattle.format.proofs.Chain.{outcome-gives}
 use Rattle.decide.proofs.ArrayLaws.{blank}
-use Rattle.decide.proofs.TypeLaws.{set-rising}
+use Rattle.decide.proofs.TypeLaws.{set-rising, places-placed}
 use Rattle.decide.proofs.MarkedLaws.{marked-of}
 
 abbrev pub optionOf : Found → Option ℕ
@@ -106,3 +110,11 @@ module _ (l ps : List ℕ) where
 pub places-refused : (l : List ℕ) (f : Refusal) → check l ≡ some f → (g : ℕ) → getD {A = ℕ} (replicate 256 0) g 0 ≡ groupPlace l g
 unfolding groupPlace
 places-refused l f e g = blank 0 256 g ∙ ap (λ f. unless f (placeIn l g)) (sym e)
+
+-- what `prepare` gives of an accepted image is what a decision relies on
+pub prepares-ready : (l : List ℕ) (p : Prepared) (s : Starts) → Prepares l p → p .sections ≡ sections.At s → Ready l (p .groups) s
+unfolding groupPlace
+prepares-ready l p s k e =
+    let a = outcome-gives (check l) (starts l) (sym (ap sectionsOutcome e) ∙ k .sections) in
+    let places : Places l (p .groups) = record { is = λ g. k .groups g ∙ ap (λ f. unless f (placeIn l g)) (a .0) } in
+    record { accepted = a .0; placed = places-placed l (p .groups) places; starting = a .1 }

@@ -22,7 +22,7 @@ use Rattle.format.proofs.Accepted.{place-next}
 use Rattle.format.proofs.Places.{wordsAt, words-at-length, RuleAt, rule-at}
 use Rattle.decision.specs.Sets.{anyOf, setOf, sameSet}
 use Rattle.decision.specs.Decide.{Rule, ruleOf, live}
-use Rattle.decide.specs.Walks.{groupsIn, rulesIn, Spans, anyMarked, wanted, pairedIn, sameList, twinFrom, nameOf, Names, reaching, reachedOf, noNames, named}
+use Rattle.decide.specs.Walks.{groupsIn, rulesIn, Spans, anyMarked, wanted, pairedIn, sameList, twinFrom, nameOf, NamesKept, reaching, reachedOf, noNames, named}
 use Rattle.decide.proofs.ArrayLaws.{blank, by-set}
 use Rattle.decide.proofs.TypeLaws.{few-groups, set-basic, set-rising}
 use Rattle.decide.proofs.CompareLaws.{same-is}
@@ -156,17 +156,17 @@ name-basic l t w is h =
     let e : setOf (groupsIn l) w ≡ w ∷ [] = set-basic l w (omega arith) in
     is ∙ sym (name-single l (setOf (groupsIn l) w) (ap length e) ∙ ap (λ x. getD x 0 0) e)
 
-pub names-none : (l : List ℕ) → Names l (replicate 256 0)
+pub names-none : (l : List ℕ) → NamesKept l (replicate 256 0)
 names-none l = record { is = λ g h. absurd (omega (arith, h, blank {A = ℕ} 0 256 g)) }
 
-module _ (l names : List ℕ) (k : Names l names) (t w : ℕ) (is : t ≡ w) (h : 32768 ≤ t) where
+module _ (l names : List ℕ) (k : NamesKept l names) (t w : ℕ) (is : t ≡ w) (h : 32768 ≤ t) where
   number-is : 32768 + (t - 32768) ≡ w
   number-is = omega arith
 
   pub names-tell : (n : ℕ) → n ≡ getD names (t - 32768) 0 → 0 < n → n - 1 ≡ nameOf l (setOf (groupsIn l) w)
   names-tell n e p = let f = rw number-is at (k .is (t - 32768) (omega arith)) in omega (arith, f)
 
-  pub names-more : (n : ℕ) → n ≡ nameOf l (setOf (groupsIn l) w) → Names l (set names (t - 32768) (n + 1))
+  pub names-more : (n : ℕ) → n ≡ nameOf l (setOf (groupsIn l) w) → NamesKept l (set names (t - 32768) (n + 1))
   names-more n e = record { is = by-set 0 (λ (j x : ℕ). 0 < x → x ≡ nameOf l (setOf (groupsIn l) (32768 + j)) + 1) names (t - 32768) (n + 1) (k .is) (λ p. rw (number-is, e) refl) }
 
 -- ---- tables of names

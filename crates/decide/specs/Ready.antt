@@ -1,8 +1,9 @@
 -- What a decision on a prepared policy relies on, and what preparing gives.
 --     unless f n       n, or 0 where there is the refusal f
 --     groupPlace l g   the place of group g of an accepted image; 0 past the groups, and in a refused image
---     Prepares l p     what `prepare` answers on an image
---     Ready l ps s     an accepted image, with its groups' places and its sections' starts
+--     Prepares l p     what `prepare` answers on an image; the table is an array of 256, so that this fixes all of it
+--     Ready l ps s     an accepted image, with its groups' places and its sections' starts: what `prepare` gives is so
+--                      (`prepares-ready`)
 use Prim.Native.Nat.{ℕ}
 use mathlib.Core.Path.{_≡_}
 use mathlib.Core.Option.{Option, none, some}

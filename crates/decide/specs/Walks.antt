@@ -22,7 +22,7 @@
 --     sameList              two lists are the same
 --     twinFrom gs S k h     of k groups from h on the lowest that stands for S
 --     nameOf l S            the name of a set: its member, or 1,024 and the lowest group that stands for it
---     Names l names         what is kept of the groups' names: 1 more than the name, or 0
+--     NamesKept l names         what is kept of the groups' names: 1 more than the name, or 0
 --     reaching ms a         a live rule whose destination touches marks
 --     reachedOf l ms rs ts  a table of names with those of the sources of the rules that reach marks; noNames the empty one
 --     named l ts s          a set has its name in a table
@@ -150,7 +150,7 @@ twinFrom gs S (suc k) h = cond (sameList S (setOf gs (32768 + h))) h (twinFrom g
 unfoldable pub nameOf : List ℕ → List ℕ → ℕ
 nameOf l S = cond (eqb (length S) 1) (getD S 0 0) (1024 + twinFrom (groupsIn l) S (countOf l Groups) 0)
 
-pub record Names (l names : List ℕ) : Type 0 where
+pub record NamesKept (l names : List ℕ) : Type 0 where
   pub is : (g : ℕ) → 0 < getD names g 0 → getD names g 0 ≡ nameOf l (setOf (groupsIn l) (32768 + g)) + 1
 
 unfoldable pub reaching : List Bool → Rule → Bool

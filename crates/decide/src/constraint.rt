@@ -18,7 +18,7 @@ ghost use Rattle.format.specs.Check.{check};
 ghost use Rattle.format.proofs.Places.{ConstraintAt};
 ghost use Rattle.decision.specs.Sets.{setOf};
 ghost use Rattle.decision.specs.Decide.{constraintOf, requestOf, separationBroken, rosterBroken, companionBroken, broken, fails};
-ghost use Rattle.decide.specs.Walks.{groupsIn, rulesIn, Placed, Marked, Kept, Names, fullyMarked, firstConstraint};
+ghost use Rattle.decide.specs.Walks.{groupsIn, rulesIn, Placed, Marked, Kept, NamesKept, fullyMarked, firstConstraint};
 
 // Whether the separation at a place fails.
 fn separation(
@@ -28,8 +28,8 @@ fn separation(
     at: usize,
     names: &mut [u16; 256],
 ) -> bool
-    requires { ⌜ (check (now image) ≡ none) × Placed (now image) (now groups) × (from ≡ startOf (now image) Rules) × ConstraintAt (now image) at (recordAt (now image) at) × Names (now image) (now names) ⌝ }
-    ensures { λ r. ⌜ (r ≡ separationBroken (rulesIn (now (image .entry))) (constraintOf (groupsIn (now (image .entry))) (recordAt (now (image .entry)) at))) × Names (now (image .entry)) (now (names .exit)) ⌝ }
+    requires { ⌜ (check (now image) ≡ none) × Placed (now image) (now groups) × (from ≡ startOf (now image) Rules) × ConstraintAt (now image) at (recordAt (now image) at) × NamesKept (now image) (now names) ⌝ }
+    ensures { λ r. ⌜ (r ≡ separationBroken (rulesIn (now (image .entry))) (constraintOf (groupsIn (now (image .entry))) (recordAt (now (image .entry)) at))) × NamesKept (now (image .entry)) (now (names .exit)) ⌝ }
 {
     let mut first = [false; 1024];
     mark_type(image, groups, word_at(image, at + 6), &mut first);
@@ -76,8 +76,8 @@ fn predicate_fails(
     at: usize,
     names: &mut [u16; 256],
 ) -> bool
-    requires { ⌜ (check (now image) ≡ none) × Placed (now image) (now groups) × (from ≡ startOf (now image) Rules) × ConstraintAt (now image) at (recordAt (now image) at) × Names (now image) (now names) ⌝ }
-    ensures { λ r. ⌜ (r ≡ broken (rulesIn (now (image .entry))) (constraintOf (groupsIn (now (image .entry))) (recordAt (now (image .entry)) at))) × Names (now (image .entry)) (now (names .exit)) ⌝ }
+    requires { ⌜ (check (now image) ≡ none) × Placed (now image) (now groups) × (from ≡ startOf (now image) Rules) × ConstraintAt (now image) at (recordAt (now image) at) × NamesKept (now image) (now names) ⌝ }
+    ensures { λ r. ⌜ (r ≡ broken (rulesIn (now (image .entry))) (constraintOf (groupsIn (now (image .entry))) (recordAt (now (image .entry)) at))) × NamesKept (now (image .entry)) (now (names .exit)) ⌝ }
 {
     match image[at + 10] {
         0 => true,
@@ -103,8 +103,8 @@ fn constraint_fails(
     told: &mut [u8; 256],
     names: &mut [u16; 256],
 ) -> bool
-    requires { ⌜ (check (now image) ≡ none) × Placed (now image) (now groups) × (from ≡ startOf (now image) Rules) × ConstraintAt (now image) at (recordAt (now image) at) × Marked (setOf (groupsIn (now image)) (q .source)) (now source) sources × Marked (setOf (groupsIn (now image)) (q .dest)) (now dest) dests × Kept (fullyMarked (now source) sources) (now image) (now held) × Kept (fullyMarked (now dest) dests) (now image) (now told) × Names (now image) (now names) ⌝ }
-    ensures { λ r. ⌜ (r ≡ fails (rulesIn (now (image .entry))) (requestOf (groupsIn (now (image .entry))) q) (constraintOf (groupsIn (now (image .entry))) (recordAt (now (image .entry)) at))) × Kept (fullyMarked (now (source .entry)) sources) (now (image .entry)) (now (held .exit)) × Kept (fullyMarked (now (dest .entry)) dests) (now (image .entry)) (now (told .exit)) × Names (now (image .entry)) (now (names .exit)) ⌝ }
+    requires { ⌜ (check (now image) ≡ none) × Placed (now image) (now groups) × (from ≡ startOf (now image) Rules) × ConstraintAt (now image) at (recordAt (now image) at) × Marked (setOf (groupsIn (now image)) (q .source)) (now source) sources × Marked (setOf (groupsIn (now image)) (q .dest)) (now dest) dests × Kept (fullyMarked (now source) sources) (now image) (now held) × Kept (fullyMarked (now dest) dests) (now image) (now told) × NamesKept (now image) (now names) ⌝ }
+    ensures { λ r. ⌜ (r ≡ fails (rulesIn (now (image .entry))) (requestOf (groupsIn (now (image .entry))) q) (constraintOf (groupsIn (now (image .entry))) (recordAt (now (image .entry)) at))) × Kept (fullyMarked (now (source .entry)) sources) (now (image .entry)) (now (held .exit)) × Kept (fullyMarked (now (dest .entry)) dests) (now (image .entry)) (now (told .exit)) × NamesKept (now (image .entry)) (now (names .exit)) ⌝ }
 {
     if word_at(image, at + 2) != wide_word(q.class) {
         return false;

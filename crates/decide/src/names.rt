@@ -1,4 +1,4 @@
-// Names of sets: two types have the same name where they stand for the same set, and only there.
+// NamesKept of sets: two types have the same name where they stand for the same set, and only there.
 use crate::compare::same_members;
 use crate::types::group_span;
 use crate::types::members;
@@ -14,7 +14,7 @@ ghost use Rattle.format.specs.Format.{countOf};
 ghost use Rattle.format.specs.Check.{check};
 ghost use Rattle.format.specs.Claims.{IsType};
 ghost use Rattle.decision.specs.Sets.{setOf};
-ghost use Rattle.decide.specs.Walks.{groupsIn, Placed, nameOf, Names};
+ghost use Rattle.decide.specs.Walks.{groupsIn, Placed, nameOf, NamesKept};
 
 // The name of the type in the field at a place: a set of one member goes by the member, and another by 1,024 and the number
 // of the lowest group that stands for it.
@@ -39,8 +39,8 @@ fn find_name(image: &[u8], groups: &[usize; 256], at: usize) -> usize
 
 // The same, with the names of groups kept: 0 while it is not known, then 1 more than the name.
 pub(crate) fn name(image: &[u8], groups: &[usize; 256], at: usize, names: &mut [u16; 256]) -> usize
-    requires { ⌜ (check (now image) ≡ none) × Placed (now image) (now groups) × (at + 1 < length (now image)) × IsType (countOf (now image) Groups) (wordAt (now image) at) × Names (now image) (now names) ⌝ }
-    ensures { λ r. ⌜ (r ≡ nameOf (now (image .entry)) (setOf (groupsIn (now (image .entry))) (wordAt (now (image .entry)) at))) × Names (now (image .entry)) (now (names .exit)) ⌝ }
+    requires { ⌜ (check (now image) ≡ none) × Placed (now image) (now groups) × (at + 1 < length (now image)) × IsType (countOf (now image) Groups) (wordAt (now image) at) × NamesKept (now image) (now names) ⌝ }
+    ensures { λ r. ⌜ (r ≡ nameOf (now (image .entry)) (setOf (groupsIn (now (image .entry))) (wordAt (now (image .entry)) at))) × NamesKept (now (image .entry)) (now (names .exit)) ⌝ }
 {
     let t = word_at(image, at);
     if t < 32768 {

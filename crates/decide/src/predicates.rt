@@ -14,7 +14,7 @@ ghost use Rattle.format.specs.Check.{check};
 ghost use Rattle.format.proofs.Places.{RuleAt};
 ghost use Rattle.decision.specs.Sets.{anyOf};
 ghost use Rattle.decision.specs.Decide.{ruleOf};
-ghost use Rattle.decide.specs.Walks.{groupsIn, rulesIn, Placed, Kept, Names, anyMarked, allMarked, liveAt, wanted, strays, friend, reaching, reachedOf, noNames, named, pairedIn};
+ghost use Rattle.decide.specs.Walks.{groupsIn, rulesIn, Placed, Kept, NamesKept, anyMarked, allMarked, liveAt, wanted, strays, friend, reaching, reachedOf, noNames, named, pairedIn};
 
 // Whether the rule at a place is an allow rule that is on.
 fn on(image: &[u8], at: usize) -> bool
@@ -146,8 +146,8 @@ fn reached(
     marks: &[bool; 1024],
     names: &mut [u16; 256],
 ) -> [bool; 1280]
-    requires { ⌜ (check (now image) ≡ none) × Placed (now image) (now groups) × (from ≡ startOf (now image) Rules) × Names (now image) (now names) ⌝ }
-    ensures { λ r. ⌜ (r ≡ reachedOf (now (image .entry)) (now (marks .entry)) (rulesIn (now (image .entry))) noNames) × Names (now (image .entry)) (now (names .exit)) ⌝ }
+    requires { ⌜ (check (now image) ≡ none) × Placed (now image) (now groups) × (from ≡ startOf (now image) Rules) × NamesKept (now image) (now names) ⌝ }
+    ensures { λ r. ⌜ (r ≡ reachedOf (now (image .entry)) (now (marks .entry)) (rulesIn (now (image .entry))) noNames) × NamesKept (now (image .entry)) (now (names .exit)) ⌝ }
 {
     let mut table = [false; 1280];
     let mut told = [0u8; 256];
@@ -173,8 +173,8 @@ fn clashes(
     told: &mut [u8; 256],
     names: &mut [u16; 256],
 ) -> bool
-    requires { ⌜ (check (now image) ≡ none) × Placed (now image) (now groups) × RuleAt (now image) at (recordAt (now image) at) × Kept (anyMarked (now first)) (now image) (now told) × Names (now image) (now names) ⌝ }
-    ensures { λ r. ⌜ (r ≡ wanted (now (first .entry)) (named (now (image .entry)) (now (table .entry))) (ruleOf (groupsIn (now (image .entry))) (recordAt (now (image .entry)) at))) × Kept (anyMarked (now (first .entry))) (now (image .entry)) (now (told .exit)) × Names (now (image .entry)) (now (names .exit)) ⌝ }
+    requires { ⌜ (check (now image) ≡ none) × Placed (now image) (now groups) × RuleAt (now image) at (recordAt (now image) at) × Kept (anyMarked (now first)) (now image) (now told) × NamesKept (now image) (now names) ⌝ }
+    ensures { λ r. ⌜ (r ≡ wanted (now (first .entry)) (named (now (image .entry)) (now (table .entry))) (ruleOf (groupsIn (now (image .entry))) (recordAt (now (image .entry)) at))) × Kept (anyMarked (now (first .entry))) (now (image .entry)) (now (told .exit)) × NamesKept (now (image .entry)) (now (names .exit)) ⌝ }
 {
     if !reaches(image, groups, at, first, told) {
         return false;
@@ -191,8 +191,8 @@ pub(crate) fn clashed(
     second: &[bool; 1024],
     names: &mut [u16; 256],
 ) -> bool
-    requires { ⌜ (check (now image) ≡ none) × Placed (now image) (now groups) × (from ≡ startOf (now image) Rules) × Names (now image) (now names) ⌝ }
-    ensures { λ r. ⌜ (r ≡ anyOf (wanted (now (first .entry)) (pairedIn (now (image .entry)) (now (second .entry)))) (rulesIn (now (image .entry)))) × Names (now (image .entry)) (now (names .exit)) ⌝ }
+    requires { ⌜ (check (now image) ≡ none) × Placed (now image) (now groups) × (from ≡ startOf (now image) Rules) × NamesKept (now image) (now names) ⌝ }
+    ensures { λ r. ⌜ (r ≡ anyOf (wanted (now (first .entry)) (pairedIn (now (image .entry)) (now (second .entry)))) (rulesIn (now (image .entry)))) × NamesKept (now (image .entry)) (now (names .exit)) ⌝ }
 {
     let table = reached(image, groups, from, second, names);
     let mut told = [0u8; 256];

@@ -7,8 +7,9 @@ use mathlib.Core.List.{List, [], _∷_}
 use native.Mathlib.Omega.{arith}
 use lib.ListN.{take, drop}
 use Rattle.decision.specs.Sets.{anyOf}
-use Rattle.decision.specs.Decide.{Rule, Constraint, Request, covers, fails, firstAt, decisionOf, judge}
-use Rattle.decision.specs.Lowest.{Lowest, Names, LowestNamed}
+use Rattle.decision.specs.Decide.{Rule, Constraint, Request, covers, fails, firstAt, decisionOf, judge, decide}
+use Rattle.decision.specs.Lowest.{Lowest, Names, LowestNamed, LowestAnswered}
+use Rattle.decision.proofs.Order.{answer-accepted}
 
 module _ {A : Type 0} (f : A → Bool) where
   -- what a search from number k on says of the elements
@@ -46,3 +47,7 @@ names rs cs a (some r) (some c) (lowest i h) (lowest j k) = (from-zero h, from-z
 pub lowest-named : LowestNamed
 unfolding judge
 lowest-named rs cs a = names rs cs a (firstAt (covers a) 0 rs) (firstAt (fails rs a) 0 cs) (first-found (covers a) rs 0) (first-found (fails rs a) cs 0)
+
+pub lowest-answered : LowestAnswered
+unfolding decide
+lowest-answered l q d e = subst (Names _ _ _) (sym (answer-accepted l q d e .1)) (lowest-named _ _ _)

@@ -7,9 +7,10 @@ use mathlib.Core.List.{List, [], _∷_, map}
 use lib.Dec.{eqb}
 use Rattle.format.specs.Policy.{policyOf}
 use Rattle.decision.specs.Sets.{anyOf, allOf, within}
-use Rattle.decision.specs.Decide.{Rule, Constraint, Request, live, tests, covers, broken, fails, firstAt, Decision, decisionOf, judge, decide}
-use Rattle.decision.specs.Tepla.{Dcs, NotPermitted, Permitted, UnKnown, compareDecisions, maximalDcs, maximum, allows, transits, evalRule, prdct, evalConstraint, maximalPolicy, evalPolicy, evalQuery, forget, PublishedMeaning, PublishedAnswer}
-use Rattle.decision.proofs.Order.{isFound, found-any, answer-accepted}
+use Rattle.decision.specs.Decide.{Rule, Constraint, Request, live, tests, covers, broken, fails, firstAt, Decision, notPermitted, permitted, unknown, decisionOf, judge, decide}
+use Rattle.decision.specs.Tepla.{Dcs, NotPermitted, Permitted, UnKnown, compareDecisions, maximalDcs, maximum, allows, transits, evalRule, prdct, evalConstraint, maximalPolicy, evalPolicy, evalQuery, forget, PublishedMeaning, PublishedAnswer, PublishedOrder}
+use Rattle.decision.specs.Order.{height}
+use Rattle.decision.proofs.Order.{isFound, found-any, answer-accepted, decided}
 
 -- ---- a rule permits where it covers
 
@@ -118,4 +119,18 @@ published-meaning rs cs a =
 
 pub published-answer : PublishedAnswer
 unfolding evalQuery decide
-published-answer l q d e = published-meaning _ _ _ ∙ ap forget (sym (answer-accepted l q d e .1))
+published-answer l q e s d =
+    let a = decided l q e s d in
+    (a .0, a .1, published-meaning _ _ _ ∙ ap forget (sym (answer-accepted l q (a .0) (a .1) .1)))
+
+pub published-order : PublishedOrder
+unfolding height forget compareDecisions
+published-order notPermitted notPermitted = refl
+published-order notPermitted (permitted r) = refl
+published-order notPermitted (unknown r c) = refl
+published-order (permitted r) notPermitted = refl
+published-order (permitted r) (permitted s) = refl
+published-order (permitted r) (unknown s c) = refl
+published-order (unknown r c) notPermitted = refl
+published-order (unknown r c) (permitted s) = refl
+published-order (unknown r c) (unknown s d) = refl

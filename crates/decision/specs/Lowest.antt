@@ -3,13 +3,17 @@
 --     Names rs cs a d        what a decision says of the rules and the constraints: where it names one, that is the lowest, and
 --                            where it names none, there is none
 --     LowestNamed            the decision names the lowest, for all rules, constraints and queries
+--     LowestAnswered         and so does the engine's answer, of the image's records
 use Prim.Native.Nat.{ℕ}
 use mathlib.Core.Path.{_≡_}
 use mathlib.Core.Bool.{Bool, true, false}
-use mathlib.Core.List.{List}
+use mathlib.Core.List.{List, map}
 use lib.ListN.{take, drop}
+use Rattle.format.specs.Policy.{policyOf}
+use Rattle.format.specs.Answers.{gives}
+use Rattle.decision.specs.declared.Query.{Query}
 use Rattle.decision.specs.Sets.{anyOf}
-use Rattle.decision.specs.Decide.{Rule, Constraint, Request, covers, fails, Decision, notPermitted, permitted, unknown, judge}
+use Rattle.decision.specs.Decide.{Rule, ruleOf, Constraint, constraintOf, Request, requestOf, covers, fails, Decision, notPermitted, permitted, unknown, judge, answer}
 
 module _ {A : Type 0} where
   pub record Lowest (f : A → Bool) (xs : List A) (n : ℕ) : Type 0 where
@@ -23,3 +27,8 @@ Names rs cs a (unknown r c) = Lowest (covers a) rs r × Lowest (fails rs a) cs c
 
 abbrev pub LowestNamed : Type 0
 LowestNamed = (rs : List Rule) (cs : List Constraint) (a : Request) → Names rs cs a (judge rs cs a)
+
+abbrev pub LowestAnswered : Type 0
+LowestAnswered =
+    (l : List ℕ) (q : Query) (d : Decision) → answer l q ≡ gives d
+    → Names (map (ruleOf (policyOf l .groups)) (policyOf l .rules)) (map (constraintOf (policyOf l .groups)) (policyOf l .constraints)) (requestOf (policyOf l .groups) q) d

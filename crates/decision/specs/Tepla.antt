@@ -9,19 +9,27 @@
 --     evalPolicy rs cs a       a query against a policy: TEPLCY_EvalTE
 --     forget d                 our decision, its numbers forgotten
 --     PublishedMeaning         the two decide alike, for all rules, constraints and queries
---     PublishedAnswer          and so on what the engine answers
+--     PublishedAnswer          and so the engine answers every valid query on an accepted policy
+--     PublishedOrder           the order on decisions is the paper's
+-- Both sides read a record as a rule or a constraint, take a type for its set and ask `live`, `within` and `broken` alike; what
+-- those mean is document 01's, and other claims pin it. The evaluation itself shares nothing with `judge`.
 use Prim.Native.Nat.{ℕ}
 use mathlib.Core.Path.{_≡_}
 use mathlib.Core.Bool.{Bool, true, false, not, _&&_, cond}
+use mathlib.Core.Option.{none}
 use mathlib.Core.List.{List, [], _∷_, map}
-use lib.Dec.{eqb}
+use lib.Dec.{eqb, leb}
+use Rattle.format.specs.declared.Section.the-variants.{Groups}
+use Rattle.format.specs.Format.{isType, countOf}
 use Rattle.format.specs.Policy.{Policy, policyOf}
+use Rattle.format.specs.Check.{check}
 use Rattle.format.specs.Answers.{gives}
 use Rattle.decision.specs.declared.Query.{Query}
 use Rattle.decision.specs.Sets.{within}
 use Rattle.decision.specs.Decide.{Rule, ruleOf, Constraint, constraintOf, Request, requestOf, live, broken, Decision, judge, answer}
+use Rattle.decision.specs.Order.{height}
 
--- 000:211 "Inductive DCS:Set := Permitted | NotPermitted | UnKnown."
+-- 000:211-212 "Inductive DCS:Set := Permitted | NotPermitted | UnKnown."
 pub data Dcs : Type 0 where
   NotPermitted : Dcs
   Permitted : Dcs
@@ -41,13 +49,14 @@ compareDecisions UnKnown UnKnown = true
 unfoldable pub maximalDcs : Dcs → Dcs → Dcs
 maximalDcs d e = cond (compareDecisions d e) e d
 
--- 000:601 "takes a list of decisions and returns the maximum"; of none it is the lowest, since "all accesses are first denied
--- by default" (000:125)
+-- 000:601 "takes a list of decisions and returns the maximum", there of several policies' decisions; of none it is the
+-- lowest, since "all accesses are first denied by default" (000:125). The papers name listR_EvalTE and listCSTE_EvalTE, a
+-- list of rules and of constraints (001:234-235), and print neither; that they take the maximum is what 000:554-560 proves.
 unfoldable pub maximum : List Dcs → Dcs
 maximum [] = NotPermitted
 maximum (d ∷ ds) = maximalDcs d (maximum ds)
 
--- algorithm 2 (000:149): condition, source, destination, class and action
+-- algorithm 2 (000:149): condition, source, destination, class and action; "within" is 000:121's
 unfoldable pub allows : Request → Rule → Bool
 allows a r =
     live r
@@ -63,7 +72,8 @@ transits a r = within (a .source) (r .source) && within (a .dest) (r .dest)
 unfoldable pub evalRule : Request → Rule → Dcs
 evalRule a r = cond (cond (eqb (r .kind) 3) (transits a r) (allows a r)) Permitted NotPermitted
 
--- algorithm 1 (000:114): true where the query's types are not within the arguments, else what the predicate says
+-- true where the query's types are not within the arguments, else what the predicate says: algorithm 1 (000:114-119) has it
+-- for separation of duty, and document 01 ("A predicate is true where ...") for all four
 unfoldable pub prdct : List Rule → Request → Constraint → Bool
 prdct rs a c = cond (within (a .source) (c .first) && within (a .dest) (c .second)) (not (broken rs c)) true
 
@@ -72,7 +82,7 @@ prdct rs a c = cond (within (a .source) (c .first) && within (a .dest) (c .secon
 unfoldable pub evalConstraint : List Rule → Request → Constraint → Dcs
 evalConstraint rs a c = cond (eqb (c .class) (a .class) && eqb (c .action) (a .action)) (cond (prdct rs a c) Permitted UnKnown) NotPermitted
 
--- 001:219 "if(Permitted <:: compont_R) then maximalDCS compont_R compont_CSTE else NotPermitted"
+-- figure 1 (000:72); 001:221-223 "if(Permitted <:: compont_R) then maximalDCS compont_R compont_CSTE else NotPermitted"
 unfoldable pub maximalPolicy : Dcs → Dcs → Dcs
 maximalPolicy d e = cond (compareDecisions Permitted d) (maximalDcs d e) NotPermitted
 
@@ -92,4 +102,10 @@ abbrev pub PublishedMeaning : Type 0
 PublishedMeaning = (rs : List Rule) (cs : List Constraint) (a : Request) → evalPolicy rs cs a ≡ forget (judge rs cs a)
 
 abbrev pub PublishedAnswer : Type 0
-PublishedAnswer = (l : List ℕ) (q : Query) (d : Decision) → answer l q ≡ gives d → evalQuery (policyOf l) q ≡ forget d
+PublishedAnswer =
+    (l : List ℕ) (q : Query) → check l ≡ none → isType (countOf l Groups) (q .source) ≡ true → isType (countOf l Groups) (q .dest) ≡ true
+    → (d : Decision) × (answer l q ≡ gives d) × (evalQuery (policyOf l) q ≡ forget d)
+
+-- the order of the order rule is the paper's
+abbrev pub PublishedOrder : Type 0
+PublishedOrder = (d e : Decision) → leb (height d) (height e) ≡ compareDecisions (forget d) (forget e)

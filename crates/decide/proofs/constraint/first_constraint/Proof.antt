@@ -10,7 +10,7 @@ use Rattle.format.specs.Format.{countOf, countPlace}
 use Rattle.format.specs.Policy.{recordAt, placeOf}
 use Rattle.format.proofs.Accepted.{accepted-header, place-next}
 use Rattle.format.proofs.Places.{ConstraintAt, constraint-at}
-use Rattle.decide.specs.Walks.{Kept, Names, fullyMarked, firstConstraint}
+use Rattle.decide.specs.Walks.{Kept, NamesKept, fullyMarked, firstConstraint}
 use Rattle.decide.proofs.PredicateLaws.{kept-none}
 use Rattle.decide.proofs.NameLaws.{names-none}
 use Rattle.decide.proofs.ConstraintLaws.{fromConstraint, constraints-start, constraints-end, constraints-hit, constraints-next}
@@ -18,7 +18,7 @@ use Rattle.decide.proofs.constraint.first_constraint.Statement.{stateme
 use Rattle.decide.proofs.constraint.first_constraint.Tie as tie
 
 abbrev Inv-loop : tie.InvT-loop
-Inv-loop image groups rules from q source sources dest dests told₀ count held₀ names₀ at₀ n₀ told held names at n = (n ≤ count) × (at ≡ placeOf image Constraints n) × (firstConstraint image q ≡ fromConstraint image q (count - n) n at) × Kept (fullyMarked source sources) image held × Kept (fullyMarked dest dests) image told × Names image names
+Inv-loop image groups rules from q source sources dest dests told₀ count held₀ names₀ at₀ n₀ told held names at n = (n ≤ count) × (at ≡ placeOf image Constraints n) × (firstConstraint image q ≡ fromConstraint image q (count - n) n at) × Kept (fullyMarked source sources) image held × Kept (fullyMarked dest dests) image told × NamesKept image names
 
 abbrev μ-loop : tie.MeasureT-loop
 μ-loop image groups rules from q source sources dest dests told₀ count held₀ names₀ at₀ n₀ told held names at n = count - n

@@ -11,14 +11,14 @@ use Rattle.format.specs.Policy.{recordAt, placeOf}
 use Rattle.format.proofs.Accepted.{accepted-header, place-next}
 use Rattle.format.proofs.Places.{RuleAt, rule-at}
 use Rattle.decision.specs.Sets.{anyOf}
-use Rattle.decide.specs.Walks.{rulesIn, Kept, Names, anyMarked, wanted, named, pairedIn}
+use Rattle.decide.specs.Walks.{rulesIn, Kept, NamesKept, anyMarked, wanted, named, pairedIn}
 use Rattle.decide.proofs.PredicateLaws.{kept-none, anyFrom, any-rules-start, any-rules-end, any-rules-hit, any-rules-next}
 use Rattle.decide.proofs.NameLaws.{clashed-is}
 use Rattle.decide.proofs.predicates.clashed.Statement.{statement}
 use Rattle.decide.proofs.predicates.clashed.Tie as tie
 
 abbrev Inv-loop : tie.InvT-loop
-Inv-loop image groups from first second names₀ table told₀ at₀ left₀ names told at left = (left ≤ left₀) × (left₀ ≡ countOf image Rules) × (at ≡ placeOf image Rules (left₀ - left)) × (anyOf (wanted first (named image table)) (rulesIn image) ≡ anyFrom (wanted first (named image table)) image left at) × Kept (anyMarked first) image told × Names image names
+Inv-loop image groups from first second names₀ table told₀ at₀ left₀ names told at left = (left ≤ left₀) × (left₀ ≡ countOf image Rules) × (at ≡ placeOf image Rules (left₀ - left)) × (anyOf (wanted first (named image table)) (rulesIn image) ≡ anyFrom (wanted first (named image table)) image left at) × Kept (anyMarked first) image told × NamesKept image names
 
 abbrev μ-loop : tie.MeasureT-loop
 μ-loop image groups from first second names₀ table told₀ at₀ left₀ names told at left = left

@@ -12,14 +12,14 @@ use Rattle.format.specs.Format.{countOf, countPlace}
 use Rattle.format.specs.Policy.{recordAt, placeOf}
 use Rattle.format.proofs.Accepted.{accepted-header, place-next}
 use Rattle.format.proofs.Places.{RuleAt, rule-at}
-use Rattle.decide.specs.Walks.{rulesIn, Kept, Names, anyMarked, reachedOf, noNames}
+use Rattle.decide.specs.Walks.{rulesIn, Kept, NamesKept, anyMarked, reachedOf, noNames}
 use Rattle.decide.proofs.PredicateLaws.{kept-none}
 use Rattle.decide.proofs.NameLaws.{name-small, reachedFrom, reached-start, reached-end, reached-near, reached-far}
 use Rattle.decide.proofs.predicates.reached.Statement.{statement}
 use Rattle.decide.proofs.predicates.reached.Tie as tie
 
 abbrev Inv-loop : tie.InvT-loop
-Inv-loop image groups from marks names₀ table₀ told₀ at₀ left₀ names table told at left = (left ≤ left₀) × (left₀ ≡ countOf image Rules) × (at ≡ placeOf image Rules (left₀ - left)) × (reachedOf image marks (rulesIn image) noNames ≡ reachedFrom image marks left at table) × Kept (anyMarked marks) image told × Names image names
+Inv-loop image groups from marks names₀ table₀ told₀ at₀ left₀ names table told at left = (left ≤ left₀) × (left₀ ≡ countOf image Rules) × (at ≡ placeOf image Rules (left₀ - left)) × (reachedOf image marks (rulesIn image) noNames ≡ reachedFrom image marks left at table) × Kept (anyMarked marks) image told × NamesKept image names
 
 abbrev μ-loop : tie.MeasureT-loop
 μ-loop image groups from marks names₀ table₀ told₀ at₀ left₀ names table told at left = left
@@ -38,7 +38,7 @@ here d =
 turned :
     (d : tie.Joined1 Inv-loop μ-loop) (j : ℕ) → d .before .before .before .before .loop .left ≡ suc j
     → (reachedFrom (now (d .before .before .before .before .before .before .before .args .image)) (now (d .before .before .before .before .before .before .before .args .marks)) (d .before .before .before .before .loop .left) (d .before .before .before .before .loop .at) (d .before .before .before .before .loop .table) ≡ reachedFrom (now (d .before .before .before .before .before .before .before .args .image)) (now (d .before .before .before .before .before .before .before .args .marks)) j (d .before .before .before .before .loop .at + getD (now (d .before .before .before .before .before .before .before .args .image)) (d .before .before .before .before .loop .at) 0) (d .if1 .table))
-    × Names (now (d .before .before .before .before .before .before .before .args .image)) (d .if1 .names)
+    × NamesKept (now (d .before .before .before .before .before .before .before .args .image)) (d .if1 .names)
 turned d j e =
     let r = d .before .reaches .ensures .0 in
     let h = here (d .before .before .before) in
