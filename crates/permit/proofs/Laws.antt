@@ -6,8 +6,8 @@ use mathlib.Core.Path.{_≡_, refl, sym, subst, ap, _∙_}
 use mathlib.Core.Bool.{cond}
 use mathlib.Core.Option.{none}
 use mathlib.Core.List.{List, [], _∷_, _++_, append-assoc, append-nil}
-use lib.ListN.{length, getD, set, take, drop, length-append, length-set}
-use lib.Seq.{append-snoc, drop-cons, getD-set-same, drop-set-lt, take-suc-set, take-set-le, take-add}
+use lib.ListN.{length, getD, set, take, drop, length-append, length-drop, length-set}
+use lib.Seq.{append-snoc, drop-cons, getD-set-same, getD-set-other, getD-drop, drop-set-lt, take-suc, take-suc-set, take-set-le, take-add}
 use borrow.Author.Tests.{lt-ltb, le-ltb}
 use Rattle.format.specs.declared.Section.the-variants.{Groups}
 use Rattle.format.specs.declared.Starts.{Starts}
@@ -111,6 +111,27 @@ module _ (l : List ℕ) (at end : ℕ) where
         ends = omega (arith, digits-length (width n) n);
         bytes = ap (λ x. take x l) f ∙ take-add at (width n) l ∙ ap (λ x. x ++ take (width n) (drop at l)) t ∙ ap (λ x. take at l₀ ++ x) (sym s);
       }
+
+-- ---- bytes that are moved to the front, one more at `i`, of what is still as it was from `i` on
+
+module _ (l₀ l : List ℕ) (from i : ℕ) (as-was : (k : ℕ) → i ≤ k → getD l k 0 ≡ getD l₀ k 0) where
+  pub moved-rest : (v k : ℕ) → i + 1 ≤ k → getD (set l i v) k 0 ≡ getD l₀ k 0
+  moved-rest v k h = getD-set-other l i k v 0 (λ e. omega arith) ∙ as-was k (omega arith)
+
+  pub moved-next :
+      i < length l → from + i < length l₀ → take i l ≡ take i (drop from l₀)
+      → take (i + 1) (set l i (getD l (from + i) 0)) ≡ take (i + 1) (drop from l₀)
+  moved-next h f e =
+      let d : i < length (drop from l₀) = omega (arith, length-drop from l₀) in
+      let v : getD l (from + i) 0 ≡ getD (drop from l₀) i 0 = as-was (from + i) (omega arith) ∙ sym (getD-drop from l₀ i 0) in
+      ap (λ k. take k (set l i (getD l (from + i) 0))) (add-one i)
+      ∙ take-suc-set l i (getD l (from + i) 0) h
+      ∙ ap (λ x. take i l ++ (x ∷ [])) v
+      ∙ ap (λ x. x ++ (getD (drop from l₀) i 0 ∷ [])) e
+      ∙ sym (ap (λ k. take k (drop from l₀)) (add-one i) ∙ take-suc (drop from l₀) i 0 d)
+
+pub moved-all : (l l' : List ℕ) (i n : ℕ) → i ≡ n → take i l ≡ take i l' → take n l ≡ take n l'
+moved-all l l' i n e m = subst (λ k. take k l ≡ take k l') e m
 
 -- ---- the lines of queries
 

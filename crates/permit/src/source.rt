@@ -2,8 +2,8 @@
 use crate::word::word_at;
 use libc::STDIN_FILENO;
 ghost use mathlib.Core.Path.{_≡_};
-ghost use Prim.Native.Nat.{_+_, _≤_, _<_};
-ghost use lib.ListN.{length};
+ghost use Prim.Native.Nat.{_+_, _-_, _%_, _≤_, _<_};
+ghost use lib.ListN.{length, take, drop};
 
 // Reads the header and then the rest of the image, up to its length field and no further, or what there is of it, and
 // tells how many bytes that is. A length field below 9 ends it after the header.
@@ -23,10 +23,11 @@ pub(crate) fn read_image(space: &mut [u8]) -> usize
     9 + more
 }
 
-// Reads once, from a place on, and tells how many bytes came: 0 where the input has ended.
+// Reads once, from a place on, and tells how many bytes came: 0 where the input has ended. What stands before the place
+// stays.
 pub(crate) fn read_more(buffer: &mut [u8], from: usize) -> usize
     requires { ⌜ from ≤ length (now buffer) ⌝ }
-    ensures { λ r. ⌜ from + r ≤ length (now (buffer .entry)) ⌝ }
+    ensures { λ r. ⌜ (from + r ≤ length (now (buffer .entry))) × (take from (now (buffer .exit)) ≡ take from (now (buffer .entry))) ⌝ }
 {
     let part = &mut buffer[from..];
     let got = libc::read(STDIN_FILENO, part);
@@ -36,7 +37,7 @@ pub(crate) fn read_more(buffer: &mut [u8], from: usize) -> usize
 // Moves the bytes past the last whole query to the front, and tells how many they are.
 pub(crate) fn keep_rest(buffer: &mut [u8], have: usize) -> usize
     requires { ⌜ have ≤ length (now buffer) ⌝ }
-    ensures { λ r. ⌜ r < 8 ⌝ }
+    ensures { λ r. ⌜ (r ≡ have % 8) × (take r (now (buffer .exit)) ≡ take r (drop (have - r) (now (buffer .entry)))) ⌝ }
 {
     let rest = have % 8;
     let from = have - rest;
