@@ -1,0 +1,30 @@
+// An image and then queries of 8 bytes each from standard input; a line to standard output for each answer.
+//
+// The image is the bytes up to its length field. A refused image gives one line and nothing more. What a query is
+// answered is `decide`'s; here are only the reads, the writes and the lines.
+mod word; // word.rt: numbers in bytes
+mod line; // line.rt: an answer as a line
+mod source; // source.rt: what standard input holds
+mod serve; // serve.rt: a line for each query
+
+use crate::serve::refuse;
+use crate::serve::serve;
+use crate::source::read_image;
+use format::Sections;
+
+fn main() {
+    let mut space = io::large_buffer();
+    let have = read_image(&mut space);
+    let image = image::leading(&space[..have]);
+    let prepared = decide::prepare(image);
+    let sections = prepared.sections;
+    let groups = prepared.groups;
+    match sections {
+        Sections::Refused(f) => {
+            refuse(f);
+        }
+        Sections::At(s) => {
+            serve(image, &groups, s);
+        }
+    }
+}
