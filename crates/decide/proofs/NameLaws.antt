@@ -1,5 +1,5 @@
 -- Laws of the names of sets: a set has its name back, so that the same name is the same set; and of tables of names. Assumes nothing.
-use Prim.Native.Nat.{ℕ, zero, suc, _+_, _-_, _≤_, _<_}
+use Prim.Native.Nat.{ℕ, zero, suc, _+_, _-_, _*_, _/_, _≤_, _<_}
 use mathlib.Core.Path.{_≡_, refl, sym, subst, ap, _∙_}
 use mathlib.Core.Logic.{_⊎_, inl, inr, ⊎-elim}
 use mathlib.Core.Bool.{Bool, true, false, cond, _&&_, _||_}
@@ -19,10 +19,10 @@ use Rattle.format.specs.Claims.{IsType}
 use Rattle.format.proofs.Tests.{false-not-true}
 use Rattle.format.proofs.Fields.{Rising}
 use Rattle.format.proofs.Accepted.{place-next}
-use Rattle.format.proofs.Places.{wordsAt, words-at-length, RuleAt, rule-at}
+use Rattle.format.proofs.Places.{wordsAt, words-at-length, words-at-nth, RuleAt, rule-at}
 use Rattle.decision.specs.Sets.{anyOf, setOf, sameSet}
 use Rattle.decision.specs.Decide.{Rule, ruleOf, live}
-use Rattle.decide.specs.Walks.{groupsIn, rulesIn, Spans, anyMarked, wanted, pairedIn, sameList, twinFrom, nameOf, NamesKept, reaching, reachedOf, noNames, named}
+use Rattle.decide.specs.Walks.{groupsIn, rulesIn, Spans, anyMarked, wanted, pairedIn, sameList, twinFrom, keyOf, nameOf, NamesKept, reaching, reachedOf, noNames, named}
 use Rattle.decide.proofs.ArrayLaws.{blank, by-set}
 use Rattle.decide.proofs.TypeLaws.{few-groups, set-basic, set-rising}
 use Rattle.decide.proofs.CompareLaws.{same-is}
@@ -43,6 +43,20 @@ list-eq (x ∷ xs) (y ∷ ys) e = go (list-eq xs ys) (eqb x y) refl e
     go : (sameList xs ys ≡ true → xs ≡ ys) → (b : Bool) → eqb x y ≡ b → cond b (sameList xs ys) false ≡ true → x ∷ xs ≡ y ∷ ys
     go rest true h f = rw (eqb-true x y h, rest f) refl
     go rest false h f = false-not-true f
+
+-- ---- keys
+
+pub key-at : (l : List ℕ) (n at : ℕ) → 0 < n → wordAt l (at + 2 * (n / 2)) ≡ keyOf (wordsAt l n at)
+unfolding keyOf
+key-at l n at h = sym (ap (λ k. getD (wordsAt l n at) (k / 2) 0) (words-at-length l n at) ∙ words-at-nth l n at (n / 2) (omega arith))
+
+-- other keys are other sets
+pub key-differs : (S T : List ℕ) → (keyOf S ≡ keyOf T → ⊥) → sameList S T ≡ false
+key-differs S T h = go (sameList S T) refl
+  where
+    go : (b : Bool) → sameList S T ≡ b → b ≡ false
+    go true e = absurd (h (ap keyOf (list-eq S T e)))
+    go false e = refl
 
 -- ---- the lowest group that stands for a set
 

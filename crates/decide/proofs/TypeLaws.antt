@@ -96,6 +96,7 @@ module _ (l ps : List ℕ) (t : ℕ) (c : check l ≡ none) (p : Placed l ps) (o
       let b = g .here .inside in
       let s = set-group l t k in
       record {
+        some = omega arith;
         room = omega (arith, g .even);
         are = rw e (sym (g .members) ∙ sym s);
         rising = rw s (g .rising);
@@ -107,7 +108,7 @@ module _ (l : List ℕ) (at t : ℕ) (is : t ≡ wordAt l at) (room : at + 1 < l
   span-basic k =
       let j : wordAt l at < 32768 = omega arith in
       let e = set-basic l (wordAt l at) j in
-      record { room = omega arith; are = sym e; rising = rw e (omega arith, type-basic (countOf l Groups) (wordAt l at) ok j, tt) }
+      record { some = omega arith; room = omega arith; are = sym e; rising = rw e (omega arith, type-basic (countOf l Groups) (wordAt l at) ok j, tt) }
 
   module _ (ps : List ℕ) (c : check l ≡ none) (p : Placed l ps) (k : 32768 ≤ t) where
     ours : IsType (countOf l Groups) t

@@ -21,12 +21,13 @@
 --     pairedIn l ms s       a live rule whose destination touches marks has s for its source
 --     sameList              two lists are the same
 --     twinFrom gs S k h     of k groups from h on the lowest that stands for S
+--     keyOf S               a set's middle member, by which most sets are told apart; Keys l keys, that of each group
 --     nameOf l S            the name of a set: its member, or 1,024 and the lowest group that stands for it
 --     NamesKept l names         what is kept of the groups' names: 1 more than the name, or 0
 --     reaching ms a         a live rule whose destination touches marks
 --     reachedOf l ms rs ts  a table of names with those of the sources of the rules that reach marks; noNames the empty one
 --     named l ts s          a set has its name in a table
-use Prim.Native.Nat.{ℕ, zero, suc, _+_, _-_, _*_, _≤_, _<_}
+use Prim.Native.Nat.{ℕ, zero, suc, _+_, _-_, _*_, _/_, _≤_, _<_}
 use mathlib.Core.Path.{_≡_}
 use mathlib.Core.Bool.{Bool, true, false, not, _&&_, cond}
 use mathlib.Core.Option.{Option, none, some}
@@ -58,6 +59,7 @@ pub record Places (l ps : List ℕ) : Type 0 where
   pub is : (g : ℕ) → getD ps g 0 ≡ placeIn l g
 
 pub record Spans (l : List ℕ) (from count : ℕ) (S : List ℕ) : Type 0 where
+  pub some : 0 < count
   pub room : from + 2 * count ≤ length l
   pub are : wordsAt l count from ≡ S
   pub rising : Rising 0 S
@@ -146,6 +148,12 @@ firstConstraint l q = foundOf (firstAt (fails (rulesIn l) (requestOf (groupsIn l
 unfoldable pub twinFrom : List (List ℕ) → List ℕ → ℕ → ℕ → ℕ
 twinFrom gs S zero h = h
 twinFrom gs S (suc k) h = cond (sameList S (setOf gs (32768 + h))) h (twinFrom gs S k (h + 1))
+
+unfoldable pub keyOf : List ℕ → ℕ
+keyOf S = getD S (length S / 2) 0
+
+pub record Keys (l keys : List ℕ) : Type 0 where
+  pub is : (g : ℕ) → g < countOf l Groups → getD keys g 0 ≡ keyOf (setOf (groupsIn l) (32768 + g))
 
 unfoldable pub nameOf : List ℕ → List ℕ → ℕ
 nameOf l S = cond (eqb (length S) 1) (getD S 0 0) (1024 + twinFrom (groupsIn l) S (countOf l Groups) 0)

@@ -13,13 +13,13 @@ use Rattle.decide.proofs.names.name.Tie as tie
 
 -- the group's number is within the table
 number : (d : tie.Else1) → d .before .word-at .result - 32768 < 256
-number d = let p = d .before .before .before .pre in omega (arith, group-number _ _ _ (d .before .word-at .ensures .0) (p .2) (p .3) _ (p .0) (p .1) (d .if1 .left), few-groups _ (p .0))
+number d = let p = d .before .before .before .pre in omega (arith, group-number _ _ _ (d .before .word-at .ensures .0) (p .3) (p .4) _ (p .0) (p .1) (d .if1 .left), few-groups _ (p .0))
 
 word-at-requires : tie.Need-word-at-requires
 word-at-requires c κs = search needs
 
 returns : tie.Need-returns
-returns c = (name-basic _ _ _ (c .before .word-at .ensures .0) (c .if1 .taken), c .before .before .before .pre .4)
+returns c = (name-basic _ _ _ (c .before .word-at .ensures .0) (c .if1 .taken), c .before .before .before .pre .5)
 
 mul-wide-word : tie.Need-mul-wide-word
 mul-wide-word c = omega (arith, number c)
@@ -34,14 +34,14 @@ sub-result : tie.Need-sub-result
 sub-result c = omega arith
 
 returns-2 : tie.Need-returns-2
-returns-2 c = let p = c .before .before .before .before .before .before .pre in (names-tell _ _ (p .4) _ _ (c .before .before .before .before .word-at .ensures .0) (c .before .before .before .if1 .left) _ (c .before .wide-word .ensures) (c .if2 .taken), p .4)
+returns-2 c = let p = c .before .before .before .before .before .before .pre in (names-tell _ _ (p .5) _ _ (c .before .before .before .before .word-at .ensures .0) (c .before .before .before .if1 .left) _ (c .before .wide-word .ensures) (c .if2 .taken), p .5)
 
 find-name-requires : tie.Need-find-name-requires
-find-name-requires c κs = let p = c .before .before .before .before .before .before .pre in (p .0, p .1, p .2, p .3)
+find-name-requires c κs = let p = c .before .before .before .before .before .before .pre in (p .0, p .1, p .2, p .3, p .4)
 
 -- the name that was found is small
 small : (d : tie.After-find-name) → d .find-name .result < 1280
-small d = let p = d .before .before .before .before .before .before .before .pre in omega (arith, name-small _ _ (p .0) (p .3), d .find-name .ensures)
+small d = let p = d .before .before .before .before .before .before .before .pre in omega (arith, name-small _ _ (p .0) (p .4), d .find-name .ensures)
 
 add-names : tie.Need-add-names
 add-names c = omega (arith, small c)
@@ -56,7 +56,7 @@ element-write-names : tie.Need-element-write-names
 element-write-names c = omega (arith, number (c .before .before .before .before))
 
 returns-3 : tie.Need-returns-3
-returns-3 c = let p = c .before .before .before .before .before .before .before .pre in (c .find-name .ensures, names-more _ _ (p .4) _ _ (c .before .before .before .before .before .word-at .ensures .0) (c .before .before .before .before .if1 .left) _ (c .find-name .ensures))
+returns-3 c = let p = c .before .before .before .before .before .before .before .pre in (c .find-name .ensures, names-more _ _ (p .5) _ _ (c .before .before .before .before .before .word-at .ensures .0) (c .before .before .before .before .if1 .left) _ (c .find-name .ensures))
 
 pub name-spec : {M : Type 1} → statement M
 name-spec =

@@ -18,58 +18,61 @@ use Rattle.decide.proofs.predicates.clashed.Statement.{statement}
 use Rattle.decide.proofs.predicates.clashed.Tie as tie
 
 abbrev Inv-loop : tie.InvT-loop
-Inv-loop image groups from first second names₀ table told₀ at₀ left₀ names told at left = (left ≤ left₀) × (left₀ ≡ countOf image Rules) × (at ≡ placeOf image Rules (left₀ - left)) × (anyOf (wanted first (named image table)) (rulesIn image) ≡ anyFrom (wanted first (named image table)) image left at) × Kept (anyMarked first) image told × NamesKept image names
+Inv-loop image groups from first second names₀ keys table told₀ at₀ left₀ names told at left = (left ≤ left₀) × (left₀ ≡ countOf image Rules) × (at ≡ placeOf image Rules (left₀ - left)) × (anyOf (wanted first (named image table)) (rulesIn image) ≡ anyFrom (wanted first (named image table)) image left at) × Kept (anyMarked first) image told × NamesKept image names
 
 abbrev μ-loop : tie.MeasureT-loop
-μ-loop image groups from first second names₀ table told₀ at₀ left₀ names told at left = left
+μ-loop image groups from first second names₀ keys table told₀ at₀ left₀ names told at left = left
 
-counted : (d : tie.After-word-at Inv-loop μ-loop) → d .word-at .result ≡ countOf (now (d .before .before .before .before .args .image)) Rules
+counted : (d : tie.After-word-at Inv-loop μ-loop) → d .word-at .result ≡ countOf (now (d .before .before .before .before .before .before .args .image)) Rules
 unfolding countOf countPlace
 counted d = d .word-at .ensures .0
 
 -- the rule at the running place
-here : (d : tie.In-loop Inv-loop μ-loop) → RuleAt (now (d .before .before .before .before .before .before .args .image)) (d .before .loop .at) (recordAt (now (d .before .before .before .before .before .before .args .image)) (d .before .loop .at))
+here : (d : tie.In-loop Inv-loop μ-loop) → RuleAt (now (d .before .before .before .before .before .before .before .before .args .image)) (d .before .loop .at) (recordAt (now (d .before .before .before .before .before .before .before .before .args .image)) (d .before .loop .at))
 here d =
     let L = d .before .loop in
-    rw (L .inv .2) (rule-at (now (d .before .before .before .before .before .before .args .image)) (d .before .before .before .before .before .before .pre .0) (d .before .before .word-at .result - L .left) (omega (arith, L .inv .0, L .inv .1)))
+    rw (L .inv .2) (rule-at (now (d .before .before .before .before .before .before .before .before .args .image)) (d .before .before .before .before .before .before .before .before .pre .0) (d .before .before .word-at .result - L .left) (omega (arith, L .inv .0, L .inv .1)))
 
 -- the test of a rule by the table is the test that a separation makes
 by-table :
     (d : tie.After-reached Inv-loop μ-loop)
-    → anyOf (wanted (now (d .before .before .before .args .first)) (pairedIn (now (d .before .before .before .args .image)) (now (d .before .before .before .args .second)))) (rulesIn (now (d .before .before .before .args .image)))
-    ≡ anyOf (wanted (now (d .before .before .before .args .first)) (named (now (d .before .before .before .args .image)) (d .reached .result))) (rulesIn (now (d .before .before .before .args .image)))
+    → anyOf (wanted (now (d .before .before .before .before .before .args .first)) (pairedIn (now (d .before .before .before .before .before .args .image)) (now (d .before .before .before .before .before .args .second)))) (rulesIn (now (d .before .before .before .before .before .args .image)))
+    ≡ anyOf (wanted (now (d .before .before .before .before .before .args .first)) (named (now (d .before .before .before .before .before .args .image)) (d .reached .result))) (rulesIn (now (d .before .before .before .before .before .args .image)))
 by-table d =
-    let l = now (d .before .before .before .args .image) in
-    let first = now (d .before .before .before .args .first) in
-    sym (clashed-is l (d .before .before .before .pre .0) (now (d .before .before .before .args .second)) first) ∙ ap (λ ts. anyOf (wanted first (named l ts)) (rulesIn l)) (sym (d .reached .ensures .0))
+    let l = now (d .before .before .before .before .before .args .image) in
+    let first = now (d .before .before .before .before .before .args .first) in
+    sym (clashed-is l (d .before .before .before .before .before .pre .0) (now (d .before .before .before .before .before .args .second)) first) ∙ ap (λ ts. anyOf (wanted first (named l ts)) (rulesIn l)) (sym (d .reached .ensures .0))
+
+group-keys-requires : tie.Need-group-keys-requires Inv-loop μ-loop
+group-keys-requires c κs = let p = c .before .pre in (p .0, p .1)
 
 reached-requires : tie.Need-reached-requires Inv-loop μ-loop
-reached-requires c κs = let p = c .before .before .pre in (p .0, p .1, p .2, p .3)
+reached-requires c κs = let p = c .before .before .before .before .pre in (p .0, p .1, c .before .before .group-keys .ensures, p .2, p .3)
 
 word-at-requires : tie.Need-word-at-requires Inv-loop μ-loop
-word-at-requires c κs = omega (arith, accepted-header _ (c .before .before .before .pre .0) .long)
+word-at-requires c κs = omega (arith, accepted-header _ (c .before .before .before .before .before .pre .0) .long)
 
 loop-holds : tie.Need-loop-holds Inv-loop μ-loop
-loop-holds c = let a = c .before .before .before .before in
+loop-holds c = let a = c .before .before .before .before .before .before in
     let e = any-rules-start (wanted (now (a .args .first)) (named (now (a .args .image)) (c .before .reached .result))) _ _ _ (a .pre .2) (counted c) in
     (omega arith, counted c, e .0, e .1, kept-none _ _ 256, c .before .reached .ensures .1)
 
 clashes-requires : tie.Need-clashes-requires Inv-loop μ-loop
-clashes-requires c κs = let p = c .before .before .before .before .before .before .before .before .before .pre in let I = c .before .before .before .before .loop .inv in (p .0, p .1, here (c .before .before .before), I .4, I .5)
+clashes-requires c κs = let p = c .before .before .before .before .before .before .before .before .before .before .before .before .pre in let I = c .before .before .before .before .before .loop .inv in (p .0, p .1, c .before .before .before .before .before .before .before .before .before .before .group-keys .ensures, here (c .before .before .before .before), I .4, I .5)
 
 returns : tie.Need-returns Inv-loop μ-loop
-returns c = let L = c .before .before .before .before .before .before .loop in
+returns c = let L = c .before .before .before .before .before .before .before .loop in
     let e : L .left ≡ suc (L .left - 1) = omega arith in
-    (sym (by-table (c .before .before .before .before .before .before .before .before) ∙ L .inv .3 ∙ any-rules-hit (wanted (now (c .before .before .before .before .before .before .before .before .before .before .before .args .first)) (named (now (c .before .before .before .before .before .before .before .before .before .before .before .args .image)) (c .before .before .before .before .before .before .before .before .reached .result))) _ _ _ _ e (sym (c .before .clashes .ensures .0) ∙ c .if1 .taken)), c .before .clashes .ensures .2)
+    (sym (by-table (c .before .before .before .before .before .before .before .before .before) ∙ L .inv .3 ∙ any-rules-hit (wanted (now (c .before .before .before .before .before .before .before .before .before .before .before .before .before .before .args .first)) (named (now (c .before .before .before .before .before .before .before .before .before .before .before .before .before .before .args .image)) (c .before .before .before .before .before .before .before .before .before .reached .result))) _ _ _ _ e (sym (c .before .clashes .ensures .0) ∙ c .if1 .taken)), c .before .clashes .ensures .2)
 
 shared-slice-read-wide : tie.Need-shared-slice-read-wide Inv-loop μ-loop
-shared-slice-read-wide c = let h = here (c .before .before .before .before .before .before) in omega (arith, h .long, h .here .inside)
+shared-slice-read-wide c = let h = here (c .before .before .before .before .before .before .before) in omega (arith, h .long, h .here .inside)
 
 wide-requires : tie.Need-wide-requires Inv-loop μ-loop
 wide-requires c κs = search needs
 
 add-at : tie.Need-add-at Inv-loop μ-loop
-add-at c = let h = here (c .before .before .before .before .before .before .before) in omega (arith, h .here .inside, h .here .size, c .wide .ensures .0)
+add-at c = let h = here (c .before .before .before .before .before .before .before .before) in omega (arith, h .here .inside, h .here .size, c .wide .ensures .0)
 
 sub-left : tie.Need-sub-left Inv-loop μ-loop
 sub-left c = omega arith
@@ -78,23 +81,23 @@ loop-less : tie.Need-loop-less Inv-loop μ-loop
 loop-less c = omega arith
 
 loop-again : tie.Need-loop-again Inv-loop μ-loop
-loop-again c = let L = c .before .before .before .before .before .before .before .before .loop in
-    let N : ℕ = c .before .before .before .before .before .before .before .before .before .word-at .result in
-    let l = now (c .before .before .before .before .before .before .before .before .before .before .before .before .before .args .image) in
+loop-again c = let L = c .before .before .before .before .before .before .before .before .before .loop in
+    let N : ℕ = c .before .before .before .before .before .before .before .before .before .before .word-at .result in
+    let l = now (c .before .before .before .before .before .before .before .before .before .before .before .before .before .before .before .before .args .image) in
     let e : L .left ≡ suc (L .left - 1) = omega arith in
     let z : N - (L .left - 1) ≡ N - L .left + 1 = omega (arith, L .inv .0) in
     let step : L .at + c .wide .result ≡ L .at + getD l (L .at) 0 = ap (λ x. L .at + x) (c .wide .ensures .0) in (
       omega (arith, L .inv .0),
       L .inv .1,
       step ∙ ap (λ x. x + getD l x 0) (L .inv .2) ∙ sym (place-next l Rules (N - L .left)) ∙ ap (placeOf l Rules) (sym z),
-      L .inv .3 ∙ any-rules-next _ _ _ _ _ e (sym (c .before .before .before .clashes .ensures .0) ∙ c .before .before .if1 .left) ∙ ap (anyFrom (wanted (now (c .before .before .before .before .before .before .before .before .before .before .before .before .before .args .first)) (named l (c .before .before .before .before .before .before .before .before .before .before .reached .result))) l (L .left - 1)) (sym step),
+      L .inv .3 ∙ any-rules-next _ _ _ _ _ e (sym (c .before .before .before .clashes .ensures .0) ∙ c .before .before .if1 .left) ∙ ap (anyFrom (wanted (now (c .before .before .before .before .before .before .before .before .before .before .before .before .before .before .before .before .args .first)) (named l (c .before .before .before .before .before .before .before .before .before .before .before .reached .result))) l (L .left - 1)) (sym step),
       c .before .before .before .clashes .ensures .1,
       c .before .before .before .clashes .ensures .2,
     )
 
 returns-2 : tie.Need-returns-2 Inv-loop μ-loop
 returns-2 c = let L = c .before .loop in
-    (sym (by-table (c .before .before .before) ∙ L .inv .3 ∙ any-rules-end (wanted (now (c .before .before .before .before .before .before .args .first)) (named (now (c .before .before .before .before .before .before .args .image)) (c .before .before .before .reached .result))) _ _ _ (omega arith)), L .inv .5)
+    (sym (by-table (c .before .before .before) ∙ L .inv .3 ∙ any-rules-end (wanted (now (c .before .before .before .before .before .before .before .before .args .first)) (named (now (c .before .before .before .before .before .before .before .before .args .image)) (c .before .before .before .reached .result))) _ _ _ (omega arith)), L .inv .5)
 
 pub clashed-spec : {M : Type 1} → statement M
 clashed-spec =
@@ -102,6 +105,7 @@ clashed-spec =
     (tie.spec
     Inv-loop
     μ-loop
+    group-keys-requires
     reached-requires
     word-at-requires
     loop-holds

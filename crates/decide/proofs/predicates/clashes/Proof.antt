@@ -11,22 +11,22 @@ use Rattle.decide.proofs.predicates.clashes.Statement.{statement}
 use Rattle.decide.proofs.predicates.clashes.Tie as tie
 
 reaches-requires : tie.Need-reaches-requires
-reaches-requires c κs = let p = c .before .before .pre in (p .0, p .1, p .2, p .3)
+reaches-requires c κs = let p = c .before .before .pre in (p .0, p .1, p .3, p .4)
 
 returns : tie.Need-returns
-returns c = let a = c .before .before .before .before in (sym (unwanted-far _ _ _ (a .pre .2) (now (a .args .first)) (named (now (a .args .image)) (now (a .args .table))) (sym (c .before .reaches .ensures .0) ∙ not-true _ (c .if1 .taken))), c .before .reaches .ensures .1, a .pre .4)
+returns c = let a = c .before .before .before .before in (sym (unwanted-far _ _ _ (a .pre .3) (now (a .args .first)) (named (now (a .args .image)) (now (a .args .table))) (sym (c .before .reaches .ensures .0) ∙ not-true _ (c .if1 .taken))), c .before .reaches .ensures .1, a .pre .5)
 
 add-name : tie.Need-add-name
-add-name c = let h = c .before .before .before .before .pre .2 in omega (arith, h .long, h .here .inside)
+add-name c = let h = c .before .before .before .before .pre .3 in omega (arith, h .long, h .here .inside)
 
 name-requires : tie.Need-name-requires
-name-requires c κs = let p = c .before .before .before .before .before .pre in (p .0, p .1, omega (arith, p .2 .long, p .2 .here .inside), p .2 .source, p .4)
+name-requires c κs = let p = c .before .before .before .before .before .pre in (p .0, p .1, p .2, omega (arith, p .3 .long, p .3 .here .inside), p .3 .source, p .5)
 
 element-copy-out-result : tie.Need-element-copy-out-result
-element-copy-out-result c = let p = c .before .before .before .before .before .before .pre in omega (arith, name-small _ _ (p .0) (p .2 .source), c .name .ensures .0)
+element-copy-out-result c = let p = c .before .before .before .before .before .before .pre in omega (arith, name-small _ _ (p .0) (p .3 .source), c .name .ensures .0)
 
 returns-2 : tie.Need-returns-2
-returns-2 c = let a = c .before .before .before .before .before .before .before in (ap (λ n. getD (now (a .args .table)) n false) (c .before .name .ensures .0) ∙ sym (wanted-near _ _ _ (a .pre .2) (now (a .args .first)) (named (now (a .args .image)) (now (a .args .table))) (sym (c .before .before .before .before .reaches .ensures .0) ∙ not-false _ (c .before .before .before .if1 .left))), c .before .before .before .before .reaches .ensures .1, c .before .name .ensures .1)
+returns-2 c = let a = c .before .before .before .before .before .before .before in (ap (λ n. getD (now (a .args .table)) n false) (c .before .name .ensures .0) ∙ sym (wanted-near _ _ _ (a .pre .3) (now (a .args .first)) (named (now (a .args .image)) (now (a .args .table))) (sym (c .before .before .before .before .reaches .ensures .0) ∙ not-false _ (c .before .before .before .if1 .left))), c .before .before .before .before .reaches .ensures .1, c .before .name .ensures .1)
 
 pub clashes-spec : {M : Type 1} → statement M
 clashes-spec =

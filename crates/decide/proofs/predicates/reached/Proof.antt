@@ -19,10 +19,10 @@ use Rattle.decide.proofs.predicates.reached.Statement.{statement}
 use Rattle.decide.proofs.predicates.reached.Tie as tie
 
 abbrev Inv-loop : tie.InvT-loop
-Inv-loop image groups from marks names₀ table₀ told₀ at₀ left₀ names table told at left = (left ≤ left₀) × (left₀ ≡ countOf image Rules) × (at ≡ placeOf image Rules (left₀ - left)) × (reachedOf image marks (rulesIn image) noNames ≡ reachedFrom image marks left at table) × Kept (anyMarked marks) image told × NamesKept image names
+Inv-loop image groups keys from marks names₀ table₀ told₀ at₀ left₀ names table told at left = (left ≤ left₀) × (left₀ ≡ countOf image Rules) × (at ≡ placeOf image Rules (left₀ - left)) × (reachedOf image marks (rulesIn image) noNames ≡ reachedFrom image marks left at table) × Kept (anyMarked marks) image told × NamesKept image names
 
 abbrev μ-loop : tie.MeasureT-loop
-μ-loop image groups from marks names₀ table₀ told₀ at₀ left₀ names table told at left = left
+μ-loop image groups keys from marks names₀ table₀ told₀ at₀ left₀ names table told at left = left
 
 counted : (d : tie.After-word-at Inv-loop μ-loop) → d .word-at .result ≡ countOf (now (d .before .before .args .image)) Rules
 unfolding countOf countPlace
@@ -53,8 +53,8 @@ word-at-requires c κs = omega (arith, accepted-header _ (c .before .pre .0) .lo
 loop-holds : tie.Need-loop-holds Inv-loop μ-loop
 unfolding noNames
 loop-holds c = let a = c .before .before in
-    let e = reached-start _ (now (a .args .marks)) _ _ (a .pre .2) (counted c) in
-    (omega arith, counted c, e .0, e .1, kept-none _ _ 256, a .pre .3)
+    let e = reached-start _ (now (a .args .marks)) _ _ (a .pre .3) (counted c) in
+    (omega arith, counted c, e .0, e .1, kept-none _ _ 256, a .pre .4)
 
 reaches-requires : tie.Need-reaches-requires Inv-loop μ-loop
 reaches-requires c κs = (c .before .before .before .before .before .pre .0, c .before .before .before .before .before .pre .1, here (c .before), c .before .before .loop .inv .4)
@@ -63,7 +63,7 @@ add-name : tie.Need-add-name Inv-loop μ-loop
 add-name c = let h = here (c .before .before .before) in omega (arith, h .long, h .here .inside)
 
 name-requires : tie.Need-name-requires Inv-loop μ-loop
-name-requires c κs = let h = here (c .before .before .before .before) in (c .before .before .before .before .before .before .before .before .pre .0, c .before .before .before .before .before .before .before .before .pre .1, omega (arith, h .long, h .here .inside), h .source, c .before .before .before .before .before .loop .inv .5)
+name-requires c κs = let h = here (c .before .before .before .before) in (c .before .before .before .before .before .before .before .before .pre .0, c .before .before .before .before .before .before .before .before .pre .1, c .before .before .before .before .before .before .before .before .pre .2, omega (arith, h .long, h .here .inside), h .source, c .before .before .before .before .before .loop .inv .5)
 
 array-write-table : tie.Need-array-write-table Inv-loop μ-loop
 array-write-table c = omega (arith, name-small _ _ (c .before .before .before .before .before .before .before .before .before .pre .0) (here (c .before .before .before .before .before) .source), c .name .ensures .0)
