@@ -33,6 +33,7 @@ fn put_byte(byte: u8, output: &mut [u8], at: usize) -> usize
     at + 1
 }
 
+// A number in decimal, from its last digit to its first.
 fn put_number(n: usize, output: &mut [u8], at: usize) -> usize
     requires { ⌜ at + 20 ≤ length (now output) ⌝ }
     ensures { λ r. ⌜ Put (now (output .entry)) (now (output .exit)) at r (decimal n) × (r ≤ at + 20) ⌝ }
@@ -48,6 +49,7 @@ fn put_number(n: usize, output: &mut [u8], at: usize) -> usize
     end
 }
 
+// A space and a number.
 fn put_field(n: usize, output: &mut [u8], at: usize) -> usize
     requires { ⌜ at + 21 ≤ length (now output) ⌝ }
     ensures { λ r. ⌜ Put (now (output .entry)) (now (output .exit)) at r (field n) × (r ≤ at + 21) ⌝ }
@@ -56,6 +58,7 @@ fn put_field(n: usize, output: &mut [u8], at: usize) -> usize
     put_number(n, output, from)
 }
 
+// A line of a letter and two numbers.
 fn put_pair(letter: u8, a: usize, b: usize, output: &mut [u8], at: usize) -> usize
     requires { ⌜ at + 44 ≤ length (now output) ⌝ }
     ensures { λ r. ⌜ Put (now (output .entry)) (now (output .exit)) at r (pairLine letter a b) × (r ≤ at + 44) ⌝ }
@@ -66,6 +69,7 @@ fn put_pair(letter: u8, a: usize, b: usize, output: &mut [u8], at: usize) -> usi
     put_byte(b'\n', output, end)
 }
 
+// P and the rule.
 fn put_permitted(rule: usize, output: &mut [u8], at: usize) -> usize
     requires { ⌜ at + 44 ≤ length (now output) ⌝ }
     ensures { λ r. ⌜ Put (now (output .entry)) (now (output .exit)) at r (80 ∷ (field rule ++ (10 ∷ []))) × (r ≤ at + 44) ⌝ }
@@ -75,6 +79,7 @@ fn put_permitted(rule: usize, output: &mut [u8], at: usize) -> usize
     put_byte(b'\n', output, end)
 }
 
+// N alone.
 fn put_not_permitted(output: &mut [u8], at: usize) -> usize
     requires { ⌜ at + 44 ≤ length (now output) ⌝ }
     ensures { λ r. ⌜ Put (now (output .entry)) (now (output .exit)) at r (78 ∷ 10 ∷ []) × (r ≤ at + 44) ⌝ }
@@ -83,7 +88,8 @@ fn put_not_permitted(output: &mut [u8], at: usize) -> usize
     put_byte(b'\n', output, end)
 }
 
-// The line of an answer, of at most 44 bytes.
+// The line of an answer. It has at most 44 bytes: a letter, two numbers of at most 20 digits with their spaces, and a line
+// feed.
 pub(crate) fn put_line(answer: Answer, output: &mut [u8], at: usize) -> usize
     requires { ⌜ at + 44 ≤ length (now output) ⌝ }
     ensures { λ r. ⌜ Put (now (output .entry)) (now (output .exit)) at r (line (answerOutcome answer)) × (r ≤ at + 44) ⌝ }

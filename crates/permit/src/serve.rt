@@ -27,7 +27,8 @@ fn query_at(input: &[u8], at: usize) -> Query
     }
 }
 
-// The lines of the whole queries of the input, one behind the other; the place past them. A line has at most 44 bytes.
+// Puts the lines of the input's whole queries at the front of the output, one behind the other, and tells how many bytes
+// they are. A line has at most 44 bytes, fewer than 6 for each byte of its query.
 fn put_answers(
     image: &[u8],
     groups: &[usize; 256],
@@ -48,12 +49,14 @@ fn put_answers(
     end
 }
 
+// 16,384 zeros: 2,048 queries. The `ensures` gives only the length, which lending the array needs.
 fn input_space() -> [u8; 16384]
     ensures { λ r. ⌜ 16384 ≡ length r ⌝ }
 {
     [0; 16384]
 }
 
+// 98,304 zeros: the lines of so many queries fit.
 fn output_space() -> [u8; 98304]
     ensures { λ r. ⌜ 98304 ≡ length r ⌝ }
 {
