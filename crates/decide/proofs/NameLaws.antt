@@ -17,12 +17,12 @@ use Rattle.format.specs.Policy.{policyOf, recordAt, recordsAt, startOf, placeOf
 use Rattle.format.specs.Check.{check}
 use Rattle.format.specs.Claims.{IsType}
 use Rattle.format.proofs.Tests.{false-not-true}
-use Rattle.format.proofs.Fields.{Rising}
+use Rattle.format.proofs.Fields.{Rising, rising-basic}
 use Rattle.format.proofs.Accepted.{place-next}
 use Rattle.format.proofs.Places.{wordsAt, words-at-length, words-at-nth, RuleAt, rule-at}
 use Rattle.decision.specs.Sets.{anyOf, setOf, sameSet}
 use Rattle.decision.specs.Decide.{Rule, ruleOf, live}
-use Rattle.decide.specs.Walks.{groupsIn, rulesIn, Spans, anyMarked, wanted, pairedIn, sameList, twinFrom, keyOf, nameOf, NamesKept, reaching, reachedOf, noNames, named}
+use Rattle.decide.specs.Walks.{groupsIn, rulesIn, Spans, anyMarked, wanted, pairedIn, sameList, twinFrom, keyOf, Firsts, nameOf, NamesKept, reaching, reachedOf, noNames, named}
 use Rattle.decide.proofs.ArrayLaws.{blank, by-set}
 use Rattle.decide.proofs.TypeLaws.{few-groups, set-basic, set-rising}
 use Rattle.decide.proofs.CompareLaws.{same-is}
@@ -74,6 +74,13 @@ module _ (gs : List (List ℕ)) (S : List ℕ) where
       pub twin-next : sameList S (setOf gs (32768 + h)) ≡ false → twinFrom gs S k h ≡ twinFrom gs S j (h + 1)
       unfolding twinFrom
       twin-next e = rw more (simp e)
+
+  -- the search may start past groups that do not stand for it
+  pub twin-skip : (n h : ℕ) → h ≤ n → ((i : ℕ) → i < h → sameList S (setOf gs (32768 + i)) ≡ false) → twinFrom gs S n 0 ≡ twinFrom gs S (n - h) h
+  twin-skip n zero p other = let z : n ≡ n - 0 = omega arith in ap (λ k. twinFrom gs S k 0) z
+  twin-skip n (suc h) p other =
+      let z : h + 1 ≡ suc h = omega arith in
+      twin-skip n h (omega arith) (λ i k. other i (omega arith)) ∙ twin-next (n - h) h (n - suc h) (omega arith) (other h (omega arith)) ∙ ap (twinFrom gs S (n - suc h)) z
 
   -- where group g stands for it, one is found
   module _ (g : ℕ) (is : S ≡ setOf gs (32768 + g)) where
@@ -145,6 +152,39 @@ name-same l t u c okt oku = go (sameList S T) refl ∙ sym (same-is S T 0 0 (set
         ne-eqb (nameOf l T) (nameOf l S)
         (λ q. false-not-true (sym e ∙ ap (sameList S) (sym (name-back l u c oku .0) ∙ ap (setNamed l) q ∙ name-back l t c okt .0) ∙ list-same S))
 
+-- ---- the lowest group by key
+
+pub key-small : (S : List ℕ) → Rising 0 S → 0 < length S → keyOf S < 1024
+unfolding keyOf
+key-small S r h = rising-basic 0 S r (length S / 2) (omega arith)
+
+module _ (l firsts : List ℕ) where
+  -- a group with a key that has an entry
+  pub firsts-more :
+      (left k : ℕ) → 0 < left → k < length firsts → k ≡ keyOf (setOf (groupsIn l) (32768 + (left - 1))) → ((g : ℕ) → left ≤ g → g < countOf l Groups → getD firsts (keyOf (setOf (groupsIn l) (32768 + g))) 0 ≤ g + 1)
+      → (g : ℕ) → left - 1 ≤ g → g < countOf l Groups → getD (set firsts k left) (keyOf (setOf (groupsIn l) (32768 + g))) 0 ≤ g + 1
+  firsts-more left k pos small is all g h c = go (eqb (keyOf (setOf (groupsIn l) (32768 + g))) k) refl
+    where
+      go : (b : Bool) → eqb (keyOf (setOf (groupsIn l) (32768 + g))) k ≡ b → getD (set firsts k left) (keyOf (setOf (groupsIn l) (32768 + g))) 0 ≤ g + 1
+      go true e = rw (eqb-true (keyOf (setOf (groupsIn l) (32768 + g))) k e, getD-set-same firsts k left 0 small) (omega arith)
+      go false e =
+          let differ = eqb-false (keyOf (setOf (groupsIn l) (32768 + g))) k e in
+          let above : g ≡ left - 1 → ⊥ = λ q. differ (ap (λ i. keyOf (setOf (groupsIn l) (32768 + i))) q ∙ sym is) in
+          rw (getD-set-other firsts k (keyOf (setOf (groupsIn l) (32768 + g))) left 0 differ) (all g (omega (arith, above)) c)
+
+  -- the search for a group's twin may start at the entry of its key, and that is not above the group
+  pub twin-start :
+      (g h : ℕ) → Firsts l firsts → g < countOf l Groups → h ≡ getD firsts (keyOf (setOf (groupsIn l) (32768 + g))) 0 - 1
+      → (h ≤ g) × (twinFrom (groupsIn l) (setOf (groupsIn l) (32768 + g)) (countOf l Groups) 0 ≡ twinFrom (groupsIn l) (setOf (groupsIn l) (32768 + g)) (countOf l Groups - h) h)
+  twin-start g h f c e =
+      let S : List ℕ = setOf (groupsIn l) (32768 + g) in
+      let low : h ≤ g = omega (arith, f .is g c) in
+      (low, twin-skip (groupsIn l) S (countOf l Groups) h (omega arith) (λ i k. key-differs S (setOf (groupsIn l) (32768 + i)) (λ q. absurd (omega (arith, subst (λ x. getD firsts x 0 ≤ i + 1) (sym q) (f .is i (omega arith)))))))
+
+-- at the latest the group itself
+pub twin-itself : (l : List ℕ) (g h : ℕ) → g < countOf l Groups → h ≡ g → twinFrom (groupsIn l) (setOf (groupsIn l) (32768 + g)) (countOf l Groups - h) h ≡ g
+twin-itself l g h c e = twin-hit (groupsIn l) (setOf (groupsIn l) (32768 + g)) (countOf l Groups - h) h (countOf l Groups - (h + 1)) (omega arith) (ap (λ i. sameList (setOf (groupsIn l) (32768 + g)) (setOf (groupsIn l) (32768 + i))) e ∙ list-same (setOf (groupsIn l) (32768 + g))) ∙ e
+
 -- ---- a name, as the code finds it
 
 module _ (l S : List ℕ) where
@@ -169,6 +209,9 @@ pub name-basic : (l : List ℕ) (t w : ℕ) → t ≡ w → t < 32768 → t ≡ 
 name-basic l t w is h =
     let e : setOf (groupsIn l) w ≡ w ∷ [] = set-basic l w (omega arith) in
     is ∙ sym (name-single l (setOf (groupsIn l) w) (ap length e) ∙ ap (λ x. getD x 0 0) e)
+
+pub name-number : (l : List ℕ) (t w n : ℕ) → t ≡ w → 32768 ≤ t → n ≡ nameOf l (setOf (groupsIn l) (32768 + (t - 32768))) → n ≡ nameOf l (setOf (groupsIn l) w)
+name-number l t w n is h e = let z : 32768 + (t - 32768) ≡ w = omega arith in e ∙ ap (λ x. nameOf l (setOf (groupsIn l) x)) z
 
 pub names-none : (l : List ℕ) → NamesKept l (replicate 256 0)
 names-none l = record { is = λ g h. absurd (omega (arith, h, blank {A = ℕ} 0 256 g)) }

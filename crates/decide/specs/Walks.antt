@@ -21,7 +21,8 @@
 --     pairedIn l ms s       a live rule whose destination touches marks has s for its source
 --     sameList              two lists are the same
 --     twinFrom gs S k h     of k groups from h on the lowest that stands for S
---     keyOf S               a set's middle member, by which most sets are told apart; Keys l keys, that of each group
+--     keyOf S               a set's middle member, by which most sets are told apart
+--     Firsts l firsts       by key, 1 more than a group that is not above the lowest with that key, or 0
 --     nameOf l S            the name of a set: its member, or 1,024 and the lowest group that stands for it
 --     NamesKept l names         what is kept of the groups' names: 1 more than the name, or 0
 --     reaching ms a         a live rule whose destination touches marks
@@ -152,8 +153,8 @@ twinFrom gs S (suc k) h = cond (sameList S (setOf gs (32768 + h))) h (twinFrom g
 unfoldable pub keyOf : List ℕ → ℕ
 keyOf S = getD S (length S / 2) 0
 
-pub record Keys (l keys : List ℕ) : Type 0 where
-  pub is : (g : ℕ) → g < countOf l Groups → getD keys g 0 ≡ keyOf (setOf (groupsIn l) (32768 + g))
+pub record Firsts (l firsts : List ℕ) : Type 0 where
+  pub is : (g : ℕ) → g < countOf l Groups → getD firsts (keyOf (setOf (groupsIn l) (32768 + g))) 0 ≤ g + 1
 
 unfoldable pub nameOf : List ℕ → List ℕ → ℕ
 nameOf l S = cond (eqb (length S) 1) (getD S 0 0) (1024 + twinFrom (groupsIn l) S (countOf l Groups) 0)

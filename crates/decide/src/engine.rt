@@ -3,7 +3,7 @@ use crate::constraint::first_constraint;
 use crate::cover::Found;
 use crate::cover::first_rule;
 use crate::sets::mark_type;
-use crate::types::places;
+use crate::types::place_groups;
 use crate::word::wide_word;
 use crate::word::word_at;
 use decision::Answer;
@@ -36,15 +36,19 @@ pub struct Prepared {
 pub fn prepare(image: &[u8]) -> Prepared
     ensures { λ r. ⌜ Prepares (now (image .entry)) r ⌝ }
 {
+    let mut groups = [0usize; 256];
     match layout(image) {
         Sections::Refused(f) => Prepared {
             sections: Sections::Refused(f),
-            groups: [0; 256],
+            groups,
         },
-        Sections::At(s) => Prepared {
-            sections: Sections::At(s),
-            groups: places(image),
-        },
+        Sections::At(s) => {
+            place_groups(image, &mut groups);
+            Prepared {
+                sections: Sections::At(s),
+                groups,
+            }
+        }
     }
 }
 
@@ -117,7 +121,8 @@ pub fn decide(image: &[u8], q: Query) -> Answer
     match layout(image) {
         Sections::Refused(f) => Answer::Refused(f),
         Sections::At(s) => {
-            let groups = places(image);
+            let mut groups = [0usize; 256];
+            place_groups(image, &mut groups);
             decide_prepared(image, &groups, s, q)
         }
     }

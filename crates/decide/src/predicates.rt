@@ -1,7 +1,7 @@
 // What the predicates ask of the rules: live ones alone, of every class and action.
 use crate::kept::among;
 use crate::kept::meets;
-use crate::names::group_keys;
+use crate::names::first_groups;
 use crate::names::name;
 use crate::word::wide;
 use crate::word::word_at;
@@ -15,7 +15,7 @@ ghost use Rattle.format.specs.Check.{check};
 ghost use Rattle.format.proofs.Places.{RuleAt};
 ghost use Rattle.decision.specs.Sets.{anyOf};
 ghost use Rattle.decision.specs.Decide.{ruleOf};
-ghost use Rattle.decide.specs.Walks.{groupsIn, rulesIn, Placed, Kept, Keys, NamesKept, anyMarked, allMarked, liveAt, wanted, strays, friend, reaching, reachedOf, noNames, named, pairedIn};
+ghost use Rattle.decide.specs.Walks.{groupsIn, rulesIn, Placed, Kept, Firsts, NamesKept, anyMarked, allMarked, liveAt, wanted, strays, friend, reaching, reachedOf, noNames, named, pairedIn};
 
 // Whether the rule at a place is an allow rule that is on.
 fn on(image: &[u8], at: usize) -> bool
@@ -143,12 +143,12 @@ fn reaches(
 fn reached(
     image: &[u8],
     groups: &[usize; 256],
-    keys: &[u16; 256],
+    firsts: &[u16; 1024],
     from: usize,
     marks: &[bool; 1024],
     names: &mut [u16; 256],
 ) -> [bool; 1280]
-    requires { ⌜ (check (now image) ≡ none) × Placed (now image) (now groups) × Keys (now image) (now keys) × (from ≡ startOf (now image) Rules) × NamesKept (now image) (now names) ⌝ }
+    requires { ⌜ (check (now image) ≡ none) × Placed (now image) (now groups) × Firsts (now image) (now firsts) × (from ≡ startOf (now image) Rules) × NamesKept (now image) (now names) ⌝ }
     ensures { λ r. ⌜ (r ≡ reachedOf (now (image .entry)) (now (marks .entry)) (rulesIn (now (image .entry))) noNames) × NamesKept (now (image .entry)) (now (names .exit)) ⌝ }
 {
     let mut table = [false; 1280];
@@ -157,7 +157,7 @@ fn reached(
     let mut left = word_at(image, 5);
     while 0 < left {
         if reaches(image, groups, at, marks, &mut told) {
-            table[name(image, groups, keys, at + 2, names)] = true;
+            table[name(image, groups, firsts, at + 2, names)] = true;
         }
         at += wide(image[at]);
         left -= 1;
@@ -169,20 +169,20 @@ fn reached(
 fn clashes(
     image: &[u8],
     groups: &[usize; 256],
-    keys: &[u16; 256],
+    firsts: &[u16; 1024],
     at: usize,
     first: &[bool; 1024],
     table: &[bool; 1280],
     told: &mut [u8; 256],
     names: &mut [u16; 256],
 ) -> bool
-    requires { ⌜ (check (now image) ≡ none) × Placed (now image) (now groups) × Keys (now image) (now keys) × RuleAt (now image) at (recordAt (now image) at) × Kept (anyMarked (now first)) (now image) (now told) × NamesKept (now image) (now names) ⌝ }
+    requires { ⌜ (check (now image) ≡ none) × Placed (now image) (now groups) × Firsts (now image) (now firsts) × RuleAt (now image) at (recordAt (now image) at) × Kept (anyMarked (now first)) (now image) (now told) × NamesKept (now image) (now names) ⌝ }
     ensures { λ r. ⌜ (r ≡ wanted (now (first .entry)) (named (now (image .entry)) (now (table .entry))) (ruleOf (groupsIn (now (image .entry))) (recordAt (now (image .entry)) at))) × Kept (anyMarked (now (first .entry))) (now (image .entry)) (now (told .exit)) × NamesKept (now (image .entry)) (now (names .exit)) ⌝ }
 {
     if !reaches(image, groups, at, first, told) {
         return false;
     }
-    table[name(image, groups, keys, at + 2, names)]
+    table[name(image, groups, firsts, at + 2, names)]
 }
 
 // Whether a rule breaks a separation, whose arguments are marked: the sources that reach the second are gathered first.
@@ -197,13 +197,13 @@ pub(crate) fn clashed(
     requires { ⌜ (check (now image) ≡ none) × Placed (now image) (now groups) × (from ≡ startOf (now image) Rules) × NamesKept (now image) (now names) ⌝ }
     ensures { λ r. ⌜ (r ≡ anyOf (wanted (now (first .entry)) (pairedIn (now (image .entry)) (now (second .entry)))) (rulesIn (now (image .entry)))) × NamesKept (now (image .entry)) (now (names .exit)) ⌝ }
 {
-    let keys = group_keys(image, groups);
-    let table = reached(image, groups, &keys, from, second, names);
+    let firsts = first_groups(image, groups);
+    let table = reached(image, groups, &firsts, from, second, names);
     let mut told = [0u8; 256];
     let mut at = from;
     let mut left = word_at(image, 5);
     while 0 < left {
-        if clashes(image, groups, &keys, at, first, &table, &mut told, names) {
+        if clashes(image, groups, &firsts, at, first, &table, &mut told, names) {
             return true;
         }
         at += wide(image[at]);

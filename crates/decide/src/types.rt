@@ -4,7 +4,7 @@ use crate::word::word_at;
 ghost use mathlib.Core.Path.{_≡_};
 ghost use mathlib.Core.Option.{none};
 ghost use Prim.Native.Nat.{_+_, _<_};
-ghost use lib.ListN.{length};
+ghost use lib.ListN.{length, replicate};
 ghost use Rattle.format.specs.declared.Section.the-variants.{Groups};
 ghost use Rattle.format.specs.Bytes.{wordAt};
 ghost use Rattle.format.specs.Format.{countOf};
@@ -19,19 +19,17 @@ pub(crate) struct Span {
     pub count: usize,
 }
 
-// The place of each group, and 0 past the groups.
-pub(crate) fn places(image: &[u8]) -> [usize; 256]
-    requires { ⌜ check (now image) ≡ none ⌝ }
-    ensures { λ r. ⌜ Places (now (image .entry)) r ⌝ }
+// Puts the place of each group into a table of zeros.
+pub(crate) fn place_groups(image: &[u8], found: &mut [usize; 256])
+    requires { ⌜ (check (now image) ≡ none) × (now found ≡ replicate 256 0) ⌝ }
+    ensures { λ _. ⌜ Places (now (image .entry)) (now (found .exit)) ⌝ }
 {
-    let mut found = [0usize; 256];
     let groups = word_at(image, 3);
     let mut at: usize = 9;
     for g in 0..groups {
         found[g] = at;
         at += wide(image[at]);
     }
-    found
 }
 
 // The members of a group.

@@ -1,28 +1,15 @@
--- Laws of the lines, of what is put into a buffer, and of a policy that was prepared. Assumes nothing.
+-- Laws of the lines, and of what is put into a buffer. Assumes nothing.
 use Prim.Native.Nat.{ℕ, zero, suc, _+_, _-_, _/_, _%_, _≤_, _<_}
 use native.Mathlib.Numerals.{add-one}
 use native.Mathlib.Omega.{arith}
 use mathlib.Core.Path.{_≡_, refl, sym, subst, ap, _∙_}
-use mathlib.Core.Bool.{cond}
-use mathlib.Core.Option.{none}
 use mathlib.Core.List.{List, [], _∷_, _++_, append-assoc, append-nil}
 use lib.ListN.{length, getD, set, take, drop, length-append, length-drop, length-set}
 use lib.Seq.{append-snoc, drop-cons, getD-set-same, getD-set-other, getD-drop, drop-set-lt, take-suc, take-suc-set, take-set-le, take-add}
 use borrow.Author.Tests.{lt-ltb, le-ltb}
-use Rattle.format.specs.declared.Section.the-variants.{Groups}
-use Rattle.format.specs.declared.Starts.{Starts}
-use Rattle.format.specs.declared.Sections.the-variants.{At}
-use Rattle.format.specs.Format.{countOf}
-use Rattle.format.specs.Policy.{placeOf}
-use Rattle.format.specs.Check.{check}
-use Rattle.format.specs.Answers.{sectionsOutcome, starts}
-use Rattle.format.proofs.Chain.{outcome-gives}
 use Rattle.decision.specs.declared.Query.{Query}
 use Rattle.decision.specs.declared.Answer.{Answer}
 use Rattle.decision.specs.Decide.{answer, answerOutcome}
-use Rattle.decide.specs.declared.engine.Prepared.{Prepared}
-use Rattle.decide.specs.Walks.{placeIn}
-use Rattle.decide.specs.Ready.{unless, groupPlace, Prepares, Ready}
 use Rattle.permit.specs.Lines.{widthFrom, width, digits, decimal, pairLine, line, queryAt, linesFrom, lines, Put}
 
 -- ---- the width of a number
@@ -162,18 +149,3 @@ module _ (l b : List ℕ) where
   lines-end out at end h is =
       let z : (length b - at) / 8 ≡ 0 = omega arith in
       sym (is ∙ ap (λ x. take end out ++ linesFrom l b x at) z ∙ append-nil (take end out))
-
--- ---- a prepared policy
-
-pub prepared-ready : (l : List ℕ) (p : Prepared) (s : Starts) → Prepares l p → p .sections ≡ At s → Ready l (p .groups) s
-unfolding groupPlace placeIn
-prepared-ready l p s r e =
-    let k : (check l ≡ none) × (s ≡ starts l) = outcome-gives _ _ (sym (ap sectionsOutcome e) ∙ r .sections) in
-    record {
-      accepted = k .0;
-      placed =
-          record {
-            is = λ g h. r .groups g ∙ ap (λ f. unless f (placeIn l g)) (k .0) ∙ ap (λ b. cond b (placeOf l Groups g) 0) (lt-ltb g (countOf l Groups) h);
-          };
-      starting = k .1;
-    }

@@ -3,7 +3,7 @@ use borrow.Author.Needs.{needs}
 use native.Mathlib.Omega.{arith}
 use mathlib.Core.Path.{sym}
 use lib.Seq.{length-take-le}
-use Rattle.permit.proofs.Laws.{prepared-ready}
+use Rattle.decide.proofs.EngineLaws.{prepares-ready}
 use Rattle.permit.proofs.main.Statement.{statement}
 use Rattle.permit.proofs.main.Tie as tie
 
@@ -38,7 +38,7 @@ enum-known-sections-2 : tie.Need-enum-known-sections-2
 enum-known-sections-2 c = search needs
 
 serve-requires : tie.Need-serve-requires
-serve-requires c κs = prepared-ready _ _ _ (c .before .before .before .before .before .prepare .ensures) (c .before .before .sections2 .given .1)
+serve-requires c κs = prepares-ready _ _ _ (c .before .before .before .before .before .prepare .ensures) (c .before .before .sections2 .given .1)
 
 returns : tie.Need-returns
 returns c = search needs

@@ -1,6 +1,6 @@
 -- `decide` meets its contract: the check first, then what an accepted policy answers. Assumes nothing.
 use borrow.Author.Needs.{needs}
-use mathlib.Core.Path.{_≡_, sym, ap, _∙_}
+use mathlib.Core.Path.{_≡_, refl, sym, ap, _∙_}
 use mathlib.Core.Option.{none}
 use denote.Ref.{now}
 use Rattle.format.specs.Check.{check}
@@ -24,11 +24,11 @@ enum-known-f c = search needs
 enum-known-s : tie.Need-enum-known-s
 enum-known-s c = search needs
 
-places-requires : tie.Need-places-requires
-places-requires c κs = accepted (c .before) .0
+place-groups-requires : tie.Need-place-groups-requires
+place-groups-requires c κs = (accepted (c .before .before) .0, refl)
 
 decide-prepared-requires : tie.Need-decide-prepared-requires
-decide-prepared-requires c κs = let k = accepted (c .before .before .before) in record { accepted = k .0; placed = places-placed _ _ (c .before .places .ensures); starting = k .1 }
+decide-prepared-requires c κs = let k = accepted (c .before .before .before .before) in record { accepted = k .0; placed = places-placed _ _ (c .before .place-groups .ensures); starting = k .1 }
 
 returns : tie.Need-returns
 returns c = sym (answer-refused _ _ _ (outcome-refused _ _ (sym (ap sectionsOutcome (c .before .f .given .1)) ∙ c .before .before .before .layout .ensures)))
@@ -39,4 +39,4 @@ returns-2 c = c .decide-prepared .ensures
 pub decide-spec : {M : Type 1} → statement M
 decide-spec =
     tie.close
-    (tie.spec layout-requires enum-known-f enum-known-s places-requires decide-prepared-requires returns returns-2)
+    (tie.spec layout-requires enum-known-f enum-known-s place-groups-requires decide-prepared-requires returns returns-2)

@@ -15,7 +15,7 @@ word-at-requires : tie.Need-word-at-requires
 word-at-requires c κs = omega (arith, c .before .before .before .pre .0, c .before .before .before .pre .1)
 
 returns : tie.Need-returns
-returns c = (c .word-at .ensures .0 ∙ key-at _ _ _ (c .before .before .before .before .pre .1), c .word-at .ensures .1)
+returns c = c .word-at .ensures .0 ∙ key-at _ _ _ (c .before .before .before .before .pre .1)
 
 pub key-spec : {M : Type 1} → statement M
 key-spec = tie.close (tie.spec mul-word-at add-word-at word-at-requires returns)

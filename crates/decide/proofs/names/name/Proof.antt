@@ -4,10 +4,11 @@ use borrow.Author.Needs.{needs}
 use mathlib.Core.Path.{_≡_, sym, ap, _∙_}
 use denote.Ref.{now}
 use Prim.Native.Nat.{_-_, _<_}
-use Rattle.format.specs.declared.Section.the-variants.{Groups}
-use Rattle.format.specs.Format.{countOf}
+use Rattle.format.specs.Bytes.{wordAt}
+use Rattle.decision.specs.Sets.{setOf}
+use Rattle.decide.specs.Walks.{groupsIn, nameOf}
 use Rattle.decide.proofs.TypeLaws.{few-groups, group-number}
-use Rattle.decide.proofs.NameLaws.{name-small, name-basic, names-tell, names-more}
+use Rattle.decide.proofs.NameLaws.{name-small, name-basic, name-number, names-tell, names-more}
 use Rattle.decide.proofs.names.name.Statement.{statement}
 use Rattle.decide.proofs.names.name.Tie as tie
 
@@ -37,11 +38,15 @@ returns-2 : tie.Need-returns-2
 returns-2 c = let p = c .before .before .before .before .before .before .pre in (names-tell _ _ (p .5) _ _ (c .before .before .before .before .word-at .ensures .0) (c .before .before .before .if1 .left) _ (c .before .wide-word .ensures) (c .if2 .taken), p .5)
 
 find-name-requires : tie.Need-find-name-requires
-find-name-requires c κs = let p = c .before .before .before .before .before .before .pre in (p .0, p .1, p .2, p .3, p .4)
+find-name-requires c κs = let p = c .before .before .before .before .before .before .pre in (p .0, p .1, p .2, group-number _ _ _ (c .before .before .before .before .word-at .ensures .0) (p .3) (p .4) _ (p .0) (p .1) (c .before .before .before .if1 .left))
 
--- the name that was found is small
+-- the name that was found is the type's
+found : (d : tie.After-find-name) → d .find-name .result ≡ nameOf (now (d .before .before .before .before .before .before .before .args .image)) (setOf (groupsIn (now (d .before .before .before .before .before .before .before .args .image))) (wordAt (now (d .before .before .before .before .before .before .before .args .image)) (d .before .before .before .before .before .before .before .args .at)))
+found d = name-number _ _ _ _ (d .before .before .before .before .before .word-at .ensures .0) (d .before .before .before .before .if1 .left) (d .find-name .ensures)
+
+-- and small
 small : (d : tie.After-find-name) → d .find-name .result < 1280
-small d = let p = d .before .before .before .before .before .before .before .pre in omega (arith, name-small _ _ (p .0) (p .4), d .find-name .ensures)
+small d = let p = d .before .before .before .before .before .before .before .pre in omega (arith, name-small _ _ (p .0) (p .4), found d)
 
 add-names : tie.Need-add-names
 add-names c = omega (arith, small c)
@@ -56,7 +61,7 @@ element-write-names : tie.Need-element-write-names
 element-write-names c = omega (arith, number (c .before .before .before .before))
 
 returns-3 : tie.Need-returns-3
-returns-3 c = let p = c .before .before .before .before .before .before .before .pre in (c .find-name .ensures, names-more _ _ (p .5) _ _ (c .before .before .before .before .before .word-at .ensures .0) (c .before .before .before .before .if1 .left) _ (c .find-name .ensures))
+returns-3 c = let p = c .before .before .before .before .before .before .before .pre in (found c, names-more _ _ (p .5) _ _ (c .before .before .before .before .before .word-at .ensures .0) (c .before .before .before .before .if1 .left) _ (found c))
 
 pub name-spec : {M : Type 1} → statement M
 name-spec =

@@ -18,10 +18,10 @@ use Rattle.decide.proofs.predicates.clashed.Statement.{statement}
 use Rattle.decide.proofs.predicates.clashed.Tie as tie
 
 abbrev Inv-loop : tie.InvT-loop
-Inv-loop image groups from first second names₀ keys table told₀ at₀ left₀ names told at left = (left ≤ left₀) × (left₀ ≡ countOf image Rules) × (at ≡ placeOf image Rules (left₀ - left)) × (anyOf (wanted first (named image table)) (rulesIn image) ≡ anyFrom (wanted first (named image table)) image left at) × Kept (anyMarked first) image told × NamesKept image names
+Inv-loop image groups from first second names₀ firsts table told₀ at₀ left₀ names told at left = (left ≤ left₀) × (left₀ ≡ countOf image Rules) × (at ≡ placeOf image Rules (left₀ - left)) × (anyOf (wanted first (named image table)) (rulesIn image) ≡ anyFrom (wanted first (named image table)) image left at) × Kept (anyMarked first) image told × NamesKept image names
 
 abbrev μ-loop : tie.MeasureT-loop
-μ-loop image groups from first second names₀ keys table told₀ at₀ left₀ names told at left = left
+μ-loop image groups from first second names₀ firsts table told₀ at₀ left₀ names told at left = left
 
 counted : (d : tie.After-word-at Inv-loop μ-loop) → d .word-at .result ≡ countOf (now (d .before .before .before .before .before .before .args .image)) Rules
 unfolding countOf countPlace
@@ -43,11 +43,11 @@ by-table d =
     let first = now (d .before .before .before .before .before .args .first) in
     sym (clashed-is l (d .before .before .before .before .before .pre .0) (now (d .before .before .before .before .before .args .second)) first) ∙ ap (λ ts. anyOf (wanted first (named l ts)) (rulesIn l)) (sym (d .reached .ensures .0))
 
-group-keys-requires : tie.Need-group-keys-requires Inv-loop μ-loop
-group-keys-requires c κs = let p = c .before .pre in (p .0, p .1)
+first-groups-requires : tie.Need-first-groups-requires Inv-loop μ-loop
+first-groups-requires c κs = let p = c .before .pre in (p .0, p .1)
 
 reached-requires : tie.Need-reached-requires Inv-loop μ-loop
-reached-requires c κs = let p = c .before .before .before .before .pre in (p .0, p .1, c .before .before .group-keys .ensures, p .2, p .3)
+reached-requires c κs = let p = c .before .before .before .before .pre in (p .0, p .1, c .before .before .first-groups .ensures, p .2, p .3)
 
 word-at-requires : tie.Need-word-at-requires Inv-loop μ-loop
 word-at-requires c κs = omega (arith, accepted-header _ (c .before .before .before .before .before .pre .0) .long)
@@ -58,7 +58,7 @@ loop-holds c = let a = c .before .before .before .before .before .before in
     (omega arith, counted c, e .0, e .1, kept-none _ _ 256, c .before .reached .ensures .1)
 
 clashes-requires : tie.Need-clashes-requires Inv-loop μ-loop
-clashes-requires c κs = let p = c .before .before .before .before .before .before .before .before .before .before .before .before .pre in let I = c .before .before .before .before .before .loop .inv in (p .0, p .1, c .before .before .before .before .before .before .before .before .before .before .group-keys .ensures, here (c .before .before .before .before), I .4, I .5)
+clashes-requires c κs = let p = c .before .before .before .before .before .before .before .before .before .before .before .before .pre in let I = c .before .before .before .before .before .loop .inv in (p .0, p .1, c .before .before .before .before .before .before .before .before .before .before .first-groups .ensures, here (c .before .before .before .before), I .4, I .5)
 
 returns : tie.Need-returns Inv-loop μ-loop
 returns c = let L = c .before .before .before .before .before .before .before .loop in
@@ -105,7 +105,7 @@ clashed-spec =
     (tie.spec
     Inv-loop
     μ-loop
-    group-keys-requires
+    first-groups-requires
     reached-requires
     word-at-requires
     loop-holds

@@ -19,10 +19,10 @@ use Rattle.decide.proofs.predicates.reached.Statement.{statement}
 use Rattle.decide.proofs.predicates.reached.Tie as tie
 
 abbrev Inv-loop : tie.InvT-loop
-Inv-loop image groups keys from marks names₀ table₀ told₀ at₀ left₀ names table told at left = (left ≤ left₀) × (left₀ ≡ countOf image Rules) × (at ≡ placeOf image Rules (left₀ - left)) × (reachedOf image marks (rulesIn image) noNames ≡ reachedFrom image marks left at table) × Kept (anyMarked marks) image told × NamesKept image names
+Inv-loop image groups firsts from marks names₀ table₀ told₀ at₀ left₀ names table told at left = (left ≤ left₀) × (left₀ ≡ countOf image Rules) × (at ≡ placeOf image Rules (left₀ - left)) × (reachedOf image marks (rulesIn image) noNames ≡ reachedFrom image marks left at table) × Kept (anyMarked marks) image told × NamesKept image names
 
 abbrev μ-loop : tie.MeasureT-loop
-μ-loop image groups keys from marks names₀ table₀ told₀ at₀ left₀ names table told at left = left
+μ-loop image groups firsts from marks names₀ table₀ told₀ at₀ left₀ names table told at left = left
 
 counted : (d : tie.After-word-at Inv-loop μ-loop) → d .word-at .result ≡ countOf (now (d .before .before .args .image)) Rules
 unfolding countOf countPlace
