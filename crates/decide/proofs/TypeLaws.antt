@@ -117,9 +117,6 @@ module _ (l : List ℕ) (at t : ℕ) (is : t ≡ wordAt l at) (room : at + 1 < l
     pub group-number : t - 32768 < countOf l Groups
     group-number = type-number l ps t c p ours k
 
-    pub group-here : GroupAt l (getD ps (t - 32768) 0) (getD (groupsIn l) (t - 32768) [])
-    group-here = type-here l ps t c p ours k
-
 -- the members of group g
 pub group-span-is : (l ps : List ℕ) (g : ℕ) → check l ≡ none → Placed l ps → g < countOf l Groups → (n : ℕ) → n ≡ getD l (getD ps g 0) 0 → Spans l (getD ps g 0 + 2) ((n - 2) / 2) (setOf (groupsIn l) (32768 + g))
 group-span-is l ps g c p h n e =

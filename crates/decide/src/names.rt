@@ -1,4 +1,4 @@
-// NamesKept of sets: two types have the same name where they stand for the same set, and only there.
+// Names of sets: two types have the same name where they stand for the same set, and only there.
 use crate::compare::same_members;
 use crate::types::Span;
 use crate::types::group_span;
