@@ -256,7 +256,7 @@ stored-length : (b : Bool) (ts : List Bool) (n : ℕ) → length (cond b (set ts
 stored-length true ts n = length-set ts n true
 stored-length false ts n = refl
 
-pub wanted-reaching : (ms : List Bool) (f : List ℕ → Bool) (a : Rule) → wanted ms f a ≡ reaching ms a && f (a .source)
+wanted-reaching : (ms : List Bool) (f : List ℕ → Bool) (a : Rule) → wanted ms f a ≡ reaching ms a && f (a .source)
 unfolding wanted reaching
 wanted-reaching ms f a = go (live a) (anyMarked ms (a .dest)) (f (a .source))
   where
@@ -326,13 +326,6 @@ module _ (l : List ℕ) (c : check l ≡ none) (second : List Bool) where
   clashed-is first = wanted-types l first c (named l (reachedOf l second (rulesIn l) noNames)) (pairedIn l second) named-paired
 
 -- ---- a rule's part in a table
-
-module _ (l : List ℕ) (at : ℕ) (r : List ℕ) (h : RuleAt l at r) (ms : List Bool) (f : List ℕ → Bool) where
-  pub unwanted-far : reaching ms (ruleOf (groupsIn l) r) ≡ false → wanted ms f (ruleOf (groupsIn l) r) ≡ false
-  unwanted-far e = wanted-reaching ms f (ruleOf (groupsIn l) r) ∙ simp e
-
-  pub wanted-near : reaching ms (ruleOf (groupsIn l) r) ≡ true → wanted ms f (ruleOf (groupsIn l) r) ≡ f (setOf (groupsIn l) (wordAt l (at + 2)))
-  wanted-near e = wanted-reaching ms f (ruleOf (groupsIn l) r) ∙ simp e (ap f (source-is l at r h))
 
 -- the table that k rules from a place on make of one
 unfoldable pub reachedFrom : List ℕ → List Bool → ℕ → ℕ → List Bool → List Bool

@@ -12,6 +12,7 @@ use Rattle.format.specs.declared.Section.the-variants.{Rules}
 use Rattle.format.specs.Bytes.{wordAt}
 use Rattle.format.specs.Format.{countOf}
 use Rattle.format.specs.Policy.{policyOf, recordAt, recordsAt, startOf, placeOf, placeAfter}
+use Rattle.format.proofs.Tests.{false-not-true}
 use Rattle.format.proofs.Shapes.{stands-word}
 use Rattle.format.proofs.Places.{RuleAt}
 use Rattle.decision.specs.Sets.{anyOf, setOf}
@@ -76,6 +77,10 @@ module _ (l : List ℕ) (at : ℕ) where
   pub live-on : getD l (at + 1) 0 ≡ 2 → liveAt l at ≡ eqb (getD l (at + 10) 0) 1
   unfolding liveAt
   live-on h = simp (eq-eqb (getD l (at + 1) 0) 2 h)
+
+-- a live rule is an allow rule
+pub live-length : (l : List ℕ) (at : ℕ) (r : List ℕ) → RuleAt l at r → liveAt l at ≡ true → getD l at 0 ≡ 11
+live-length l at r h e = ⊎-elim (λ w. omega (arith, w .1, h .here .size)) (λ w. false-not-true (sym (live-off l at (λ k. absurd (omega (arith, w)))) ∙ e)) (h .kind)
 
 -- ---- a rule that passes a test, among k from a place on
 

@@ -1,4 +1,5 @@
-// What the predicates ask of the rules: live ones alone, of every class and action.
+// What the predicates ask of the rules: live ones alone, of every class and action. A live rule is an allow rule, of 11 bytes,
+// so that its length need not be read.
 use crate::kept::among;
 use crate::kept::meets;
 use crate::names::first_groups;
@@ -6,6 +7,7 @@ use crate::names::name;
 use crate::word::wide;
 use crate::word::word_at;
 ghost use mathlib.Core.Path.{_≡_};
+ghost use mathlib.Core.Bool.{true};
 ghost use mathlib.Core.Option.{none};
 ghost use Prim.Native.Nat.{_+_, _≤_, _<_};
 ghost use lib.ListN.{length, getD};
@@ -28,7 +30,7 @@ fn on(image: &[u8], at: usize) -> bool
     image[at + 10] == 1
 }
 
-// Whether the rule at a place breaks a roster.
+// Whether the live rule at a place breaks a roster.
 fn stray(
     image: &[u8],
     groups: &[usize; 256],
@@ -38,19 +40,16 @@ fn stray(
     told: &mut [u8; 256],
     known: &mut [u8; 256],
 ) -> bool
-    requires { ⌜ (check (now image) ≡ none) × Placed (now image) (now groups) × RuleAt (now image) at (recordAt (now image) at) × Kept (anyMarked (now second)) (now image) (now told) × Kept (allMarked (now list)) (now image) (now known) ⌝ }
+    requires { ⌜ (check (now image) ≡ none) × Placed (now image) (now groups) × RuleAt (now image) at (recordAt (now image) at) × (liveAt (now image) at ≡ true) × Kept (anyMarked (now second)) (now image) (now told) × Kept (allMarked (now list)) (now image) (now known) ⌝ }
     ensures { λ r. ⌜ (r ≡ strays (now (second .entry)) (now (list .entry)) (ruleOf (groupsIn (now (image .entry))) (recordAt (now (image .entry)) at))) × Kept (anyMarked (now (second .entry))) (now (image .entry)) (now (told .exit)) × Kept (allMarked (now (list .entry))) (now (image .entry)) (now (known .exit)) ⌝ }
 {
-    if !on(image, at) {
-        return false;
-    }
     if !meets(image, groups, at + 4, second, told) {
         return false;
     }
     !among(image, groups, at + 2, list, known)
 }
 
-// Whether the rule at a place is one that a companion wants.
+// Whether the live rule at a place is one that a companion wants.
 fn helps(
     image: &[u8],
     groups: &[usize; 256],
@@ -60,12 +59,9 @@ fn helps(
     told: &mut [u8; 256],
     known: &mut [u8; 256],
 ) -> bool
-    requires { ⌜ (check (now image) ≡ none) × Placed (now image) (now groups) × RuleAt (now image) at (recordAt (now image) at) × Kept (anyMarked (now first)) (now image) (now told) × Kept (anyMarked (now second)) (now image) (now known) ⌝ }
+    requires { ⌜ (check (now image) ≡ none) × Placed (now image) (now groups) × RuleAt (now image) at (recordAt (now image) at) × (liveAt (now image) at ≡ true) × Kept (anyMarked (now first)) (now image) (now told) × Kept (anyMarked (now second)) (now image) (now known) ⌝ }
     ensures { λ r. ⌜ (r ≡ friend (now (first .entry)) (now (second .entry)) (ruleOf (groupsIn (now (image .entry))) (recordAt (now (image .entry)) at))) × Kept (anyMarked (now (first .entry))) (now (image .entry)) (now (told .exit)) × Kept (anyMarked (now (second .entry))) (now (image .entry)) (now (known .exit)) ⌝ }
 {
-    if !on(image, at) {
-        return false;
-    }
     if !meets(image, groups, at + 4, first, told) {
         return false;
     }
@@ -88,10 +84,14 @@ pub(crate) fn strayed(
     let mut at = from;
     let mut left = word_at(image, 5);
     while 0 < left {
-        if stray(image, groups, at, second, list, &mut told, &mut known) {
-            return true;
+        if on(image, at) {
+            if stray(image, groups, at, second, list, &mut told, &mut known) {
+                return true;
+            }
+            at += 11;
+        } else {
+            at += wide(image[at]);
         }
-        at += wide(image[at]);
         left -= 1;
     }
     false
@@ -113,30 +113,17 @@ pub(crate) fn helped(
     let mut at = from;
     let mut left = word_at(image, 5);
     while 0 < left {
-        if helps(image, groups, at, first, second, &mut told, &mut known) {
-            return true;
+        if on(image, at) {
+            if helps(image, groups, at, first, second, &mut told, &mut known) {
+                return true;
+            }
+            at += 11;
+        } else {
+            at += wide(image[at]);
         }
-        at += wide(image[at]);
         left -= 1;
     }
     false
-}
-
-// Whether the rule at a place is live and its destination touches the marks.
-fn reaches(
-    image: &[u8],
-    groups: &[usize; 256],
-    at: usize,
-    marks: &[bool; 1024],
-    told: &mut [u8; 256],
-) -> bool
-    requires { ⌜ (check (now image) ≡ none) × Placed (now image) (now groups) × RuleAt (now image) at (recordAt (now image) at) × Kept (anyMarked (now marks)) (now image) (now told) ⌝ }
-    ensures { λ r. ⌜ (r ≡ reaching (now (marks .entry)) (ruleOf (groupsIn (now (image .entry))) (recordAt (now (image .entry)) at))) × Kept (anyMarked (now (marks .entry))) (now (image .entry)) (now (told .exit)) ⌝ }
-{
-    if !on(image, at) {
-        return false;
-    }
-    meets(image, groups, at + 4, marks, told)
 }
 
 // The names of the sources of the rules that reach the marks.
@@ -156,16 +143,20 @@ fn reached(
     let mut at = from;
     let mut left = word_at(image, 5);
     while 0 < left {
-        if reaches(image, groups, at, marks, &mut told) {
-            table[name(image, groups, firsts, at + 2, names)] = true;
+        if on(image, at) {
+            if meets(image, groups, at + 4, marks, &mut told) {
+                table[name(image, groups, firsts, at + 2, names)] = true;
+            }
+            at += 11;
+        } else {
+            at += wide(image[at]);
         }
-        at += wide(image[at]);
         left -= 1;
     }
     table
 }
 
-// Whether the rule at a place reaches the marks, and its source has its name in a table.
+// Whether the live rule at a place reaches the marks, and its source has its name in a table.
 fn clashes(
     image: &[u8],
     groups: &[usize; 256],
@@ -176,10 +167,10 @@ fn clashes(
     told: &mut [u8; 256],
     names: &mut [u16; 256],
 ) -> bool
-    requires { ⌜ (check (now image) ≡ none) × Placed (now image) (now groups) × Firsts (now image) (now firsts) × RuleAt (now image) at (recordAt (now image) at) × Kept (anyMarked (now first)) (now image) (now told) × NamesKept (now image) (now names) ⌝ }
+    requires { ⌜ (check (now image) ≡ none) × Placed (now image) (now groups) × Firsts (now image) (now firsts) × RuleAt (now image) at (recordAt (now image) at) × (liveAt (now image) at ≡ true) × Kept (anyMarked (now first)) (now image) (now told) × NamesKept (now image) (now names) ⌝ }
     ensures { λ r. ⌜ (r ≡ wanted (now (first .entry)) (named (now (image .entry)) (now (table .entry))) (ruleOf (groupsIn (now (image .entry))) (recordAt (now (image .entry)) at))) × Kept (anyMarked (now (first .entry))) (now (image .entry)) (now (told .exit)) × NamesKept (now (image .entry)) (now (names .exit)) ⌝ }
 {
-    if !reaches(image, groups, at, first, told) {
+    if !meets(image, groups, at + 4, first, told) {
         return false;
     }
     table[name(image, groups, firsts, at + 2, names)]
@@ -203,10 +194,14 @@ pub(crate) fn clashed(
     let mut at = from;
     let mut left = word_at(image, 5);
     while 0 < left {
-        if clashes(image, groups, &firsts, at, first, &table, &mut told, names) {
-            return true;
+        if on(image, at) {
+            if clashes(image, groups, &firsts, at, first, &table, &mut told, names) {
+                return true;
+            }
+            at += 11;
+        } else {
+            at += wide(image[at]);
         }
-        at += wide(image[at]);
         left -= 1;
     }
     false

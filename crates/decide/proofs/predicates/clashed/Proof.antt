@@ -3,6 +3,8 @@ use native.Mathlib.Omega.{arith}
 use borrow.Author.Needs.{needs}
 use Prim.Native.Nat.{ℕ, suc, _+_, _-_, _≤_, _<_}
 use mathlib.Core.Path.{_≡_, refl, sym, subst, ap, _∙_}
+use mathlib.Core.Logic.{⊎-elim}
+use mathlib.Core.Bool.{true, false}
 use denote.Ref.{now}
 use lib.ListN.{length, getD}
 use Rattle.format.specs.declared.Section.the-variants.{Rules}
@@ -11,8 +13,9 @@ use Rattle.format.specs.Policy.{recordAt, placeOf}
 use Rattle.format.proofs.Accepted.{accepted-header, place-next}
 use Rattle.format.proofs.Places.{RuleAt, rule-at}
 use Rattle.decision.specs.Sets.{anyOf}
-use Rattle.decide.specs.Walks.{rulesIn, Kept, NamesKept, anyMarked, wanted, named, pairedIn}
-use Rattle.decide.proofs.PredicateLaws.{kept-none, anyFrom, any-rules-start, any-rules-end, any-rules-hit, any-rules-next}
+use Rattle.decision.specs.Decide.{ruleOf}
+use Rattle.decide.specs.Walks.{groupsIn, rulesIn, Kept, NamesKept, anyMarked, wanted, named, pairedIn}
+use Rattle.decide.proofs.PredicateLaws.{kept-none, unwanted-off, live-length, anyFrom, any-rules-start, any-rules-end, any-rules-hit, any-rules-next}
 use Rattle.decide.proofs.NameLaws.{clashed-is}
 use Rattle.decide.proofs.predicates.clashed.Statement.{statement}
 use Rattle.decide.proofs.predicates.clashed.Tie as tie
@@ -43,6 +46,22 @@ by-table d =
     let first = now (d .before .before .before .before .before .args .first) in
     sym (clashed-is l (d .before .before .before .before .before .pre .0) (now (d .before .before .before .before .before .args .second)) first) ∙ ap (λ ts. anyOf (wanted first (named l ts)) (rulesIn l)) (sym (d .reached .ensures .0))
 
+-- what a turn that finds nothing leaves: the test's answer, the next place, and what is kept
+turned :
+    (d : tie.Joined1 Inv-loop μ-loop)
+    → ((wanted (now (d .before .before .before .before .before .before .before .before .before .before .args .first)) (named (now (d .before .before .before .before .before .before .before .before .before .before .args .image)) (d .before .before .before .before .before .reached .result))) (ruleOf (groupsIn (now (d .before .before .before .before .before .before .before .before .before .before .args .image))) (recordAt (now (d .before .before .before .before .before .before .before .before .before .before .args .image)) (d .before .before .before .loop .at))) ≡ false)
+    × (d .if1 .at ≡ d .before .before .before .loop .at + getD (now (d .before .before .before .before .before .before .before .before .before .before .args .image)) (d .before .before .before .loop .at) 0)
+    × Kept (anyMarked (now (d .before .before .before .before .before .before .before .before .before .before .args .first))) (now (d .before .before .before .before .before .before .before .before .before .before .args .image)) (d .if1 .told)
+    × NamesKept (now (d .before .before .before .before .before .before .before .before .before .before .args .image)) (d .if1 .names)
+turned d =
+    let L = d .before .before .before .loop in
+    let h = here (d .before .before) in
+    let step : ℕ → ℕ = λ n. L .at + n in
+    ⊎-elim
+    (λ w. (sym (w .5 .ensures .0) ∙ w .6 .left, w .9 ∙ ap step (sym (live-length _ _ _ h (sym (d .before .on .ensures) ∙ w .0 .taken))), rw (w .8) (w .5 .ensures .1), rw (w .7) (w .5 .ensures .2)))
+    (λ w. (unwanted-off _ _ _ h _ (named (now (d .before .before .before .before .before .before .before .before .before .before .args .image)) (d .before .before .before .before .before .reached .result)) (sym (d .before .on .ensures) ∙ w .0 .left), w .5 ∙ ap step (w .2 .ensures .0), rw (w .4) (L .inv .4), rw (w .3) (L .inv .5)))
+    (d .if1 .came)
+
 first-groups-requires : tie.Need-first-groups-requires Inv-loop μ-loop
 first-groups-requires c κs = let p = c .before .pre in (p .0, p .1)
 
@@ -57,22 +76,28 @@ loop-holds c = let a = c .before .before .before .before .before .before in
     let e = any-rules-start (wanted (now (a .args .first)) (named (now (a .args .image)) (c .before .reached .result))) _ _ _ (a .pre .2) (counted c) in
     (omega arith, counted c, e .0, e .1, kept-none _ _ 256, c .before .reached .ensures .1)
 
+on-requires : tie.Need-on-requires Inv-loop μ-loop
+on-requires c κs = let h = here c in (omega (arith, h .long, h .here .inside), λ k. ⊎-elim (λ w. omega (arith, w .1, h .here .inside)) (λ w. absurd (omega arith)) (h .kind))
+
 clashes-requires : tie.Need-clashes-requires Inv-loop μ-loop
-clashes-requires c κs = let p = c .before .before .before .before .before .before .before .before .before .before .before .before .pre in let I = c .before .before .before .before .before .loop .inv in (p .0, p .1, c .before .before .before .before .before .before .before .before .before .before .first-groups .ensures, here (c .before .before .before .before), I .4, I .5)
+clashes-requires c κs = let p = c .before .before .before .before .before .before .before .before .before .before .before .before .before .before .pre in let I = c .before .before .before .before .before .before .before .loop .inv in (p .0, p .1, c .before .before .before .before .before .before .before .before .before .before .before .before .first-groups .ensures, here (c .before .before .before .before .before .before), sym (c .before .before .before .before .before .on .ensures) ∙ c .before .before .before .before .if1 .taken, I .4, I .5)
 
 returns : tie.Need-returns Inv-loop μ-loop
-returns c = let L = c .before .before .before .before .before .before .before .loop in
+returns c = let L = c .before .before .before .before .before .before .before .before .before .loop in
     let e : L .left ≡ suc (L .left - 1) = omega arith in
-    (sym (by-table (c .before .before .before .before .before .before .before .before .before) ∙ L .inv .3 ∙ any-rules-hit (wanted (now (c .before .before .before .before .before .before .before .before .before .before .before .before .before .before .args .first)) (named (now (c .before .before .before .before .before .before .before .before .before .before .before .before .before .before .args .image)) (c .before .before .before .before .before .before .before .before .before .reached .result))) _ _ _ _ e (sym (c .before .clashes .ensures .0) ∙ c .if1 .taken)), c .before .clashes .ensures .2)
+    (sym (by-table (c .before .before .before .before .before .before .before .before .before .before .before) ∙ L .inv .3 ∙ any-rules-hit (wanted (now (c .before .before .before .before .before .before .before .before .before .before .before .before .before .before .before .before .args .first)) (named (now (c .before .before .before .before .before .before .before .before .before .before .before .before .before .before .before .before .args .image)) (c .before .before .before .before .before .before .before .before .before .before .before .reached .result))) _ _ _ _ e (sym (c .before .clashes .ensures .0) ∙ c .if2 .taken)), c .before .clashes .ensures .2)
+
+add-at : tie.Need-add-at Inv-loop μ-loop
+add-at c = let h = here (c .before .before .before .before .before .before .before .before) in omega (arith, h .here .inside, h .here .size, live-length _ _ _ h (sym (c .before .before .before .before .before .before .before .on .ensures) ∙ c .before .before .before .before .before .before .if1 .taken))
 
 shared-slice-read-wide : tie.Need-shared-slice-read-wide Inv-loop μ-loop
-shared-slice-read-wide c = let h = here (c .before .before .before .before .before .before .before) in omega (arith, h .long, h .here .inside)
+shared-slice-read-wide c = let h = here (c .before .before .before) in omega (arith, h .long, h .here .inside)
 
 wide-requires : tie.Need-wide-requires Inv-loop μ-loop
 wide-requires c κs = search needs
 
-add-at : tie.Need-add-at Inv-loop μ-loop
-add-at c = let h = here (c .before .before .before .before .before .before .before .before) in omega (arith, h .here .inside, h .here .size, c .wide .ensures .0)
+add-at-2 : tie.Need-add-at-2 Inv-loop μ-loop
+add-at-2 c = let h = here (c .before .before .before .before) in omega (arith, h .here .inside, h .here .size, c .wide .ensures .0)
 
 sub-left : tie.Need-sub-left Inv-loop μ-loop
 sub-left c = omega arith
@@ -81,18 +106,18 @@ loop-less : tie.Need-loop-less Inv-loop μ-loop
 loop-less c = omega arith
 
 loop-again : tie.Need-loop-again Inv-loop μ-loop
-loop-again c = let L = c .before .before .before .before .before .before .before .before .before .loop in
-    let N : ℕ = c .before .before .before .before .before .before .before .before .before .before .word-at .result in
-    let l = now (c .before .before .before .before .before .before .before .before .before .before .before .before .before .before .before .before .args .image) in
+loop-again c = let L = c .before .before .before .loop in
+    let N : ℕ = c .before .before .before .before .word-at .result in
+    let l = now (c .before .before .before .before .before .before .before .before .before .before .args .image) in
     let e : L .left ≡ suc (L .left - 1) = omega arith in
     let z : N - (L .left - 1) ≡ N - L .left + 1 = omega (arith, L .inv .0) in
-    let step : L .at + c .wide .result ≡ L .at + getD l (L .at) 0 = ap (λ x. L .at + x) (c .wide .ensures .0) in (
+    let k = turned c in (
       omega (arith, L .inv .0),
       L .inv .1,
-      step ∙ ap (λ x. x + getD l x 0) (L .inv .2) ∙ sym (place-next l Rules (N - L .left)) ∙ ap (placeOf l Rules) (sym z),
-      L .inv .3 ∙ any-rules-next _ _ _ _ _ e (sym (c .before .before .before .clashes .ensures .0) ∙ c .before .before .if1 .left) ∙ ap (anyFrom (wanted (now (c .before .before .before .before .before .before .before .before .before .before .before .before .before .before .before .before .args .first)) (named l (c .before .before .before .before .before .before .before .before .before .before .before .reached .result))) l (L .left - 1)) (sym step),
-      c .before .before .before .clashes .ensures .1,
-      c .before .before .before .clashes .ensures .2,
+      k .1 ∙ ap (λ x. x + getD l x 0) (L .inv .2) ∙ sym (place-next l Rules (N - L .left)) ∙ ap (placeOf l Rules) (sym z),
+      L .inv .3 ∙ any-rules-next _ _ _ _ _ e (k .0) ∙ ap (anyFrom (wanted (now (c .before .before .before .before .before .before .before .before .before .before .args .first)) (named (now (c .before .before .before .before .before .before .before .before .before .before .args .image)) (c .before .before .before .before .before .reached .result))) l (L .left - 1)) (sym (k .1)),
+      k .2,
+      k .3,
     )
 
 returns-2 : tie.Need-returns-2 Inv-loop μ-loop
@@ -109,11 +134,13 @@ clashed-spec =
     reached-requires
     word-at-requires
     loop-holds
+    on-requires
     clashes-requires
     returns
+    add-at
     shared-slice-read-wide
     wide-requires
-    add-at
+    add-at-2
     sub-left
     loop-less
     loop-again
