@@ -1,0 +1,19 @@
+-- `refused` meets its contract. Assumes nothing.
+use borrow.Author.Needs.{needs}
+use mathlib.Core.Path.{_≡_, refl, sym, ap, _∙_}
+use Rattle.mungaite.specs.Code.{refusalCode}
+use Rattle.mungaite.proofs.parts.refused.Statement.{statement}
+use Rattle.mungaite.proofs.parts.refused.Tie as tie
+
+cast-parts : tie.Need-cast-parts
+cast-parts c = search needs
+
+parts-requires : tie.Need-parts-requires
+parts-requires c κs = search needs
+
+returns : tie.Need-returns
+unfolding refusalCode
+returns c = c .parts .ensures
+
+pub refused-spec : {M : Type 1} → statement M
+refused-spec = tie.close (tie.spec cast-parts parts-requires returns)

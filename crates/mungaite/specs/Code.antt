@@ -1,0 +1,65 @@
+-- Answers as numbers of four 16-bit parts, the highest first, of which the first is 0.
+--     partsOf kind high low   the number of the parts 0, kind, high, low
+--     refusalCode f           0, 2, number, place
+--     faultCode f             0 where nothing is refused, else the refusal
+--     codeOf g o              what an outcome comes to, where g says it of what is given
+--     decisionCode o          0 NotPermitted; 0, 1, 0, rule Permitted; 0, 3, rule, constraint UnKnown; or the refusal
+--     recordCode l s n        0, 1, place, length of record n of section s: 0 groups, 1 rules, 2 constraints; or the
+--                             refusal, which is 14 where there is no such section
+--     addCode b r             0, 1, 0, number of the new record, or the refusal
+use Prim.Native.Nat.{ℕ, _+_, _*_, _%_}
+use mathlib.Core.Bool.{cond}
+use mathlib.Core.Option.{Option, none, some}
+use mathlib.Core.List.{List}
+use lib.Dec.{eqb}
+use Rattle.format.specs.declared.Section.{Section}
+use Rattle.format.specs.declared.Section.the-variants.{Groups, Rules, Constraints}
+use Rattle.format.specs.declared.Refusal.{Refusal}
+use Rattle.format.specs.declared.Extent.{Extent}
+use Rattle.format.specs.Refusals.{refusal, _orElse_}
+use Rattle.format.specs.Check.{check}
+use Rattle.format.specs.Answers.{Outcome, refused, gives, outcome, extent}
+use Rattle.format.specs.Give.{giveFault}
+use Rattle.extension.specs.Add.{addFault, newNumber}
+use Rattle.decision.specs.declared.Query.{Query}
+use Rattle.decision.specs.Decide.{Decision, notPermitted, permitted, unknown}
+
+unfoldable pub partsOf : ℕ → ℕ → ℕ → ℕ
+partsOf kind high low = kind * 4294967296 + high % 65536 * 65536 + low % 65536
+
+unfoldable pub refusalCode : Refusal → ℕ
+refusalCode f = partsOf 2 (f .number) (f .place)
+
+abbrev pub faultCode : Option Refusal → ℕ
+faultCode none = 0
+faultCode (some f) = refusalCode f
+
+module _ {A : Type 0} where
+  abbrev pub codeOf : (A → ℕ) → Outcome A → ℕ
+  codeOf g (refused f) = refusalCode f
+  codeOf g (gives a) = g a
+
+abbrev pub givenCode : Decision → ℕ
+givenCode notPermitted = 0
+givenCode (permitted r) = partsOf 1 0 r
+givenCode (unknown r c) = partsOf 3 r c
+
+abbrev pub decisionCode : Outcome Decision → ℕ
+decisionCode = codeOf givenCode
+
+abbrev pub extentCode : Extent → ℕ
+extentCode e = partsOf 1 (e .place) (e .length)
+
+unfoldable pub recordIn : List ℕ → Section → ℕ → ℕ
+recordIn l s n = codeOf extentCode (outcome (giveFault l s n) (extent l s n))
+
+unfoldable pub recordCode : List ℕ → ℕ → ℕ → ℕ
+recordCode l s n =
+    cond (eqb s 0) (recordIn l Groups n)
+    (cond (eqb s 1) (recordIn l Rules n) (cond (eqb s 2) (recordIn l Constraints n) (faultCode (check l orElse some (refusal 14 0)))))
+
+unfoldable pub addCode : List ℕ → List ℕ → ℕ
+addCode b r = codeOf (partsOf 1 0) (outcome (addFault b r) (newNumber b r))
+
+abbrev pub queryOf : ℕ → ℕ → ℕ → ℕ → Query
+queryOf s d c a = record { source = s; dest = d; class = c; action = a }
