@@ -1,0 +1,90 @@
+/*
+ * A host in C: decides the sample sheet's queries, adds one rule and asks again.
+ *
+ *   cc -std=c99 -Wall -Wextra -Werror -pedantic -I include examples/decide.c libmungaite.a -o decide
+ */
+#include "mungaite.h"
+
+#include <stdio.h>
+#include <string.h>
+
+struct query {
+    uint16_t source, destination, class_, action;
+};
+
+static const uint8_t sample[] = {
+    0x01, 0x00, 0x50, 0x00, 0x01, 0x00, 0x04, 0x00, 0x02,                         /* 1 group, 4 rules, 2 constraints */
+    0x06, 0x01, 0x00, 0x14, 0x00, 0x15,                                           /* group 0: 20, 21 */
+    0x0B, 0x02, 0x00, 0x0A, 0x80, 0x00, 0x00, 0x05, 0x00, 0x01, 0x01,             /* allow 10 to g0, 5, 1 */
+    0x0B, 0x02, 0x00, 0x14, 0x00, 0x1E, 0x00, 0x05, 0x00, 0x02, 0x01,             /* allow 20 to 30, 5, 2 */
+    0x08, 0x03, 0x00, 0x0C, 0x00, 0x14, 0x00, 0x05,                               /* transition 12 to 20 */
+    0x0B, 0x02, 0x00, 0x0D, 0x00, 0x15, 0x00, 0x05, 0x00, 0x01, 0x00,             /* allow 13 to 21, 5, 1, off */
+    0x0D, 0x04, 0x00, 0x05, 0x00, 0x01, 0x00, 0x0A, 0x00, 0x15, 0x02, 0x00, 0x0A, /* roster on 10, 21: 10 */
+    0x0B, 0x04, 0x00, 0x05, 0x00, 0x02, 0x00, 0x14, 0x00, 0x1E, 0x01              /* separation of 20, 30 */
+};
+
+/* Allow 10 to 30, class 5, action 3, on. */
+static const uint8_t rule[] = {0x0B, 0x02, 0x00, 0x0A, 0x00, 0x1E, 0x00, 0x05, 0x00, 0x03, 0x01};
+
+static void print_type(uint16_t type)
+{
+    if (type >= MUNGAITE_GROUP(0)) {
+        printf("g%u", (unsigned)(type - MUNGAITE_GROUP(0)));
+    } else {
+        printf("%u", (unsigned)type);
+    }
+}
+
+static void print_decision(uint64_t answer)
+{
+    unsigned third = MUNGAITE_THIRD(answer);
+    unsigned fourth = MUNGAITE_FOURTH(answer);
+
+    switch (MUNGAITE_KIND(answer)) {
+    case MUNGAITE_NOT_PERMITTED:
+        printf("NotPermitted\n");
+        break;
+    case MUNGAITE_PERMITTED:
+        printf("Permitted, rule %u\n", fourth);
+        break;
+    case MUNGAITE_UNKNOWN:
+        printf("UnKnown, rule %u, constraint %u\n", third, fourth);
+        break;
+    default:
+        printf("refusal %u at place %u\n", third, fourth);
+    }
+}
+
+static void ask(struct query q, const uint8_t *image, size_t length)
+{
+    print_type(q.source);
+    printf(", ");
+    print_type(q.destination);
+    printf(", %u, %u: ", (unsigned)q.class_, (unsigned)q.action);
+    print_decision(mungaite_decide(q.source, q.destination, q.class_, q.action, image, length));
+}
+
+int main(void)
+{
+    static const struct query queries[] = {
+        {10, 21, 5, 1}, {10, MUNGAITE_GROUP(0), 5, 1}, {13, 21, 5, 1},   {12, 20, 9, 9},
+        {20, 30, 5, 2}, {1024, 21, 5, 1},              {32769, 21, 5, 1}, {1023, 21, 5, 1}};
+    static uint8_t buffer[256];
+    uint64_t answer;
+    size_t length, i;
+
+    for (i = 0; i < sizeof queries / sizeof queries[0]; i++) {
+        ask(queries[i], sample, sizeof sample);
+    }
+
+    memcpy(buffer, sample, sizeof sample);
+    answer = mungaite_add(buffer, sizeof buffer, rule, sizeof rule);
+    if (MUNGAITE_KIND(answer) != MUNGAITE_PERMITTED) {
+        print_decision(answer);
+        return 1;
+    }
+    length = (size_t)buffer[1] << 8 | buffer[2];
+    printf("added rule %u, the image has %u bytes\n", (unsigned)MUNGAITE_FOURTH(answer), (unsigned)length);
+    ask(queries[4], buffer, length);
+    return 0;
+}

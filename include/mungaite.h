@@ -1,0 +1,70 @@
+/*
+ * Mungaite: permissions for a policy image, called from C.
+ *
+ * Each function answers with a 64-bit number of four 16-bit parts, the highest first:
+ *
+ *   0, 0, 0, 0                 NotPermitted; from mungaite_check: accepted
+ *   0, 1, 0, rule              Permitted
+ *   0, 3, rule, constraint     UnKnown
+ *   0, 2, number, place        a refusal
+ *   0, 1, place, length        from mungaite_record: where the record stands
+ *   0, 1, 0, number            from mungaite_add: the new record's number
+ *
+ * A pointer must be valid for the number of bytes given with it. mungaite_add writes to its buffer, which must not
+ * overlap its record; nothing else is written. The functions keep nothing between calls and use no heap. They may be
+ * called from several threads, as long as no buffer is written by one thread while another uses it.
+ */
+#ifndef MUNGAITE_H
+#define MUNGAITE_H
+
+#include <stddef.h>
+#include <stdint.h>
+
+#ifdef __cplusplus
+extern "C" {
+#endif
+
+/* The second part of an answer. */
+#define MUNGAITE_NOT_PERMITTED 0
+#define MUNGAITE_PERMITTED 1 /* also: a record was found, a record was added */
+#define MUNGAITE_REFUSED 2
+#define MUNGAITE_UNKNOWN 3
+
+/* The second, third and fourth part of an answer. The first is always 0. */
+#define MUNGAITE_KIND(answer) ((uint16_t)(((answer) >> 32) & 0xFFFFu))
+#define MUNGAITE_THIRD(answer) ((uint16_t)(((answer) >> 16) & 0xFFFFu))
+#define MUNGAITE_FOURTH(answer) ((uint16_t)((answer) & 0xFFFFu))
+
+/* The type field of group g. A basic type, 0 to 1023, is its own type field. */
+#define MUNGAITE_GROUP(g) ((uint16_t)(0x8000u + (g)))
+
+/* The sections of an image. */
+#define MUNGAITE_GROUPS 0
+#define MUNGAITE_RULES 1
+#define MUNGAITE_CONSTRAINTS 2
+
+/* The largest image that is accepted, in bytes, and the empty policy. */
+#define MUNGAITE_LARGEST 55561
+#define MUNGAITE_EMPTY 9
+
+/* Checks an image: 0 where it is accepted, else the refusal (1 to 7). */
+uint64_t mungaite_check(const uint8_t *image, size_t length);
+
+/* Checks the image and decides a query on it: the decision, or the refusal (1 to 9). */
+uint64_t mungaite_decide(uint16_t source, uint16_t destination, uint16_t class_, uint16_t action,
+                         const uint8_t *image, size_t length);
+
+/* Checks the image and finds record n of a section: its place and length, or the refusal (1 to 7, 14). A section above
+ * 2 has no record. */
+uint64_t mungaite_record(uint16_t section, uint16_t n, const uint8_t *image, size_t length);
+
+/* Adds a record to the image that the buffer starts with, in place, at the end of the record's section: the record's
+ * number, or the refusal (1 to 7, 10 to 13) and no byte is changed. The new image's length stands in bytes 1 and 2;
+ * the bytes past it stay as they were. */
+uint64_t mungaite_add(uint8_t *buffer, size_t length, const uint8_t *record, size_t record_length);
+
+#ifdef __cplusplus
+}
+#endif
+
+#endif

@@ -1,0 +1,39 @@
+//! Decides some queries on a small policy, adds a rule and asks again.
+
+use mungaite::{add, decide, group, image, record, Query, Refusal, Section};
+
+#[rustfmt::skip]
+const SAMPLE: [u8; 80] = [
+    0x01, 0x00, 0x50, 0x00, 0x01, 0x00, 0x04, 0x00, 0x02,
+    0x06, 0x01, 0x00, 0x14, 0x00, 0x15,
+    0x0B, 0x02, 0x00, 0x0A, 0x80, 0x00, 0x00, 0x05, 0x00, 0x01, 0x01,
+    0x0B, 0x02, 0x00, 0x14, 0x00, 0x1E, 0x00, 0x05, 0x00, 0x02, 0x01,
+    0x08, 0x03, 0x00, 0x0C, 0x00, 0x14, 0x00, 0x05,
+    0x0B, 0x02, 0x00, 0x0D, 0x00, 0x15, 0x00, 0x05, 0x00, 0x01, 0x00,
+    0x0D, 0x04, 0x00, 0x05, 0x00, 0x01, 0x00, 0x0A, 0x00, 0x15, 0x02, 0x00, 0x0A,
+    0x0B, 0x04, 0x00, 0x05, 0x00, 0x02, 0x00, 0x14, 0x00, 0x1E, 0x01,
+];
+
+/// Allow 10 to 30, class 5, action 3, on.
+const RULE: [u8; 11] = [11, 2, 0, 10, 0, 30, 0, 5, 0, 3, 1];
+
+fn query(source: u16, destination: u16, class: u16, action: u16) -> Query {
+    Query { source, destination, class, action }
+}
+
+fn main() -> Result<(), Refusal> {
+    println!("10 to group 0: {}", decide(&SAMPLE, query(10, group(0), 5, 1))?);
+    println!("13 to 21: {}", decide(&SAMPLE, query(13, 21, 5, 1))?);
+    println!("20 to 30: {}", decide(&SAMPLE, query(20, 30, 5, 2))?);
+    if let Err(refusal) = decide(&SAMPLE, query(1024, 21, 5, 1)) {
+        println!("1024 to 21: {refusal}");
+    }
+
+    let mut buffer = [0; 128];
+    buffer[..SAMPLE.len()].copy_from_slice(&SAMPLE);
+    let number = add(&mut buffer, &RULE)?;
+    let grown = image(&buffer).expect("an image that was added to is whole");
+    println!("rule {number} is {:?}", record(grown, Section::Rules, number)?);
+    println!("20 to 30: {}", decide(grown, query(20, 30, 5, 2))?);
+    Ok(())
+}

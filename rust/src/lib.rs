@@ -1,0 +1,99 @@
+//! Mungaite: permissions for a policy image.
+//!
+//! A policy is an image, a slice of bytes: groups of types, rules, constraints. [`check`] tells whether an image is
+//! accepted, [`decide`] answers a query, [`record`] gives one of the image's records and [`add`] puts one more into a
+//! buffer. Nothing is kept between calls and there is no heap: every call reads the image that it is handed.
+//!
+//! ```
+//! use mungaite::{add, decide, Decision, Query};
+//!
+//! // The empty policy, in a buffer with room to grow.
+//! let mut buffer = [0; 64];
+//! buffer[..9].copy_from_slice(&[1, 0, 9, 0, 0, 0, 0, 0, 0]);
+//!
+//! // Allow type 10 to type 21, class 5, action 1, on.
+//! let rule = [11, 2, 0, 10, 0, 21, 0, 5, 0, 1, 1];
+//! assert_eq!(add(&mut buffer, &rule), Ok(0));
+//!
+//! let image = mungaite::image(&buffer).unwrap();
+//! let query = Query { source: 10, destination: 21, class: 5, action: 1 };
+//! assert_eq!(decide(image, query), Ok(Decision::Permitted { rule: 0 }));
+//! ```
+
+#![warn(missing_docs)]
+
+mod answer;
+mod query;
+pub mod raw;
+mod refusal;
+
+pub use answer::{Decision, Kind};
+pub use query::{group, Query, Section};
+pub use refusal::{Cause, Refusal};
+
+/// The length of the largest image that is accepted.
+pub const LARGEST: usize = 55_561;
+
+/// The empty policy: no group, no rule, no constraint.
+pub const EMPTY: [u8; 9] = [1, 0, 9, 0, 0, 0, 0, 0, 0];
+
+/// Whether an image is accepted.
+///
+/// ```
+/// assert_eq!(mungaite::check(&mungaite::EMPTY), Ok(()));
+/// assert_eq!(mungaite::check(&[]).unwrap_err().number, 1);
+/// ```
+pub fn check(image: &[u8]) -> Result<(), Refusal> {
+    // SAFETY: the pointer and the length are those of one slice.
+    answer::checked(unsafe { raw::mungaite_check(image.as_ptr(), image.len()) })
+}
+
+/// The decision of a query on an image. The image is checked first.
+///
+/// ```
+/// use mungaite::{decide, Decision, Query, EMPTY};
+///
+/// let query = Query { source: 0, destination: 0, class: 0, action: 0 };
+/// assert_eq!(decide(&EMPTY, query), Ok(Decision::NotPermitted));
+/// assert_eq!(decide(&EMPTY, Query { source: 1024, ..query }).unwrap_err().number, 8);
+/// ```
+pub fn decide(image: &[u8], query: Query) -> Result<Decision, Refusal> {
+    let Query { source, destination, class, action } = query;
+    // SAFETY: the pointer and the length are those of one slice.
+    answer::decided(unsafe { raw::mungaite_decide(source, destination, class, action, image.as_ptr(), image.len()) })
+}
+
+/// Record `n` of a section, counted from 0: its own bytes, a part of the image. The image is checked first.
+///
+/// ```
+/// use mungaite::{record, Section};
+///
+/// let image = [1, 0, 17, 0, 0, 0, 1, 0, 0, 8, 3, 0, 12, 0, 20, 0, 5];
+/// assert_eq!(record(&image, Section::Rules, 0), Ok(&image[9..]));
+/// assert_eq!(record(&image, Section::Rules, 1).unwrap_err().number, 14);
+/// ```
+pub fn record(image: &[u8], section: Section, n: u16) -> Result<&[u8], Refusal> {
+    // SAFETY: the pointer and the length are those of one slice.
+    answer::found(unsafe { raw::mungaite_record(section as u16, n, image.as_ptr(), image.len()) })
+        .map(|part| &image[part])
+}
+
+/// Adds a record to the image that a buffer starts with, in place, and gives the record's number in its section.
+///
+/// The record goes to the end of its section. Bytes past the new image stay as they were, and a refusal leaves every
+/// byte as it was.
+pub fn add(buffer: &mut [u8], record: &[u8]) -> Result<u16, Refusal> {
+    // SAFETY: each pointer and length are those of one slice, and a slice that may be written overlaps no other.
+    answer::added(unsafe { raw::mungaite_add(buffer.as_mut_ptr(), buffer.len(), record.as_ptr(), record.len()) })
+}
+
+/// The part of a buffer that its image's length field names, unchecked; `None` where the buffer is shorter.
+///
+/// ```
+/// assert_eq!(mungaite::image(&[1, 0, 9, 0, 0, 0, 0, 0, 0, 77, 77]), Some(&mungaite::EMPTY[..]));
+/// assert_eq!(mungaite::image(&[1, 0, 9]), None);
+/// ```
+pub fn image(buffer: &[u8]) -> Option<&[u8]> {
+    let length = u16::from_be_bytes([*buffer.get(1)?, *buffer.get(2)?]);
+    buffer.get(..usize::from(length))
+}

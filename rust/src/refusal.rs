@@ -1,0 +1,115 @@
+//! Refusals and their causes.
+
+use std::{error, fmt};
+
+/// The engine's no: the cause's number, and the place that it was found at.
+#[derive(Clone, Copy, Debug, PartialEq, Eq, Hash)]
+pub struct Refusal {
+    /// The number of the cause, 1 to 14.
+    pub number: u16,
+    /// A place in the image (causes 4 to 7) or in the added record (cause 11), in bytes from its start; else 0.
+    pub place: u16,
+}
+
+/// Why the engine refused. Each cause's value is its number.
+#[derive(Clone, Copy, Debug, PartialEq, Eq, PartialOrd, Ord, Hash)]
+#[non_exhaustive]
+pub enum Cause {
+    /// The image has fewer than 9 bytes.
+    ShortImage = 1,
+    /// The version is not 1.
+    Version = 2,
+    /// The length field is below 9 or is not the image's length (adding: is beyond the buffer).
+    Length = 3,
+    /// A count is over its limit.
+    Count = 4,
+    /// A record runs past the image, is not of its section's kinds, or has a length that its kind has not.
+    Record = 5,
+    /// A field breaks its rule.
+    Field = 6,
+    /// Bytes follow the last record.
+    Trailing = 7,
+    /// The query's source is no type of the policy.
+    Source = 8,
+    /// The query's destination is no type of the policy.
+    Destination = 9,
+    /// The added record's length or kind is wrong.
+    AddedRecord = 10,
+    /// A field of the added record breaks its rule.
+    AddedField = 11,
+    /// The section is at its limit.
+    Full = 12,
+    /// The buffer cannot hold the image and the record.
+    ShortBuffer = 13,
+    /// The section has no record of that number.
+    NoRecord = 14,
+}
+
+impl Cause {
+    /// Every cause, in the order of their numbers.
+    pub const ALL: [Cause; 14] = [
+        Cause::ShortImage,
+        Cause::Version,
+        Cause::Length,
+        Cause::Count,
+        Cause::Record,
+        Cause::Field,
+        Cause::Trailing,
+        Cause::Source,
+        Cause::Destination,
+        Cause::AddedRecord,
+        Cause::AddedField,
+        Cause::Full,
+        Cause::ShortBuffer,
+        Cause::NoRecord,
+    ];
+
+    fn sentence(self) -> &'static str {
+        match self {
+            Cause::ShortImage => "the image has fewer than 9 bytes",
+            Cause::Version => "the image's version is not 1",
+            Cause::Length => "the image's length field does not fit the bytes",
+            Cause::Count => "a count is over its limit",
+            Cause::Record => "a record runs past the image, or its kind or length is wrong",
+            Cause::Field => "a field breaks its rule",
+            Cause::Trailing => "bytes follow the last record",
+            Cause::Source => "the query's source is no type of the policy",
+            Cause::Destination => "the query's destination is no type of the policy",
+            Cause::AddedRecord => "the added record's length or kind is wrong",
+            Cause::AddedField => "a field of the added record breaks its rule",
+            Cause::Full => "the section is at its limit",
+            Cause::ShortBuffer => "the buffer is too short for the image and the record",
+            Cause::NoRecord => "the section has no record of that number",
+        }
+    }
+
+    fn has_place(self) -> bool {
+        matches!(self, Cause::Count | Cause::Record | Cause::Field | Cause::Trailing | Cause::AddedField)
+    }
+}
+
+impl Refusal {
+    /// The cause; `None` for a number that this crate does not know.
+    pub fn cause(self) -> Option<Cause> {
+        Cause::ALL.into_iter().find(|cause| *cause as u16 == self.number)
+    }
+}
+
+/// A sentence, with the place where the cause has one.
+///
+/// ```
+/// let refusal = mungaite::Refusal { number: 6, place: 17 };
+/// assert_eq!(refusal.to_string(), "a field breaks its rule (refusal 6, at byte 17)");
+/// ```
+impl fmt::Display for Refusal {
+    fn fmt(&self, f: &mut fmt::Formatter<'_>) -> fmt::Result {
+        let Refusal { number, place } = self;
+        match self.cause() {
+            Some(cause) if cause.has_place() => write!(f, "{} (refusal {number}, at byte {place})", cause.sentence()),
+            Some(cause) => write!(f, "{} (refusal {number})", cause.sentence()),
+            None => write!(f, "refused (refusal {number}, at byte {place})"),
+        }
+    }
+}
+
+impl error::Error for Refusal {}
