@@ -1,0 +1,82 @@
+//! One call, made of the engine and of the model: the answers must be equal, and so must every byte.
+
+use crate::model::Model;
+use crate::subject::Subject;
+use mungaite::{Query, Section};
+use std::fmt::Debug;
+
+/// The engine, and the model that it is compared with.
+pub struct Pair<'a> {
+    pub engine: &'a dyn Subject,
+    pub model: Model,
+}
+
+/// The result of a case: what differs, where something does.
+pub type Outcome = Result<(), String>;
+
+/// Bytes on either side of a buffer, which no call may touch.
+const GUARD: [u8; 24] = [0xA5; 24];
+
+impl Pair<'_> {
+    pub fn check(&self, image: &[u8]) -> Outcome {
+        equal("check", self.engine.check(image), self.model.check(image), || hex(image))
+    }
+
+    pub fn record(&self, image: &[u8], section: Section, n: u16) -> Outcome {
+        let answers = (self.engine.record(image, section, n), self.model.record(image, section, n));
+        equal("record", answers.0, answers.1, || format!("{section:?} {n} of {}", hex(image)))
+    }
+
+    pub fn decide(&self, image: &[u8], query: Query) -> Outcome {
+        let answers = (self.engine.decide(image, query), self.model.decide(image, query));
+        equal("decide", answers.0, answers.1, || format!("{query:?} on {}", hex(image)))
+    }
+
+    pub fn add(&self, buffer: &[u8], record: &[u8]) -> Outcome {
+        let shown = || format!("{} into {}", hex(record), hex(buffer));
+        let mut guarded = [&GUARD, buffer, &GUARD].concat();
+        let place = GUARD.len()..GUARD.len() + buffer.len();
+        let answer = self.engine.add(&mut guarded[place.clone()], record);
+        if answer.is_err() {
+            same_bytes("buffer after a refused add", &guarded[place.clone()], buffer, shown)?;
+        }
+        let mut modelled = buffer.to_vec();
+        equal("add", answer, self.model.add(&mut modelled, record), shown)?;
+        same_bytes("buffer after add", &guarded[place.clone()], &modelled, shown)?;
+        if guarded[..place.start] != GUARD || guarded[place.end..] != GUARD {
+            return Err(format!("add wrote outside of its buffer: {}", shown()));
+        }
+        Ok(())
+    }
+
+    pub fn permit(&self, input: &[u8]) -> Outcome {
+        equal("permit", self.engine.permit(input), self.model.permit(input), || hex(input))
+    }
+}
+
+/// Says what differs, if the engine's answer is not the expected one.
+pub fn equal<T: PartialEq + Debug>(call: &str, engine: T, expected: T, shown: impl Fn() -> String) -> Outcome {
+    if engine == expected {
+        return Ok(());
+    }
+    Err(format!("{call}: got {engine:?}, expected {expected:?}\n    for {}", shown()))
+}
+
+/// Says where bytes differ, if they do.
+pub fn same_bytes(what: &str, engine: &[u8], expected: &[u8], shown: impl Fn() -> String) -> Outcome {
+    if engine == expected {
+        return Ok(());
+    }
+    let at = engine.iter().zip(expected).take_while(|(one, other)| one == other).count();
+    let (got, wanted) = (hex(&engine[at..]), hex(&expected[at..]));
+    Err(format!("{what}: from byte {at} on got {got}, expected {wanted}\n    for {}", shown()))
+}
+
+/// Bytes in hexadecimal, the middle of a long row left out.
+pub fn hex(bytes: &[u8]) -> String {
+    let digits = |part: &[u8]| part.iter().map(|byte| format!("{byte:02X}")).collect::<Vec<_>>().join(" ");
+    match bytes.len() {
+        0..=400 => digits(bytes),
+        length => format!("{} .. {} ({length} bytes)", digits(&bytes[..200]), digits(&bytes[length - 100..])),
+    }
+}

@@ -1,0 +1,75 @@
+//! The engine: the library, called through the crate `mungaite`, and the program `permit`, run as a process.
+
+use crate::subject::Subject;
+use mungaite::{Decision, Query, Refusal, Section};
+use std::io::{Read, Write};
+use std::ops::Range;
+use std::path::PathBuf;
+use std::process::{Command, Stdio};
+use std::{env, thread};
+
+/// Where the program is unless the environment variable PERMIT names another place. Relative to this crate's folder.
+const PERMIT: &str = "../target/bin/permit";
+
+pub struct Engine {
+    permit: PathBuf,
+}
+
+impl Engine {
+    pub fn new() -> Engine {
+        let crate_folder = PathBuf::from(env!("CARGO_MANIFEST_DIR"));
+        Engine { permit: env::var_os("PERMIT").map_or(crate_folder.join(PERMIT), PathBuf::from) }
+    }
+}
+
+impl Subject for Engine {
+    fn check(&self, image: &[u8]) -> Result<(), Refusal> {
+        mungaite::check(image)
+    }
+
+    fn record(&self, image: &[u8], section: Section, n: u16) -> Result<Range<usize>, Refusal> {
+        let record = mungaite::record(image, section, n)?;
+        let place = record.as_ptr() as usize - image.as_ptr() as usize;
+        Ok(place..place + record.len())
+    }
+
+    fn decide(&self, image: &[u8], query: Query) -> Result<Decision, Refusal> {
+        mungaite::decide(image, query)
+    }
+
+    fn add(&self, buffer: &mut [u8], record: &[u8]) -> Result<u16, Refusal> {
+        mungaite::add(buffer, record)
+    }
+
+    fn permit(&self, input: &[u8]) -> String {
+        let mut child = Command::new(&self.permit)
+            .stdin(Stdio::piped())
+            .stdout(Stdio::piped())
+            .spawn()
+            .unwrap_or_else(|error| panic!("cannot run {} (set PERMIT): {error}", self.permit.display()));
+        let mut stdin = child.stdin.take().expect("stdin is piped");
+        let mut stdout = child.stdout.take().expect("stdout is piped");
+        let mut output = String::new();
+        thread::scope(|scope| {
+            scope.spawn(move || write_in_pieces(&mut stdin, input));
+            stdout.read_to_string(&mut output).expect("the output is text");
+        });
+        let status = child.wait().expect("the program can be waited for");
+        assert!(status.code().is_some(), "the program was killed: {status}");
+        output
+    }
+}
+
+/// Writes pieces of 1, 2, 4 and so on bytes, so that the program's reads end at many places. A program that refuses
+/// the image may end before it has read everything: a failed write is no fault.
+fn write_in_pieces(to: &mut impl Write, input: &[u8]) {
+    let mut rest = input;
+    let mut size = 1;
+    while !rest.is_empty() {
+        let (piece, later) = rest.split_at(size.min(rest.len()));
+        if to.write_all(piece).is_err() {
+            return;
+        }
+        (rest, size) = (later, 2 * size);
+    }
+}

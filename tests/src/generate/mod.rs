@@ -1,0 +1,18 @@
+//! Inputs from a seed.
+//!
+//! - `alphabet`: the few types, classes and actions that a case is made of, so that its records meet
+//! - `policy`: random policies
+//! - `query`: random queries on them
+//! - `damage`: images and records with something wrong
+//! - `pairs`: a policy and one that holds it
+//! - `cases`: the inputs of each call, put together
+
+mod alphabet;
+mod cases;
+mod damage;
+mod pairs;
+mod policy;
+mod query;
+
+pub use cases::{add_case, check_case, decide_case, permit_case, policy_case, record_case};
+pub use pairs::{pair_case, HeldPair};

@@ -1,0 +1,31 @@
+//! Tests of the engine against an independent model of document 01. README.md says how to run them.
+
+mod compare;
+mod draft;
+mod engine;
+mod generate;
+mod model;
+mod options;
+mod random;
+mod runner;
+mod sample;
+mod subject;
+mod suite;
+
+use options::{Options, USAGE};
+use runner::Run;
+use std::process::ExitCode;
+
+fn main() -> ExitCode {
+    let options = match Options::read(std::env::args().skip(1)) {
+        Ok(options) => options,
+        Err(what) => {
+            eprintln!("{what}\n{USAGE}");
+            return ExitCode::from(2);
+        }
+    };
+    println!("start seed {}, {}", options.start, if options.long { "long" } else { "quick" });
+    let mut run = Run::new(options);
+    suite::all(&mut run);
+    ExitCode::from(u8::from(!run.finish()))
+}

@@ -1,0 +1,52 @@
+//! "The policy image": numbers in bytes, and an image as three lists of records.
+
+use mungaite::Section;
+
+/// The length of the header, and so of the empty policy.
+pub const HEADER: usize = 9;
+
+/// The big-endian number at a place.
+pub fn number(bytes: &[u8], place: usize) -> u16 {
+    u16::from(bytes[place]) * 256 + u16::from(bytes[place + 1])
+}
+
+/// The place of a section's count in the header.
+pub fn count_place(section: Section) -> usize {
+    match section {
+        Section::Groups => 3,
+        Section::Rules => 5,
+        Section::Constraints => 7,
+    }
+}
+
+/// The records of an image, each its own bytes, by section.
+#[derive(Default)]
+pub struct Records {
+    lists: [Vec<Vec<u8>>; 3],
+}
+
+impl Records {
+    pub fn of(&self, section: Section) -> &[Vec<u8>] {
+        &self.lists[section as usize]
+    }
+
+    pub fn push(&mut self, section: Section, record: &[u8]) {
+        self.lists[section as usize].push(record.to_vec());
+    }
+
+    /// The image that holds these records.
+    pub fn image(&self) -> Vec<u8> {
+        let records: Vec<u8> = self.lists.iter().flatten().flatten().copied().collect();
+        let mut image = vec![1];
+        image.extend(big_endian(HEADER + records.len()));
+        for list in &self.lists {
+            image.extend(big_endian(list.len()));
+        }
+        image.extend(records);
+        image
+    }
+}
+
+fn big_endian(number: usize) -> [u8; 2] {
+    [(number / 256) as u8, (number % 256) as u8]
+}

@@ -1,0 +1,111 @@
+//! Which images are accepted: causes 1 to 7, in their order.
+
+use super::bytes::{count_place, number, Records, HEADER};
+use super::{refusal, Model, Slip};
+use mungaite::{Refusal, Section};
+
+impl Model {
+    /// The records of an image, or the first cause that applies to it.
+    pub fn read(self, image: &[u8]) -> Result<Records, Refusal> {
+        if self.leading_image(image)?.len() != image.len() {
+            return Err(refusal(3, 0));
+        }
+        self.counts(image)?;
+        if self.slips(Slip::FieldsAfterRecords) {
+            self.records(image, false)?;
+        }
+        self.records(image, true)
+    }
+
+    /// The image that some bytes start with, up to its length field: causes 1 to 3 as adding and the program have them.
+    pub fn leading_image(self, bytes: &[u8]) -> Result<&[u8], Refusal> {
+        if bytes.len() < HEADER {
+            return Err(refusal(1, 0));
+        }
+        if bytes[0] != 1 {
+            return Err(refusal(2, 0));
+        }
+        let length = usize::from(number(bytes, 1));
+        if length < HEADER || length > bytes.len() {
+            return Err(refusal(3, 0));
+        }
+        Ok(&bytes[..length])
+    }
+
+    fn counts(self, image: &[u8]) -> Result<(), Refusal> {
+        for section in Section::ALL {
+            let place = count_place(section);
+            if usize::from(number(image, place)) > self.limit(section) {
+                return Err(refusal(4, place));
+            }
+        }
+        Ok(())
+    }
+
+    /// The most records that a section may have.
+    pub fn limit(self, section: Section) -> usize {
+        let limit = match section {
+            Section::Groups => 256,
+            Section::Rules => 1024,
+            Section::Constraints => 256,
+        };
+        if self.slips(Slip::LimitReached(section)) {
+            limit - 1
+        } else if self.slips(Slip::LimitPassed(section)) {
+            limit + 1
+        } else {
+            limit
+        }
+    }
+
+    fn records(self, image: &[u8], look_at_fields: bool) -> Result<Records, Refusal> {
+        let groups = number(image, count_place(Section::Groups));
+        let mut records = Records::default();
+        let mut place = HEADER;
+        for section in Section::ALL {
+            for _ in 0..number(image, count_place(section)) {
+                let bad_place = if self.slips(Slip::RecordPlaceOff) { place + 1 } else { place };
+                let record = self.first_record(section, &image[place..]).ok_or(refusal(5, bad_place))?;
+                if look_at_fields {
+                    self.fields(record, groups).map_err(|at| refusal(6, place + at))?;
+                }
+                records.push(section, record);
+                place += record.len();
+            }
+        }
+        if place < image.len() && !self.slips(Slip::TrailingPasses) {
+            return Err(refusal(7, place));
+        }
+        Ok(records)
+    }
+
+    /// The record that the rest of an image starts with, if it ends within the image and its kind and length are right.
+    fn first_record(self, section: Section, rest: &[u8]) -> Option<&[u8]> {
+        let length = usize::from(*rest.first()?);
+        let kind = *rest.get(1)?;
+        let record = rest.get(..length)?;
+        (section_of(kind) == Some(section) && self.length_suits(kind, length)).then_some(record)
+    }
+
+    /// Whether a kind of record may have this length.
+    pub fn length_suits(self, kind: u8, length: usize) -> bool {
+        let over = if self.slips(Slip::LengthOver) { 2 } else { 0 };
+        match kind {
+            1 => (4..=130 + over).contains(&length) && length.is_multiple_of(2),
+            2 => length == 11,
+            3 => length == 8,
+            4 => (11..=43 + over).contains(&length) && !length.is_multiple_of(2),
+            _ => false,
+        }
+    }
+}
+
+/// The section that a kind of record belongs to.
+pub fn section_of(kind: u8) -> Option<Section> {
+    match kind {
+        1 => Some(Section::Groups),
+        2 | 3 => Some(Section::Rules),
+        4 => Some(Section::Constraints),
+        _ => None,
+    }
+}

@@ -1,0 +1,49 @@
+//! A model of document 01, written without a look at the engine's code: sets of numbers, plain structs, nothing made
+//! fast.
+//!
+//! - `bytes`: numbers in bytes; an image as three lists of records
+//! - `check`: which images are accepted, and the first cause where one is not
+//! - `fields`: the rules of a record's fields
+//! - `policy`: an accepted image with every type as its set
+//! - `predicate`: the four predicates
+//! - `decide`: cover, and the decision
+//! - `calls`: the engine's calls and the program
+//! - `slip`: mistakes that the model can be told to make
+
+mod bytes;
+mod calls;
+mod check;
+mod decide;
+mod fields;
+mod policy;
+mod predicate;
+mod slip;
+
+pub use slip::Slip;
+
+use mungaite::Refusal;
+
+/// Document 01, or document 01 with one mistake.
+#[derive(Clone, Copy)]
+pub struct Model {
+    slip: Option<Slip>,
+}
+
+impl Model {
+    /// Document 01 as it is written.
+    pub const RIGHT: Model = Model { slip: None };
+
+    /// The model that makes one mistake.
+    pub fn with(slip: Slip) -> Model {
+        Model { slip: Some(slip) }
+    }
+
+    fn slips(self, slip: Slip) -> bool {
+        self.slip == Some(slip)
+    }
+}
+
+fn refusal(number: u16, place: usize) -> Refusal {
+    let place = u16::try_from(place).expect("a place is within an image");
+    Refusal { number, place }
+}

@@ -1,0 +1,111 @@
+//! An accepted image with every type as the set of basic types that it stands for.
+
+use super::bytes::{number, Records};
+use super::{Model, Slip};
+use mungaite::{Query, Section};
+use std::collections::BTreeSet;
+
+pub type Set = BTreeSet<u16>;
+
+pub fn within(inner: &Set, outer: &Set) -> bool {
+    inner.is_subset(outer)
+}
+
+pub fn touches(one: &Set, other: &Set) -> bool {
+    !one.is_disjoint(other)
+}
+
+pub struct Policy {
+    pub groups: Vec<Set>,
+    pub rules: Vec<Rule>,
+    pub constraints: Vec<Constraint>,
+}
+
+pub struct Rule {
+    pub source: Set,
+    pub destination: Set,
+    pub class: u16,
+    /// What an allow rule has and a transition has not.
+    pub allow: Option<Allow>,
+    /// The source as it is written. Only a mistaken model looks at it.
+    pub source_field: u16,
+}
+
+pub struct Allow {
+    pub action: u16,
+    pub on: bool,
+}
+
+pub struct Constraint {
+    pub class: u16,
+    pub action: u16,
+    pub first: Set,
+    pub second: Set,
+    pub predicate: u8,
+    pub list: Vec<Set>,
+}
+
+/// A query with its types as sets.
+pub struct Request {
+    pub source: Set,
+    pub destination: Set,
+    pub class: u16,
+    pub action: u16,
+}
+
+impl Model {
+    /// The policy of accepted records.
+    pub fn policy(self, records: &Records) -> Policy {
+        let mut policy = Policy { groups: Vec::new(), rules: Vec::new(), constraints: Vec::new() };
+        for record in records.of(Section::Groups) {
+            let mut members: Set = (2..record.len()).step_by(2).map(|at| number(record, at)).collect();
+            if self.slips(Slip::LastMemberLost) && members.len() > 1 {
+                members.pop_last();
+            }
+            policy.groups.push(members);
+        }
+        policy.rules = records.of(Section::Rules).iter().map(|record| policy.rule(record)).collect();
+        policy.constraints = records.of(Section::Constraints).iter().map(|record| policy.constraint(record)).collect();
+        policy
+    }
+}
+
+impl Policy {
+    fn set(&self, field: u16) -> Set {
+        if field < 32768 {
+            Set::from([field])
+        } else {
+            self.groups.get(usize::from(field - 32768)).cloned().unwrap_or_default()
+        }
+    }
+
+    fn rule(&self, record: &[u8]) -> Rule {
+        Rule {
+            source: self.set(number(record, 2)),
+            destination: self.set(number(record, 4)),
+            class: number(record, 6),
+            allow: (record[1] == 2).then(|| Allow { action: number(record, 8), on: record[10] == 1 }),
+            source_field: number(record, 2),
+        }
+    }
+
+    fn constraint(&self, record: &[u8]) -> Constraint {
+        Constraint {
+            class: number(record, 2),
+            action: number(record, 4),
+            first: self.set(number(record, 6)),
+            second: self.set(number(record, 8)),
+            predicate: record[10],
+            list: (11..record.len()).step_by(2).map(|at| self.set(number(record, at))).collect(),
+        }
+    }
+
+    pub fn request(&self, query: Query) -> Request {
+        Request {
+            source: self.set(query.source),
+            destination: self.set(query.destination),
+            class: query.class,
+            action: query.action,
+        }
+    }
+}

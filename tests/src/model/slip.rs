@@ -1,0 +1,150 @@
+//! Mistakes that the model can be told to make, to see that the comparison with the engine notices them.
+
+use mungaite::Section;
+
+/// One mistake.
+#[derive(Clone, Copy, Debug, PartialEq, Eq)]
+pub enum Slip {
+    // The five misreadings of document 01.
+    LastRuleSkipped,
+    FailureLiftsUncovered,
+    CoverByTouch,
+    OffRuleLive,
+    PredicateOfOneClass,
+    // Deciding.
+    HighestRule,
+    HighestConstraint,
+    OffRuleCovers,
+    SwappedCover,
+    TransitionOfOneClass,
+    TransitionLive,
+    ConstraintOfAnyAction,
+    BanWithoutGate,
+    GateByTouch,
+    PredicateByWithin,
+    SeparationByField,
+    SeparationOfTwoRules,
+    RosterByFirst,
+    RosterOfOneType,
+    CompanionSameWay,
+    LastMemberLost,
+    // Checking.
+    LimitReached(Section),
+    LimitPassed(Section),
+    LengthOver,
+    RecordPlaceOff,
+    FieldPlaceOff,
+    RisingNotStrict,
+    BasicTypeOver,
+    GroupOver,
+    ListUnchecked,
+    FieldsAfterRecords,
+    TrailingPasses,
+    // Queries, records and adding.
+    DestinationFirst,
+    RecordPastEnd,
+    AddedAtImageEnd,
+    ShortBeforeFull,
+    RestCleared,
+    // The program.
+    StopsAtRefusedQuery,
+    LeftoverIgnored,
+}
+
+impl Slip {
+    pub const ALL: [Slip; 43] = [
+        Slip::LastRuleSkipped,
+        Slip::FailureLiftsUncovered,
+        Slip::CoverByTouch,
+        Slip::OffRuleLive,
+        Slip::PredicateOfOneClass,
+        Slip::HighestRule,
+        Slip::HighestConstraint,
+        Slip::OffRuleCovers,
+        Slip::SwappedCover,
+        Slip::TransitionOfOneClass,
+        Slip::TransitionLive,
+        Slip::ConstraintOfAnyAction,
+        Slip::BanWithoutGate,
+        Slip::GateByTouch,
+        Slip::PredicateByWithin,
+        Slip::SeparationByField,
+        Slip::SeparationOfTwoRules,
+        Slip::RosterByFirst,
+        Slip::RosterOfOneType,
+        Slip::CompanionSameWay,
+        Slip::LastMemberLost,
+        Slip::LimitReached(Section::Groups),
+        Slip::LimitReached(Section::Rules),
+        Slip::LimitReached(Section::Constraints),
+        Slip::LimitPassed(Section::Groups),
+        Slip::LimitPassed(Section::Rules),
+        Slip::LimitPassed(Section::Constraints),
+        Slip::LengthOver,
+        Slip::RecordPlaceOff,
+        Slip::FieldPlaceOff,
+        Slip::RisingNotStrict,
+        Slip::BasicTypeOver,
+        Slip::GroupOver,
+        Slip::ListUnchecked,
+        Slip::FieldsAfterRecords,
+        Slip::TrailingPasses,
+        Slip::DestinationFirst,
+        Slip::RecordPastEnd,
+        Slip::AddedAtImageEnd,
+        Slip::ShortBeforeFull,
+        Slip::RestCleared,
+        Slip::StopsAtRefusedQuery,
+        Slip::LeftoverIgnored,
+    ];
+
+    /// The mistake's name, in letters only.
+    pub fn name(self) -> String {
+        format!("{self:?}").replace(['(', ')'], "")
+    }
+
+    /// What the mistaken model does.
+    pub fn says(self) -> &'static str {
+        match self {
+            Slip::LastRuleSkipped => "the last rule is skipped, since nothing follows it",
+            Slip::FailureLiftsUncovered => "a failing constraint lifts an uncovered query to UnKnown",
+            Slip::CoverByTouch => "a rule covers a query that only touches it",
+            Slip::OffRuleLive => "rules that are off are counted by a predicate",
+            Slip::PredicateOfOneClass => "a predicate searches only rules of the query's class",
+            Slip::HighestRule => "the highest rule that covers is named",
+            Slip::HighestConstraint => "the highest constraint that fails is named",
+            Slip::OffRuleCovers => "a rule that is off covers",
+            Slip::SwappedCover => "source and destination are swapped in the cover",
+            Slip::TransitionOfOneClass => "a transition covers only queries of its class",
+            Slip::TransitionLive => "a transition is live",
+            Slip::ConstraintOfAnyAction => "a constraint applies whatever its action",
+            Slip::BanWithoutGate => "a ban is false whatever its arguments",
+            Slip::GateByTouch => "a constraint concerns a query that only touches its arguments",
+            Slip::PredicateByWithin => "a predicate wants a rule's type within an argument",
+            Slip::SeparationByField => "separation compares type fields, not sets",
+            Slip::SeparationOfTwoRules => "separation wants two different rules",
+            Slip::RosterByFirst => "the roster's rules are selected by the first argument",
+            Slip::RosterOfOneType => "the roster wants a source within one listed type",
+            Slip::CompanionSameWay => "the companion's rule goes the same way as the query",
+            Slip::LastMemberLost => "a group's last member is lost",
+            Slip::LimitReached(_) => "a count at its limit is refused",
+            Slip::LimitPassed(_) => "a count one over its limit passes",
+            Slip::LengthOver => "65 members and 17 listed types pass",
+            Slip::RecordPlaceOff => "a record's place is one too high",
+            Slip::FieldPlaceOff => "a field's place is one too high",
+            Slip::RisingNotStrict => "equal members pass",
+            Slip::BasicTypeOver => "1024 is a basic type",
+            Slip::GroupOver => "the group count itself names a group",
+            Slip::ListUnchecked => "any list suits any predicate",
+            Slip::FieldsAfterRecords => "all records are framed before any field is looked at",
+            Slip::TrailingPasses => "bytes after the last record pass",
+            Slip::DestinationFirst => "a bad destination comes before a bad source",
+            Slip::RecordPastEnd => "the record number that equals the count gives the last record",
+            Slip::AddedAtImageEnd => "an added record goes to the end of the image",
+            Slip::ShortBeforeFull => "a short buffer comes before a full section",
+            Slip::RestCleared => "adding clears the bytes past the image",
+            Slip::StopsAtRefusedQuery => "the program stops at a refused query",
+            Slip::LeftoverIgnored => "the program ignores 1 to 7 bytes left",
+        }
+    }
+}

@@ -1,0 +1,26 @@
+//! The tests, in the order in which they run.
+
+mod limits;
+mod mutation;
+mod order;
+mod random;
+mod reached;
+mod round_trip;
+mod sweep;
+mod worked;
+
+use crate::runner::{Cases, Run};
+
+/// The tests that compare the engine with the model on generated inputs, the cheapest first.
+fn differential() -> Vec<Cases> {
+    [random::TESTS, sweep::TESTS, limits::TESTS].concat()
+}
+
+pub fn all(run: &mut Run) {
+    for test in worked::TESTS.iter().chain(&differential()).chain(round_trip::TESTS).chain(order::TESTS) {
+        run.cases(test);
+    }
+    for test in reached::tests().iter().chain(&mutation::tests()) {
+        run.whole(test);
+    }
+}

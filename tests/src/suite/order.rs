@@ -1,0 +1,32 @@
+//! The order rule, on the engine's answers: a policy that holds another never gives a lower decision.
+
+use crate::compare::{hex, Outcome, Pair};
+use crate::generate::{pair_case, HeldPair};
+use crate::runner::{Cases, Count};
+use crate::subject::Subject;
+use mungaite::{Kind, Query, Refusal};
+
+pub const PAIRS: Cases = Cases { name: "order/pairs", count: Count::Random(50_000), run: pairs };
+
+pub const TESTS: &[Cases] = &[PAIRS];
+
+/// The two decisions of a pair. Both queries are accepted.
+pub fn decisions(engine: &dyn Subject, pair: &HeldPair) -> Result<(Kind, Kind), Refusal> {
+    let kind = |image: &[u8], query: Query| engine.decide(image, query).map(|decision| decision.kind());
+    Ok((kind(&pair.first, pair.first_query)?, kind(&pair.second, pair.second_query)?))
+}
+
+fn pairs(pair: &Pair, seed: u64) -> Outcome {
+    let held = pair_case(seed);
+    let (first, second) = decisions(pair.engine, &held).map_err(|refusal| format!("refused: {refusal}"))?;
+    if first <= second {
+        return Ok(());
+    }
+    Err(format!(
+        "{first:?}, then {second:?}\n    for {:?} on {}\n    and {:?} on {}",
+        held.first_query,
+        hex(&held.first),
+        held.second_query,
+        hex(&held.second)
+    ))
+}

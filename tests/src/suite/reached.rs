@@ -1,0 +1,130 @@
+//! The random inputs are not hollow: they reach every refusal, every decision and both sides of every predicate.
+
+use super::order::{decisions, PAIRS};
+use super::random::{ADD, CHECK, DECIDE, RECORD};
+use crate::generate::{add_case, check_case, decide_case, pair_case, record_case};
+use crate::model::Model;
+use crate::runner::{Finding, Run, Whole};
+use crate::subject::Subject;
+use std::collections::BTreeMap;
+use std::fmt::Debug;
+
+/// Each outcome must be reached so many times.
+const OFTEN: usize = 20;
+
+pub fn tests() -> Vec<Whole> {
+    let test = |name: &str, run: fn(&Run) -> Finding| Whole { name: name.to_string(), run: Box::new(run) };
+    vec![
+        test("reached/check", check),
+        test("reached/record", record),
+        test("reached/decide", decide),
+        test("reached/add", add),
+        test("reached/predicates", predicates),
+        test("reached/order", order),
+    ]
+}
+
+/// How often each outcome was seen.
+struct Tally<T>(BTreeMap<T, usize>);
+
+impl<T: Ord + Debug> Tally<T> {
+    fn new() -> Tally<T> {
+        Tally(BTreeMap::new())
+    }
+
+    fn see(&mut self, outcome: T) {
+        *self.0.entry(outcome).or_default() += 1;
+    }
+
+    /// Exactly the expected outcomes were seen, each often enough.
+    fn judge(self, mut expected: Vec<T>) -> Finding {
+        expected.sort();
+        let seen: Vec<&T> = self.0.keys().collect();
+        let shown = format!("{:?}", self.0);
+        let full = seen == expected.iter().collect::<Vec<_>>() && self.0.values().all(|&times| times >= OFTEN);
+        if full {
+            Ok(shown)
+        } else {
+            Err(format!("seen {shown}, expected each of {expected:?} {OFTEN} times or more"))
+        }
+    }
+}
+
+/// Refusals by number; 0 stands for an accepted call.
+fn outcome<T>(answer: Result<T, mungaite::Refusal>) -> u16 {
+    answer.map_or_else(|refusal| refusal.number, |_| 0)
+}
+
+fn check(run: &Run) -> Finding {
+    let mut tally = Tally::new();
+    for seed in run.seeds(&CHECK) {
+        tally.see(outcome(run.engine.check(&check_case(seed))));
+    }
+    tally.judge((0..=7).collect())
+}
+
+fn record(run: &Run) -> Finding {
+    let mut tally = Tally::new();
+    for seed in run.seeds(&RECORD) {
+        let (image, section, n) = record_case(seed);
+        tally.see(outcome(run.engine.record(&image, section, n)));
+    }
+    tally.judge((0..=7).chain([14]).collect())
+}
+
+fn decide(run: &Run) -> Finding {
+    let mut tally = Tally::new();
+    for seed in run.seeds(&DECIDE) {
+        let (image, queries) = decide_case(seed);
+        for query in queries {
+            tally.see(match run.engine.decide(&image, query) {
+                Ok(decision) => format!("{:?}", decision.kind()),
+                Err(refusal) => refusal.number.to_string(),
+            });
+        }
+    }
+    let decisions = ["NotPermitted", "Permitted", "UnKnown"].map(String::from);
+    tally.judge((1..=9).map(|number| number.to_string()).chain(decisions).collect())
+}
+
+fn add(run: &Run) -> Finding {
+    let mut tally = Tally::new();
+    for seed in run.seeds(&ADD) {
+        let (mut buffer, record) = add_case(seed);
+        tally.see(outcome(run.engine.add(&mut buffer, &record)));
+    }
+    tally.judge((0..=7).chain(10..=13).collect())
+}
+
+/// Of applying constraints of covered queries: the predicate, whether the query is within both arguments, and whether
+/// the predicate is true. Outside of its arguments every predicate is true, and a ban is never true within.
+fn predicates(run: &Run) -> Finding {
+    let mut tally = Tally::new();
+    for seed in run.seeds(&DECIDE) {
+        let (image, queries) = decide_case(seed);
+        for verdict in queries.iter().flat_map(|query| Model::RIGHT.verdicts(&image, *query)) {
+            tally.see((verdict.predicate, verdict.concerns, verdict.holds));
+        }
+    }
+    let outside = (0..=3).map(|predicate| (predicate, false, true));
+    let failing = (0..=3).map(|predicate| (predicate, true, false));
+    let holding = (1..=3).map(|predicate| (predicate, true, true));
+    tally.judge(outside.chain(failing).chain(holding).collect())
+}
+
+/// The order rule's pairs have every step that it allows.
+fn order(run: &Run) -> Finding {
+    use mungaite::Kind::{NotPermitted, Permitted, UnKnown};
+    let mut tally = Tally::new();
+    for seed in run.seeds(&PAIRS) {
+        tally.see(decisions(&run.engine, &pair_case(seed)).map_err(|refusal| format!("refused: {refusal}"))?);
+    }
+    tally.judge(vec![
+        (NotPermitted, NotPermitted),
+        (NotPermitted, Permitted),
+        (NotPermitted, UnKnown),
+        (Permitted, Permitted),
+        (Permitted, UnKnown),
+        (UnKnown, UnKnown),
+    ])
+}

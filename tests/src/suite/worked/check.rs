@@ -1,0 +1,95 @@
+//! Which images are accepted.
+
+use super::{both, no};
+use crate::compare::{Outcome, Pair};
+use crate::draft::{allow, constraint, group, transition, Draft};
+use crate::sample::{EMPTY, SAMPLE};
+use mungaite::Refusal;
+
+type Row = (&'static str, fn() -> Vec<u8>, Result<(), Refusal>);
+
+#[rustfmt::skip]
+pub const ROWS: &[Row] = &[
+    ("the sample", || SAMPLE.to_vec(), Ok(())),
+    ("the empty policy", || EMPTY.to_vec(), Ok(())),
+    ("last byte cut", || SAMPLE[..79].to_vec(), no(3, 0)),
+    ("cut, and length field 79", || with(&SAMPLE[..79], &[(2, 79)]), no(5, 69)),
+    ("one byte more and length field 81", || with(&[&SAMPLE[..], &[0]].concat(), &[(2, 81)]), no(7, 80)),
+    ("64 members", || groups(&[&rising(64)]), Ok(())),
+    ("65 members, a group record of length 132", || groups(&[&rising(65)]), no(5, 9)),
+    ("1,024 rules", || rules(1024), Ok(())),
+    ("1,025 rules", || rules(1025), no(4, 5)),
+    ("condition 2", || with(&SAMPLE, &[(25, 2)]), no(6, 25)),
+    // The table's causes, 1 to 4 in rising order.
+    ("no bytes", Vec::new, no(1, 0)),
+    ("8 bytes, version 0", || vec![0; 8], no(1, 0)),
+    ("version 2, length field 8", || vec![2, 0, 8, 0, 0, 0, 0, 0, 0], no(2, 0)),
+    ("length field 8, 257 groups", || vec![1, 0, 8, 1, 1, 0, 0, 0, 0], no(3, 0)),
+    ("length field 10", || vec![1, 0, 10, 0, 0, 0, 0, 0, 0], no(3, 0)),
+    ("257 groups", || vec![1, 0, 9, 1, 1, 0, 0, 0, 0], no(4, 3)),
+    ("257 constraints", || vec![1, 0, 9, 0, 0, 0, 0, 1, 1], no(4, 7)),
+    ("257 groups and 1,025 rules", || vec![1, 0, 9, 1, 1, 4, 1, 0, 0], no(4, 3)),
+    ("1,025 rules and 257 constraints", || vec![1, 0, 9, 0, 0, 4, 1, 1, 1], no(4, 5)),
+    ("65,536 bytes more than the length field says", || [&SAMPLE[..], &[0; 65536]].concat(), no(3, 0)),
+    // Records in order, 5 before 6 at each record, fields in byte order, then 7.
+    ("a count one too high", || with(&SAMPLE, &[(8, 3)]), no(5, 80)),
+    ("a count one too low", || with(&SAMPLE, &[(8, 1)]), no(7, 69)),
+    ("a lone length byte", || vec![1, 0, 10, 0, 1, 0, 0, 0, 0, 4], no(5, 9)),
+    ("a rule among the groups", || with(&SAMPLE, &[(10, 2)]), no(5, 9)),
+    ("kind 5", || with(&SAMPLE, &[(57, 5)]), no(5, 56)),
+    ("a group of length 2", || vec![1, 0, 11, 0, 1, 0, 0, 0, 0, 2, 1], no(5, 9)),
+    ("record length 0", || vec![1, 0, 11, 0, 1, 0, 0, 0, 0, 0, 1], no(5, 9)),
+    ("a bad field in record 0, a bad record 1", || with(&SAMPLE, &[(13, 4), (16, 9)]), no(6, 13)),
+    ("a bad record 0, a bad field in record 1", || with(&SAMPLE, &[(10, 9), (17, 4)]), no(5, 9)),
+    ("a bad last field and bytes after it", || with(&[&SAMPLE[..], &[0]].concat(), &[(2, 81), (79, 4)]), no(6, 79)),
+    // Fields.
+    ("member 1024", || groups(&[&[1023, 1024]]), no(6, 13)),
+    ("members that fall", || groups(&[&[21, 20]]), no(6, 13)),
+    ("equal members", || groups(&[&[20, 20]]), no(6, 13)),
+    ("a group among the members", || groups(&[&[5], &[32768]]), no(6, 15)),
+    ("two groups", || groups(&[&[5], &[0, 1023]]), Ok(())),
+    ("rule source 1024", || with(&SAMPLE, &[(17, 4), (18, 0)]), no(6, 17)),
+    ("rule destination g1", || with(&SAMPLE, &[(20, 1)]), no(6, 19)),
+    ("transition destination 32767", || with(&SAMPLE, &[(41, 127), (42, 255)]), no(6, 41)),
+    ("transition of class 65535", || Draft { rules: vec![transition(0, 1023, 65535)], ..Draft::default() }.image(), Ok(())),
+    ("first argument 1024", || with(&SAMPLE, &[(62, 4), (63, 0)]), no(6, 62)),
+    ("second argument g1", || with(&SAMPLE, &[(64, 128), (65, 1)]), no(6, 64)),
+    ("predicate 4", || with(&SAMPLE, &[(79, 4)]), no(6, 79)),
+    ("a roster without a list", || with(&SAMPLE, &[(79, 2)]), no(6, 79)),
+    ("a ban with a list", || with(&SAMPLE, &[(66, 0)]), no(6, 66)),
+    ("a list type 1024", || with(&SAMPLE, &[(67, 4), (68, 0)]), no(6, 67)),
+    ("a bad argument, and a list that does not suit", || constraints(&[constraint(0, 0, 0, 1024, 1, &[0])]), no(6, 17)),
+    ("a list that does not suit, of bad types", || constraints(&[constraint(0, 0, 0, 0, 1, &[1024])]), no(6, 19)),
+    ("a list of 16", || constraints(&[constraint(0, 0, 0, 0, 2, &[7; 16])]), Ok(())),
+    ("a list of 17, a record of length 45", || constraints(&[constraint(0, 0, 0, 0, 2, &[7; 17])]), no(5, 9)),
+];
+
+pub fn run(pair: &Pair, case: u64) -> Outcome {
+    let (what, image, expected) = ROWS[case as usize];
+    both(pair, what, expected, |subject| subject.check(&image()))
+}
+
+/// The bytes with other values at some places.
+fn with(bytes: &[u8], changes: &[(usize, u8)]) -> Vec<u8> {
+    let mut bytes = bytes.to_vec();
+    for &(place, value) in changes {
+        bytes[place] = value;
+    }
+    bytes
+}
+
+fn rising(count: u16) -> Vec<u16> {
+    (0..count).collect()
+}
+
+fn groups(members: &[&[u16]]) -> Vec<u8> {
+    Draft { groups: members.iter().map(|members| group(members)).collect(), ..Draft::default() }.image()
+}
+
+fn rules(count: usize) -> Vec<u8> {
+    Draft { rules: vec![allow(1, 2, 3, 4, 1); count], ..Draft::default() }.image()
+}
+
+fn constraints(records: &[Vec<u8>]) -> Vec<u8> {
+    Draft { constraints: records.to_vec(), ..Draft::default() }.image()
+}

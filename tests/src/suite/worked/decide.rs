@@ -1,0 +1,63 @@
+//! The sample sheet's queries.
+
+use super::{both, no};
+use crate::compare::{Outcome, Pair};
+use crate::sample::{query, EMPTY, G0, SAMPLE};
+use crate::subject::Subject;
+use mungaite::{Decision, Query, Refusal};
+
+type Row = (&'static [u8], &'static [&'static [u8]], Query, Result<Decision, Refusal>);
+
+/// Allow 10 to 30, class 5, action 3, on.
+pub const ALLOW_10_30: &[u8] = &[11, 2, 0, 10, 0, 30, 0, 5, 0, 3, 1];
+/// Allow 14 to g0, class 7, action 7, on.
+const ALLOW_14_G0: &[u8] = &[11, 2, 0, 14, 0x80, 0, 0, 7, 0, 7, 1];
+/// A companion constraint on class 5, action 1, arguments 10 and 21.
+const COMPANION: &[u8] = &[11, 4, 0, 5, 0, 1, 0, 10, 0, 21, 3];
+/// Allow 21 to 10, class 5, action 9, on.
+const ALLOW_21_10: &[u8] = &[11, 2, 0, 21, 0, 10, 0, 5, 0, 9, 1];
+
+/// An image, records added to it, a query, and what the document says.
+pub const ROWS: &[Row] = &[
+    (&SAMPLE, &[], query(10, 21, 5, 1), permitted(0)),
+    (&SAMPLE, &[], query(10, G0, 5, 1), permitted(0)),
+    (&SAMPLE, &[], query(13, 21, 5, 1), Ok(Decision::NotPermitted)),
+    (&SAMPLE, &[], query(12, 20, 9, 9), permitted(2)),
+    (&SAMPLE, &[], query(20, 30, 5, 2), permitted(1)),
+    (&SAMPLE, &[ALLOW_10_30], query(20, 30, 5, 2), unknown(1, 1)),
+    (&SAMPLE, &[ALLOW_14_G0], query(10, 21, 5, 1), unknown(0, 0)),
+    (&SAMPLE, &[ALLOW_14_G0], query(10, G0, 5, 1), permitted(0)),
+    (&SAMPLE, &[COMPANION], query(10, 21, 5, 1), unknown(0, 2)),
+    (&SAMPLE, &[COMPANION, ALLOW_21_10], query(10, 21, 5, 1), permitted(0)),
+    (&EMPTY, &[], query(0, 0, 0, 0), Ok(Decision::NotPermitted)),
+    (&SAMPLE, &[], query(1024, 21, 5, 1), no(8, 0)),
+    (&SAMPLE, &[], query(32769, 21, 5, 1), no(8, 0)),
+    (&SAMPLE, &[], query(1023, 21, 5, 1), Ok(Decision::NotPermitted)),
+    (&SAMPLE, &[], query(10, 1024, 5, 1), no(9, 0)),
+    (&SAMPLE, &[], query(10, 32769, 5, 1), no(9, 0)),
+    (&SAMPLE, &[], query(1024, 1024, 5, 1), no(8, 0)),
+    (&[1, 0, 8, 0, 0, 0, 0, 0, 0], &[], query(1024, 1024, 5, 1), no(3, 0)),
+];
+
+const fn permitted(rule: u16) -> Result<Decision, Refusal> {
+    Ok(Decision::Permitted { rule })
+}
+
+const fn unknown(rule: u16, constraint: u16) -> Result<Decision, Refusal> {
+    Ok(Decision::UnKnown { rule, constraint })
+}
+
+pub fn run(pair: &Pair, case: u64) -> Outcome {
+    let (image, added, query, expected) = ROWS[case as usize];
+    both(pair, &format!("{query:?}"), expected, |subject| subject.decide(&grown(subject, image, added)?, query))
+}
+
+/// The image with records added, by the subject itself.
+fn grown(subject: &dyn Subject, image: &[u8], added: &[&[u8]]) -> Result<Vec<u8>, Refusal> {
+    let mut grown = image.to_vec();
+    for record in added {
+        grown.resize(grown.len() + record.len(), 0);
+        subject.add(&mut grown, record)?;
+    }
+    Ok(grown)
+}

@@ -1,0 +1,44 @@
+//! A policy with every section at its limit, decided by its last records.
+
+use super::{both, no};
+use crate::compare::{Outcome, Pair};
+use crate::draft::{allow, constraint, group, Draft};
+use crate::sample::query;
+use mungaite::{Decision, Query, Refusal};
+
+type Row = (Query, Result<Decision, Refusal>);
+
+/// The last group: 960 to 1023.
+const G255: u16 = 32768 + 255;
+
+/// Of class 9 there is only the last rule, and only a ban, the last constraint. Of class 8 are the other rules, 1 to 2;
+/// of action 7 the other constraints.
+pub const ROWS: &[Row] = &[
+    (query(1023, 1023, 9, 9), Ok(Decision::UnKnown { rule: 1023, constraint: 255 })),
+    (query(G255, 960, 9, 9), Ok(Decision::UnKnown { rule: 1023, constraint: 255 })),
+    (query(G255, G255, 9, 9), Ok(Decision::UnKnown { rule: 1023, constraint: 255 })),
+    (query(1023, 959, 9, 9), Ok(Decision::NotPermitted)),
+    (query(1023, 1022, 9, 8), Ok(Decision::NotPermitted)),
+    (query(1, 2, 8, 9), Ok(Decision::Permitted { rule: 0 })),
+    (query(32768, 32768, 9, 9), Ok(Decision::NotPermitted)),
+    (query(G255 + 1, 1023, 9, 9), no(8, 0)),
+    (query(1023, G255 + 1, 9, 9), no(9, 0)),
+];
+
+pub fn run(pair: &Pair, case: u64) -> Outcome {
+    let (query, expected) = ROWS[case as usize];
+    let image = image();
+    both(pair, &format!("{query:?}"), expected, |subject| subject.decide(&image, query))
+}
+
+fn image() -> Vec<u8> {
+    let mut draft = Draft {
+        groups: vec![group(&[1, 2]); 256],
+        rules: vec![allow(1, 2, 8, 9, 1); 1024],
+        constraints: vec![constraint(8, 7, 1, 2, 0, &[]); 256],
+    };
+    draft.groups[255] = group(&(960..1024).collect::<Vec<u16>>());
+    draft.rules[1023] = allow(G255, G255, 9, 9, 1);
+    draft.constraints[255] = constraint(9, 9, G255, G255, 0, &[]);
+    draft.image()
+}

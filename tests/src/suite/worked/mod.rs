@@ -1,0 +1,40 @@
+//! Document 01's worked cases with its answers, and further rows whose answers were worked out by hand from its clauses.
+//! The engine and the model must both give them.
+
+mod add;
+mod check;
+mod decide;
+mod full;
+mod permit;
+mod record;
+
+use crate::compare::{equal, Outcome, Pair};
+use crate::runner::{Cases, Count};
+use crate::subject::Subject;
+use mungaite::Refusal;
+use std::fmt::Debug;
+
+pub const TESTS: &[Cases] = &[
+    Cases { name: "worked/check", count: Count::Listed(check::ROWS.len() as u64), run: check::run },
+    Cases { name: "worked/decide", count: Count::Listed(decide::ROWS.len() as u64), run: decide::run },
+    Cases { name: "worked/full", count: Count::Listed(full::ROWS.len() as u64), run: full::run },
+    Cases { name: "worked/record", count: Count::Listed(record::ROWS.len() as u64), run: record::run },
+    Cases { name: "worked/record-sections", count: Count::Listed(6), run: record::no_section },
+    Cases { name: "worked/add", count: Count::Listed(add::ROWS.len() as u64), run: add::run },
+    Cases { name: "worked/permit", count: Count::Listed(permit::ROWS.len() as u64), run: permit::run },
+    Cases { name: "worked/permit-many", count: Count::Listed(1), run: permit::many },
+];
+
+const fn no<T>(number: u16, place: u16) -> Result<T, Refusal> {
+    Err(Refusal { number, place })
+}
+
+/// Asks the engine, then the model.
+fn both<T>(pair: &Pair, what: &str, expected: T, ask: impl Fn(&dyn Subject) -> T) -> Outcome
+where
+    T: PartialEq + Debug + Clone,
+{
+    let shown = || what.to_string();
+    equal("engine", ask(pair.engine), expected.clone(), shown)?;
+    equal("model", ask(&pair.model), expected, shown)
+}
