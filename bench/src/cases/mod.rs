@@ -1,0 +1,7 @@
+//! The policies and queries that the tables are made of.
+
+pub mod constraints;
+mod mix;
+mod policy;
+pub mod search;
+pub mod sizes;

@@ -1,0 +1,44 @@
+//! One more record at the end of its section.
+
+use super::answer::Refusal;
+use super::check::check_front;
+use super::format::{count, count_place, GROUPS, HEADER, LIMITS};
+use super::give::place_after;
+use super::record::{bad_field, section_of};
+
+/// Adds a record to the image that starts the buffer and gives its number.
+/// A refusal leaves the buffer as it was.
+pub fn add(buffer: &mut [u8], record: &[u8]) -> Result<u16, Refusal> {
+    let length = check_front(buffer)?;
+    let section = shape(record).ok_or(Refusal::at(10, 0))?;
+    if let Some(place) = bad_field(record, count(buffer, GROUPS)) {
+        return Err(Refusal::at(11, place));
+    }
+    let number = count(buffer, section);
+    if number == LIMITS[section] {
+        return Err(Refusal::at(12, 0));
+    }
+    let grown = length + record.len();
+    if grown > buffer.len() {
+        return Err(Refusal::at(13, 0));
+    }
+    let records: usize = (0..=section).map(|s| usize::from(count(buffer, s))).sum();
+    let at = place_after(buffer, HEADER, records);
+    buffer.copy_within(at..length, at + record.len());
+    buffer[at..at + record.len()].copy_from_slice(record);
+    put(buffer, 1, grown as u16);
+    put(buffer, count_place(section), number + 1);
+    Ok(number)
+}
+
+/// The section of a lent record whose length and kind are right.
+fn shape(record: &[u8]) -> Option<usize> {
+    match *record {
+        [length, kind, ..] if usize::from(length) == record.len() => section_of(length, kind),
+        _ => None,
+    }
+}
+
+fn put(buffer: &mut [u8], at: usize, number: u16) {
+    buffer[at..at + 2].copy_from_slice(&number.to_be_bytes());
+}

@@ -1,0 +1,54 @@
+//! The image's layout: its numbers, its header and its limits.
+
+use super::answer::Refusal;
+
+pub const VERSION: u8 = 1;
+pub const HEADER: usize = 9;
+
+/// The sections, in the order in which they stand.
+pub const GROUPS: usize = 0;
+pub const RULES: usize = 1;
+pub const CONSTRAINTS: usize = 2;
+
+/// The most records that each section may hold.
+pub const LIMITS: [u16; 3] = [256, 1024, 256];
+
+pub const BASIC_TYPES: u16 = 1024;
+pub const FIRST_GROUP: u16 = 32768;
+
+#[inline]
+pub fn number(bytes: &[u8], at: usize) -> u16 {
+    u16::from_be_bytes([bytes[at], bytes[at + 1]])
+}
+
+/// Where the header holds the count of a section.
+pub fn count_place(section: usize) -> usize {
+    3 + 2 * section
+}
+
+pub fn count(image: &[u8], section: usize) -> u16 {
+    number(image, count_place(section))
+}
+
+/// Causes 1 and 2; otherwise the length field.
+pub fn length_field(bytes: &[u8]) -> Result<usize, Refusal> {
+    if bytes.len() < HEADER {
+        return Err(Refusal::at(1, 0));
+    }
+    if bytes[0] != VERSION {
+        return Err(Refusal::at(2, 0));
+    }
+    Ok(usize::from(number(bytes, 1)))
+}
+
+/// The group that a type field names, if it names one.
+#[inline]
+pub fn group_of(field: u16) -> Option<usize> {
+    field.checked_sub(FIRST_GROUP).map(usize::from)
+}
+
+/// Whether a field is a type in a policy of so many groups.
+#[inline]
+pub fn is_type(field: u16, groups: u16) -> bool {
+    field < BASIC_TYPES || (field >= FIRST_GROUP && field - FIRST_GROUP < groups)
+}

@@ -1,0 +1,85 @@
+//! The sets that types stand for, however a policy holds its groups.
+
+use super::format::group_of;
+use super::set::Set;
+
+pub trait Sets {
+    /// Puts a group's members into a set.
+    fn mark_group(&self, group: usize, set: &mut Set);
+    fn group_within(&self, group: usize, set: &Set) -> bool;
+    fn group_touches(&self, group: usize, set: &Set) -> bool;
+
+    fn mark(&self, field: u16, set: &mut Set) {
+        match group_of(field) {
+            None => set.insert(field),
+            Some(group) => self.mark_group(group, set),
+        }
+    }
+}
+
+/// A set that many types are tested against, one way only: each group is
+/// looked at once and its answer kept.
+pub struct Against<'a, S> {
+    sets: &'a S,
+    set: Set,
+    memo: Memo,
+}
+
+impl<'a, S: Sets> Against<'a, S> {
+    /// Against the union of some types.
+    pub fn new(sets: &'a S, fields: impl IntoIterator<Item = u16>) -> Against<'a, S> {
+        let mut set = Set::EMPTY;
+        for field in fields {
+            sets.mark(field, &mut set);
+        }
+        Against {
+            sets,
+            set,
+            memo: Memo::NEW,
+        }
+    }
+
+    #[inline]
+    pub fn touched_by(&mut self, field: u16) -> bool {
+        let Against { sets, set, memo } = self;
+        match group_of(field) {
+            None => set.has(field),
+            Some(group) => memo.ask(group, || sets.group_touches(group, set)),
+        }
+    }
+
+    #[inline]
+    pub fn holds(&mut self, field: u16) -> bool {
+        let Against { sets, set, memo } = self;
+        match group_of(field) {
+            None => set.has(field),
+            Some(group) => memo.ask(group, || sets.group_within(group, set)),
+        }
+    }
+}
+
+/// Answers that were found for groups before.
+pub struct Memo {
+    known: [u64; 4],
+    yes: [u64; 4],
+}
+
+impl Memo {
+    pub const NEW: Memo = Memo {
+        known: [0; 4],
+        yes: [0; 4],
+    };
+
+    #[inline]
+    pub fn ask(&mut self, group: usize, find: impl FnOnce() -> bool) -> bool {
+        let word = (group / 64) & 3;
+        let bit = 1 << (group % 64);
+        if self.known[word] & bit == 0 {
+            self.known[word] |= bit;
+            if find() {
+                self.yes[word] |= bit;
+            }
+        }
+        self.yes[word] & bit != 0
+    }
+}

@@ -1,0 +1,49 @@
+//! Tables on standard output.
+
+use crate::contest::{Case, Figures};
+use crate::measure::Effort;
+
+const FIRST: usize = 40;
+
+/// Runs the cases and prints three lines for each.
+pub fn print(title: &str, cases: &[Case], effort: Effort) {
+    println!("\n{title}\n");
+    println!(
+        "{:FIRST$} {:14} {:>12} {:>12} {:>6} {:>12}",
+        "policy and queries", "work", "ours", "hand-written", "ratio", "prepared"
+    );
+    for case in cases {
+        let figures = case.run(effort);
+        for (line, figures) in figures.iter().enumerate() {
+            let name = if line == 0 { case.name.as_str() } else { "" };
+            print_line(name, figures);
+        }
+    }
+}
+
+fn print_line(name: &str, figures: &Figures) {
+    println!(
+        "{name:FIRST$} {:14} {:>12} {:>12} {:>6.2} {:>12}",
+        figures.work,
+        nanoseconds(figures.ours),
+        nanoseconds(figures.hand_written),
+        figures.ours / figures.hand_written,
+        figures.prepared.map_or(String::new(), nanoseconds)
+    );
+}
+
+/// Three figures or more, in groups of three.
+fn nanoseconds(value: f64) -> String {
+    if value.abs() < 100.0 {
+        return format!("{value:.1}");
+    }
+    let digits = format!("{:.0}", value.abs());
+    let mut grouped = String::from(if value < 0.0 { "-" } else { "" });
+    for (index, digit) in digits.chars().enumerate() {
+        if index > 0 && (digits.len() - index) % 3 == 0 {
+            grouped.push(',');
+        }
+        grouped.push(digit);
+    }
+    grouped
+}
