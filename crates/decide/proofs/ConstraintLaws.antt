@@ -1,24 +1,23 @@
 -- Laws of a constraint in the image, and of its predicate by marks. Assumes nothing.
-use Prim.Native.Nat.{ℕ, zero, suc, _+_, _-_, _*_, _/_, _≤_, _<_}
-use mathlib.Core.Path.{_≡_, refl, sym, subst, ap, _∙_}
-use mathlib.Core.Bool.{Bool, true, false, not, cond, _&&_, _||_}
+use Prim.Native.Nat.{ℕ, suc, _+_, _-_, _*_, _/_, _<_}
+use mathlib.Core.Path.{_≡_, refl, sym, ap, _∙_}
+use mathlib.Core.Bool.{Bool, true, false, not, _&&_}
 use mathlib.Core.Option.{none}
 use mathlib.Core.List.{List, [], _∷_, map}
 use native.Mathlib.Omega.{arith}
-use lib.ListN.{length, getD, drop, replicate}
+use lib.ListN.{getD, replicate}
 use lib.Dec.{eqb}
 use borrow.Author.Tests.{eq-eqb, ne-eqb}
-use Rattle.format.specs.declared.Section.the-variants.{Groups, Rules, Constraints}
-use Rattle.format.specs.Bytes.{wordAt, words}
+use Rattle.format.specs.declared.Section.the-variants.{Groups, Constraints}
+use Rattle.format.specs.Bytes.{wordAt}
 use Rattle.format.specs.Format.{countOf}
 use Rattle.format.specs.Policy.{policyOf, recordAt, recordsAt, startOf, placeOf, placeAfter}
 use Rattle.format.specs.Check.{check}
 use Rattle.format.specs.Claims.{IsType}
 use Rattle.format.proofs.Shapes.{stands-word}
-use Rattle.format.proofs.Accepted.{place-next}
-use Rattle.format.proofs.Places.{wordsAt, RuleAt, rule-at, ConstraintAt}
+use Rattle.format.proofs.Places.{wordsAt, ConstraintAt}
 use Rattle.decision.specs.Sets.{anyOf, allOf, isIn, setOf, unionOf, within, touches, sameSet}
-use Rattle.decision.specs.Decide.{Rule, ruleOf, Constraint, constraintOf, Request, requestOf, firstAt, live, reaches, separationBroken, rosterBroken, companionBroken, broken, fails}
+use Rattle.decision.specs.Decide.{Rule, Constraint, constraintOf, Request, requestOf, firstAt, live, reaches, separationBroken, rosterBroken, companionBroken, broken, fails}
 use Rattle.decide.specs.Walks.{groupsIn, rulesIn, markAll, anyMarked, allMarked, wanted, strays, friend, pairedIn, foundOf, firstConstraint}
 use Rattle.decide.specs.declared.cover.Found.{Found}
 use Rattle.decide.specs.declared.cover.Found.the-variants.{At, Nothing}

@@ -1,15 +1,15 @@
 -- Laws of the search for the lowest covering rule, one for each way that a turn goes. Assumes nothing.
-use Prim.Native.Nat.{ℕ, zero, suc, _+_, _-_, _*_, _≤_, _<_}
-use mathlib.Core.Path.{_≡_, refl, sym, subst, ap, _∙_}
+use Prim.Native.Nat.{ℕ, suc, _+_, _-_, _≤_, _<_}
+use mathlib.Core.Path.{_≡_, refl, sym, _∙_}
 use mathlib.Core.Logic.{_⊎_, inl, inr, ⊎-elim}
 use mathlib.Core.Bool.{Bool, true, false, cond, _&&_}
-use mathlib.Core.Option.{Option, none, some}
-use mathlib.Core.List.{List, [], _∷_, map}
+use mathlib.Core.Option.{none}
+use mathlib.Core.List.{List, map}
 use native.Mathlib.Omega.{arith}
 use native.Mathlib.Numerals.{add-one}
-use lib.ListN.{length, getD, set, replicate}
+use lib.ListN.{getD, set}
 use lib.Dec.{eqb, ltb}
-use borrow.Author.Tests.{lt-ltb, le-ltb, eq-eqb, ne-eqb, eqb-true, eqb-false, ltb-true, ltb-false}
+use borrow.Author.Tests.{lt-ltb, le-ltb, eq-eqb, ne-eqb, ltb-false}
 use Rattle.format.specs.declared.Section.the-variants.{Groups, Rules}
 use Rattle.format.specs.Bytes.{wordAt}
 use Rattle.format.specs.Format.{countOf}
@@ -17,8 +17,8 @@ use Rattle.format.specs.Policy.{policyOf, recordAt, recordsAt, startOf, placeOf
 use Rattle.format.specs.Check.{check}
 use Rattle.format.specs.Claims.{IsType}
 use Rattle.format.proofs.Tests.{false-not-true}
-use Rattle.format.proofs.Shapes.{Stands, stands-word}
-use Rattle.format.proofs.Places.{RuleAt, rule-at}
+use Rattle.format.proofs.Shapes.{stands-word}
+use Rattle.format.proofs.Places.{RuleAt}
 use Rattle.decision.specs.declared.Query.{Query}
 use Rattle.decision.specs.Sets.{allOf, setOf, within}
 use Rattle.decision.specs.Decide.{Rule, ruleOf, Request, requestOf, live, tests, covers, firstAt}
@@ -26,7 +26,7 @@ use Rattle.decide.specs.declared.cover.Found.{Found}
 use Rattle.decide.specs.declared.cover.Found.the-variants.{At, Nothing}
 use Rattle.decide.specs.Walks.{groupsIn, mayAt, skippedOf, skipMore, noSkips, Skips, foundOf, firstRule}
 use Rattle.decide.proofs.ArrayLaws.{blank, by-set}
-use Rattle.decide.proofs.TypeLaws.{few-groups, type-group}
+use Rattle.decide.proofs.TypeLaws.{few-groups}
 
 -- ---- what a rule's tests come to
 

@@ -1,18 +1,17 @@
 -- Strictly rising lists of basic types: what a count of hits says of inclusion. Assumes nothing.
 --     hits-within      as many of w are in q as q has, where q is within w, and only there
 --     full-within      the same, of marks
-use Prim.Native.Nat.{ℕ, zero, suc, _+_, _≤_, _<_}
+use Prim.Native.Nat.{ℕ, suc, _+_, _≤_, _<_}
 use mathlib.Core.Path.{_≡_, refl, sym, ap, _∙_}
 use mathlib.Core.Bool.{Bool, true, false, _&&_, _||_, cond}
 use mathlib.Core.List.{List, [], _∷_}
 use lib.ListN.{length, getD}
 use native.Mathlib.Omega.{arith}
-use native.Mathlib.Nat.{add-zero, add-assoc, add-comm}
 use lib.Dec.{eqb, eqb·suc-suc}
 use borrow.Author.Tests.{eqb-true, eqb-false, eq-eqb, ne-eqb}
 use Rattle.format.proofs.Fields.{Rising}
-use Rattle.decision.specs.Sets.{anyOf, allOf, isIn, within, touches}
-use Rattle.decide.specs.Walks.{Marked, anyMarked, allMarked, tallied, fullyMarked}
+use Rattle.decision.specs.Sets.{anyOf, allOf, isIn, within}
+use Rattle.decide.specs.Walks.{Marked, tallied, fullyMarked}
 
 -- how many pass the test
 unfoldable pub tally : (ℕ → Bool) → List ℕ → ℕ

@@ -1,7 +1,7 @@
 -- Laws of the groups' places and of the members of a type. Assumes nothing.
-use Prim.Native.Nat.{ℕ, zero, suc, _+_, _-_, _*_, _/_, _%_, _≤_, _<_}
+use Prim.Native.Nat.{ℕ, _+_, _-_, _/_, _≤_, _<_}
 use mathlib.Core.Path.{_≡_, refl, sym, subst, ap, _∙_}
-use mathlib.Core.Logic.{_⊎_, inl, inr, ⊎-elim}
+use mathlib.Core.Logic.{inl, inr}
 use mathlib.Core.Bool.{Bool, true, false, cond}
 use mathlib.Core.Option.{none}
 use mathlib.Core.List.{List, [], _∷_}
@@ -13,11 +13,11 @@ use borrow.Author.Tests.{lt-ltb, le-ltb, eqb-true, eqb-false, ltb-true, ltb-fals
 use Rattle.format.specs.declared.Section.the-variants.{Groups}
 use Rattle.format.specs.Bytes.{wordAt, words}
 use Rattle.format.specs.Format.{countOf, limitOf}
-use Rattle.format.specs.Policy.{policyOf, recordsOf, recordAt, placeAfter, placeOf, startOf}
+use Rattle.format.specs.Policy.{recordsOf, placeAfter, placeOf, startOf}
 use Rattle.format.specs.Check.{check}
 use Rattle.format.specs.Claims.{IsType}
 use Rattle.format.proofs.Fields.{Rising}
-use Rattle.format.proofs.Accepted.{accepted-header, record-nth, record-stands, place-next}
+use Rattle.format.proofs.Accepted.{accepted-header, record-nth}
 use Rattle.format.proofs.Places.{wordsAt, GroupAt, group-at}
 use Rattle.decision.specs.Sets.{setOf}
 use Rattle.decide.specs.Walks.{groupsIn, placeIn, Placed, Places, Spans, Kept}

@@ -2,13 +2,13 @@
 --     a ⟹ b          the test a passes only where b does
 --     and⟹, not⟹, cond⟹, anyOf⟹, within⟹, ..   one for each connective
 use Prim.Native.Nat.{ℕ}
-use mathlib.Core.Path.{_≡_, refl, sym, subst, ap, _∙_}
+use mathlib.Core.Path.{_≡_, refl, sym, subst, _∙_}
 use mathlib.Core.Logic.{⊎-elim}
 use mathlib.Core.Bool.{Bool, true, false, not, _&&_, _||_, cond}
 use mathlib.Core.List.{List, [], _∷_, map, Memᴰ·cast, Memᴰ·map, List·Memᴰ, List·Memᴰ·head, List·Memᴰ·tail, List·Memᴰ·not-nil, List·Memᴰ·cases-cons}
 use lib.Dec.{eqb}
 use borrow.Author.Tests.{eqb-true}
-use Rattle.format.proofs.Tests.{both, and-true, either, true-not-false, false-not-true}
+use Rattle.format.proofs.Tests.{both, and-true, either, false-not-true}
 use Rattle.decision.specs.Sets.{anyOf, allOf, isIn, within}
 
 infix 4 _⟹_

@@ -1,11 +1,10 @@
 -- The decision names the lowest rule and the lowest constraint. Assumes nothing.
-use Prim.Native.Nat.{ℕ, zero, suc, _+_}
-use mathlib.Core.Path.{_≡_, refl, sym, subst, ap, _∙_}
-use mathlib.Core.Bool.{Bool, true, false, cond, _||_}
+use Prim.Native.Nat.{ℕ, suc, _+_}
+use mathlib.Core.Path.{_≡_, refl, sym, subst}
+use mathlib.Core.Bool.{Bool, true, false, cond}
 use mathlib.Core.Option.{Option, none, some}
 use mathlib.Core.List.{List, [], _∷_}
 use native.Mathlib.Omega.{arith}
-use lib.ListN.{take, drop}
 use Rattle.decision.specs.Sets.{anyOf}
 use Rattle.decision.specs.Decide.{Rule, Constraint, Request, covers, fails, firstAt, decisionOf, judge, decide}
 use Rattle.decision.specs.Lowest.{Lowest, Names, LowestNamed, LowestAnswered}

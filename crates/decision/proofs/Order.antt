@@ -2,35 +2,33 @@
 --     Above             the terms, over rules, constraints and queries as read, whatever their records
 --     judge-order       the rule at that level
 --     order             for two policies
-use Prim.Native.Nat.{ℕ, zero, suc, _+_, _-_, _≤_, _<_}
+use Prim.Native.Nat.{ℕ, suc, _+_, _-_, _≤_, _<_}
 use native.Mathlib.Omega.{arith}
-use mathlib.Core.Path.{_≡_, refl, sym, subst, ap, ap₂, _∙_}
+use mathlib.Core.Path.{_≡_, refl, sym, subst, ap, ap₂}
 use mathlib.Core.Logic.{_⊎_, inl, inr, ⊎-elim}
-use mathlib.Core.Bool.{Bool, true, false, not, _&&_, _||_, cond}
+use mathlib.Core.Bool.{Bool, true, false, not, _||_, cond}
 use mathlib.Core.Option.{Option, none, some}
-use mathlib.Core.List.{List, [], _∷_, _++_, map, List·Memᴰ, List·Memᴰ·head, List·Memᴰ·tail}
+use mathlib.Core.List.{List, [], _∷_, _++_, map, List·Memᴰ}
 use lib.ListN.{length, getD, drop, length-drop}
-use lib.Dec.{eqb, leb, ltb}
-use borrow.Author.Tests.{eqb-true, eqb-false, ltb-true, ltb-false, lt-ltb, le-ltb, eq-eqb}
-use Rattle.format.specs.declared.Section.{Section}
+use lib.Dec.{eqb}
+use borrow.Author.Tests.{eqb-false, lt-ltb, le-ltb, eq-eqb}
 use Rattle.format.specs.declared.Section.the-variants.{Groups, Rules, Constraints}
 use Rattle.format.specs.Bytes.{wordAt, words}
 use Rattle.format.specs.Refusals.{refusal, need, _orElse_}
 use Rattle.format.specs.Format.{isType, countOf}
 use Rattle.format.specs.Policy.{Policy, recordsOf, policyOf}
 use Rattle.format.specs.Check.{check}
-use Rattle.format.specs.Answers.{Outcome, refused, gives, outcome}
-use Rattle.format.specs.Claims.{IsType, IsAllow, IsTransition, IsConstraint, IsRecord}
+use Rattle.format.specs.Answers.{gives}
+use Rattle.format.specs.Claims.{IsType, IsConstraint, IsRecord}
 use Rattle.format.proofs.Chain.{orElse-split, orElse-none, need-true, need-none, outcome-gives}
 use Rattle.format.proofs.Bytes.{length-words, words-nth}
 use Rattle.format.proofs.Shapes.{Formed}
 use Rattle.format.proofs.Fields.{type-is, formed-is}
-use Rattle.format.proofs.Accepted.{records-count}
 use Rattle.format.proofs.Images.{policy-formed, group-count}
 use Rattle.decision.specs.declared.Query.{Query}
-use Rattle.decision.specs.Sets.{anyOf, allOf, isIn, setOf, unionOf, within, touches, sameSet}
-use Rattle.decision.specs.Decide.{Rule, ruleOf, Constraint, constraintOf, Request, requestOf, live, tests, covers, reaches, separationBroken, rosterBroken, companionBroken, broken, fails, firstAt, Decision, notPermitted, permitted, unknown, decisionOf, judge, decide, queryFault, answerFault, answer}
-use Rattle.decision.specs.Order.{height, Holds, Keeps, NoCompanion, Extends, OrderRule, QueryOrder, NonDecreasing, Decided}
+use Rattle.decision.specs.Sets.{anyOf, isIn, setOf, unionOf, within}
+use Rattle.decision.specs.Decide.{Rule, ruleOf, Constraint, constraintOf, Request, requestOf, tests, covers, reaches, separationBroken, rosterBroken, companionBroken, broken, fails, firstAt, Decision, decisionOf, judge, decide, queryFault, answerFault, answer}
+use Rattle.decision.specs.Order.{height, Keeps, Extends, OrderRule, QueryOrder, NonDecreasing, Decided}
 use Rattle.decision.proofs.Implies.{_⟹_, id⟹, eq⟹, and⟹, not⟹, cond⟹, anyOf⟹, within⟹, _⇉_, end, and, all⟹, cond⇉, map-mem, map-all, allOf-intro, anyOf-intro}
 
 -- ---- the height of a decision, from whether some rule covers and some constraint fails

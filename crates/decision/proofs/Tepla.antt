@@ -1,13 +1,12 @@
 -- TEpla's published evaluation decides as ours does: claims PublishedMeaning and PublishedAnswer. Assumes nothing.
-use Prim.Native.Nat.{ℕ, suc}
+use Prim.Native.Nat.{ℕ}
 use mathlib.Core.Path.{_≡_, refl, sym, ap, _∙_}
 use mathlib.Core.Bool.{Bool, true, false, not, _&&_, _||_, cond}
 use mathlib.Core.Option.{Option, none, some}
 use mathlib.Core.List.{List, [], _∷_, map}
 use lib.Dec.{eqb}
-use Rattle.format.specs.Policy.{policyOf}
 use Rattle.decision.specs.Sets.{anyOf, allOf, within}
-use Rattle.decision.specs.Decide.{Rule, Constraint, Request, live, tests, covers, broken, fails, firstAt, Decision, notPermitted, permitted, unknown, decisionOf, judge, decide}
+use Rattle.decision.specs.Decide.{Rule, Constraint, Request, live, tests, covers, broken, fails, firstAt, notPermitted, permitted, unknown, decisionOf, judge, decide}
 use Rattle.decision.specs.Tepla.{Dcs, NotPermitted, Permitted, UnKnown, compareDecisions, maximalDcs, maximum, allows, transits, evalRule, prdct, evalConstraint, maximalPolicy, evalPolicy, evalQuery, forget, PublishedMeaning, PublishedAnswer, PublishedOrder}
 use Rattle.decision.specs.Order.{height}
 use Rattle.decision.proofs.Order.{isFound, found-any, answer-accepted, decided}

@@ -1,13 +1,13 @@
 -- Laws of bytes moved up and written, by the turns of the loops. Assumes nothing.
 --     up-none, up-turn     a move, from the back: nothing is moved yet, and one byte more
 --     steps-insert         the four steps of an insertion, one after the other
-use Prim.Native.Nat.{ℕ, suc, _+_, _-_, _/_, _%_, _<_, _≤_}
+use Prim.Native.Nat.{ℕ, suc, _+_, _-_, _<_, _≤_}
 use mathlib.Core.Path.{_≡_, refl, sym, ap, _∙_}
 use mathlib.Core.List.{List, [], _∷_, _++_, append-assoc}
 use native.Mathlib.Omega.{arith}
 use native.Mathlib.Numerals.{add-one}
-use lib.ListN.{length, getD, take, drop, set, length-append, length-drop, length-set, take-append-drop, List·getD-append}
-use lib.Seq.{slice, slice-empty, slice-cons, length-slice, take-suc, append-snoc, set-at, drop-at, getD-take, length-take-le, take-append-le, take-take, take-length, paste}
+use lib.ListN.{length, getD, take, drop, set, take-append-drop, List·getD-append}
+use lib.Seq.{slice, slice-empty, slice-cons, take-suc, append-snoc, set-at, drop-at, getD-take, length-take-le, take-append-le, take-take, take-length}
 use Rattle.extension.specs.Splice.{putWordAt, spliced, inserted}
 use Rattle.extend.specs.Moves.{movedUp, pasted}
 

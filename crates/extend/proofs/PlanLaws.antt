@@ -1,37 +1,32 @@
 -- Laws of the plan of an add, by the ways that the code goes. Assumes nothing.
 use Prim.Native.Nat.{ℕ, _+_, _-_, _≤_, _<_}
 use mathlib.Core.Path.{_≡_, refl, sym, ap, _∙_}
-use mathlib.Core.Bool.{Bool, true, false, _&&_, cond}
+use mathlib.Core.Bool.{Bool, true, false}
 use mathlib.Core.Option.{Option, none, some}
 use mathlib.Core.List.{List}
 use native.Mathlib.Omega.{arith}
 use lib.ListN.{length, getD, take}
 use lib.Seq.{take-length}
-use lib.Dec.{leb, ltb}
-use borrow.Author.Tests.{le-ltb, lt-ltb, le-leb, lt-leb}
+use borrow.Author.Tests.{le-ltb, lt-ltb, lt-leb}
 use Rattle.format.specs.declared.Section.{Section}
 use Rattle.format.specs.declared.Section.the-variants.{Groups, Rules, Constraints}
-use Rattle.format.specs.declared.Refusal.{Refusal}
-use Rattle.format.specs.declared.Read.{Read}
 use Rattle.format.specs.declared.Read.the-variants.{Whole, Malformed, BadField}
 use Rattle.format.specs.declared.Starts.{Starts}
 use Rattle.format.specs.Bytes.{Bytes, wordAt}
-use Rattle.format.specs.Refusals.{refusal, need, _orElse_}
+use Rattle.format.specs.Refusals.{refusal, _orElse_}
 use Rattle.format.specs.Format.{limitOf, countPlace, countOf, kindIn, firstRecord, shapeOk, badField}
 use Rattle.format.specs.Policy.{startOf}
 use Rattle.format.specs.Check.{readFields, readOf, check, imageIn, checkFront}
-use Rattle.format.specs.Answers.{Outcome, gives, outcome, starts}
-use Rattle.format.proofs.Tests.{true-not-false}
+use Rattle.format.specs.Answers.{gives, outcome, starts}
 use Rattle.format.proofs.Chain.{orElse-split, orElse-next, orElse-first, need-none, need-some}
 use Rattle.format.proofs.Shapes.{Formed, length-least, length-cases, shape-length, shape-kind, read-whole, read-bad-field}
 use Rattle.format.proofs.Accepted.{accepted-header, accepted-body, start-inside}
 use Rattle.format.proofs.Records.{place-least}
-use Rattle.format.proofs.Front.{front-header, front-fits, front-accepted, front-length}
+use Rattle.format.proofs.Front.{front-accepted, front-length}
 use Rattle.format.proofs.Images.{longest-image}
 use Rattle.extension.specs.Add.{sectionOf, fieldFault, newNumber, ownFault, addFault}
 use Rattle.extension.specs.Splice.{endOfSection}
-use Rattle.extension.proofs.Adds.{section-of, OwnPasses, own-passes, passes-own}
-use Rattle.extend.specs.declared.plan.Slot.{Slot}
+use Rattle.extension.proofs.Adds.{section-of, own-passes, passes-own}
 use Rattle.extend.specs.Plans.{slotAt, slotOf}
 use Rattle.extend.specs.Moves.{Fits}
 

@@ -5,31 +5,30 @@
 --     add-image            adding to an image with bytes behind it
 --     buffer-inserted      the buffer after adding, as the bytes are moved and written
 --     added-accepted, groups-kept   claims AddedAccepted and GroupsKept
-use Prim.Native.Nat.{ℕ, suc, _+_, _-_, _≤_, _<_}
-use mathlib.Core.Path.{_≡_, refl, sym, subst, ap, ap₂, _∙_}
+use Prim.Native.Nat.{ℕ, _+_, _-_, _≤_, _<_}
+use mathlib.Core.Path.{_≡_, refl, sym, subst, ap, _∙_}
 use mathlib.Core.Logic.{⊎-elim}
-use mathlib.Core.Bool.{Bool, true, false, _&&_, cond}
+use mathlib.Core.Bool.{true}
 use mathlib.Core.Option.{Option, none, some}
 use mathlib.Core.List.{List, [], _∷_, _++_, List·Memᴰ, List·Memᴰ·append-cases, List·Memᴰ·eq-of-singleton}
 use native.Mathlib.Omega.{arith}
-use lib.ListN.{length, getD, take, drop, length-append, List·getD-append}
-use lib.Seq.{drop-drop, drop-at, drop-append-add}
-use lib.Dec.{leb, ltb, eqb}
-use borrow.Author.Tests.{eqb-true, leb-true, ltb-true, eq-eqb, ne-eqb, le-leb, lt-ltb}
+use lib.ListN.{length, getD, drop, length-append, List·getD-append}
+use lib.Seq.{drop-append-add}
+use lib.Dec.{leb, ltb}
+use borrow.Author.Tests.{eqb-true, leb-true, ltb-true, ne-eqb, le-leb, lt-ltb}
 use Rattle.format.specs.declared.Section.{Section}
 use Rattle.format.specs.declared.Section.the-variants.{Groups, Rules, Constraints}
-use Rattle.format.specs.declared.Refusal.{Refusal}
 use Rattle.format.specs.Bytes.{Bytes, wordAt}
 use Rattle.format.specs.Refusals.{refusal, need, _orElse_, unlessRefused}
-use Rattle.format.specs.Format.{limitOf, countPlace, countOf, kindIn, lengthOk, shapeOk, badField}
-use Rattle.format.specs.Policy.{Policy, recordsOf, bodyOf, imageOf, policyOf}
+use Rattle.format.specs.Format.{limitOf, countPlace, countOf, kindIn, shapeOk, badField}
+use Rattle.format.specs.Policy.{Policy, recordsOf, imageOf, policyOf}
 use Rattle.format.specs.Check.{check, imageIn, checkFront}
-use Rattle.format.proofs.Tests.{both, and-true}
+use Rattle.format.proofs.Tests.{both}
 use Rattle.format.proofs.Chain.{orElse-split, orElse-none, need-true, need-none, some-not-none}
 use Rattle.format.proofs.Shapes.{Formed, length-cases, shape-kind}
 use Rattle.format.proofs.Fields.{formed-more}
-use Rattle.format.proofs.Images.{Sound, policy-sound, image-of-policy, policy-of-image, image-accepted, image-length, image-count, image-length-field}
-use Rattle.format.proofs.Front.{front-header, front-accepted, front-length, front-count, front-split, front-bytes, front-of, image-in-of, front-of-length, front-of-count}
+use Rattle.format.proofs.Images.{Sound, policy-sound, image-of-policy, policy-of-image, image-accepted, image-length, image-count}
+use Rattle.format.proofs.Front.{front-accepted, front-length, front-count, front-split, front-bytes, front-of, image-in-of, front-of-length, front-of-count}
 use Rattle.extension.specs.Add.{sectionOf, withRecord, fieldFault, newNumber, ownFault, addFault, newImage, overwrite, bufferAfter}
 use Rattle.extension.specs.Splice.{inserted, endOfSection}
 use Rattle.extension.specs.Claims.{AddedAccepted, GroupsKept}

@@ -2,19 +2,17 @@
 --     before, behind       the bytes of a policy's records up to the end of a section, and those after it
 --     section-end          where that is in the image
 --     inserted-image       the law
-use Prim.Native.Nat.{ℕ, suc, _+_, _-_, _/_, _%_, _≤_}
-use mathlib.Core.Path.{_≡_, refl, sym, ap, ap₂, _∙_}
+use Prim.Native.Nat.{ℕ, _+_, _-_, _/_, _%_}
+use mathlib.Core.Path.{_≡_, refl, sym, ap, _∙_}
 use mathlib.Core.List.{List, [], _∷_, _++_, flatten, append-assoc, append-nil}
 use native.Mathlib.Omega.{arith}
-use native.Mathlib.Numerals.{add-one}
-use native.Mathlib.Nat.{add-assoc}
-use lib.ListN.{length, getD, take, drop, set, length-append, length-drop}
-use lib.Seq.{slice, take-at, drop-at, drop-append-add, append-snoc}
+use lib.ListN.{length, take, drop, length-append}
+use lib.Seq.{slice, take-at, drop-at, drop-append-add}
 use Rattle.format.specs.declared.Section.{Section}
 use Rattle.format.specs.declared.Section.the-variants.{Groups, Rules, Constraints}
 use Rattle.format.specs.Bytes.{putWord}
 use Rattle.format.specs.Format.{countPlace}
-use Rattle.format.specs.Policy.{Policy, recordsOf, bodyOf, imageOf, startOf}
+use Rattle.format.specs.Policy.{Policy, recordsOf, bodyOf, imageOf}
 use Rattle.format.proofs.Images.{Sound, image-length, start-rules, start-constraints}
 use Rattle.extension.specs.Add.{withRecord}
 use Rattle.extension.specs.Splice.{putWordAt, spliced, inserted, endOfSection}

@@ -1,29 +1,25 @@
 -- The round trip: an accepted policy's records, added in order to the empty policy, give it back. Assumes nothing.
 --     add-section      a section's records added one after the other
 --     round-trip       claim RoundTrip
-use Prim.Native.Nat.{ℕ, suc, _+_, _≤_, _<_}
+use Prim.Native.Nat.{ℕ, _+_, _≤_, _<_}
 use mathlib.Core.Path.{_≡_, refl, sym, subst, ap, ap₂, _∙_}
-use mathlib.Core.Bool.{true}
-use mathlib.Core.Option.{none}
 use mathlib.Core.List.{List, [], _∷_, _++_, flatten, append-assoc, append-nil, List·Memᴰ, List·Memᴰ·head, List·Memᴰ·tail, List·Memᴰ·not-nil}
 use native.Mathlib.Omega.{arith}
-use lib.ListN.{length, getD, drop, length-append, length-drop}
+use lib.ListN.{length, drop, length-append, length-drop}
 use lib.Seq.{drop-drop, drop-append-add}
-use lib.Dec.{eqb}
 use borrow.Author.Tests.{eqb-true}
 use Rattle.format.specs.declared.Section.{Section}
 use Rattle.format.specs.declared.Section.the-variants.{Groups, Rules, Constraints}
 use Rattle.format.specs.Bytes.{Bytes, putWord}
 use Rattle.format.specs.Format.{knownVersion, limitOf}
 use Rattle.format.specs.Policy.{Policy, recordsOf, bodyOf, imageOf, policyOf}
-use Rattle.format.specs.Check.{check}
 use Rattle.format.specs.Sample.{empty}
 use Rattle.format.proofs.Shapes.{Formed}
 use Rattle.format.proofs.Fields.{formed-more, group-any}
 use Rattle.format.proofs.Images.{Sound, policy-sound, image-of-policy, image-length}
 use Rattle.extension.specs.Add.{withRecord, bufferAfter, overwrite}
 use Rattle.extension.specs.Claims.{addAll, allRecords, RoundTrip}
-use Rattle.extension.proofs.Adds.{with-records, with-groups, with-sound, with-length, add-image}
+use Rattle.extension.proofs.Adds.{with-records, with-groups, with-sound, add-image}
 
 add-append : (b : List ℕ) (xs ys : List (List ℕ)) → addAll b (xs ++ ys) ≡ addAll (addAll b xs) ys
 unfolding addAll

@@ -9,13 +9,13 @@
 --     records-count       the section of the policy has as many records as the header counts
 --     records-given       claim RecordsGiven
 use Prim.Native.Nat.{ℕ, zero, suc, _+_, _-_, _≤_, _<_}
-use mathlib.Core.Path.{_≡_, refl, sym, subst, ap, _∙_}
-use mathlib.Core.Bool.{Bool, true, false, _&&_}
-use mathlib.Core.Option.{Option, none, some}
-use mathlib.Core.List.{List, [], List·Memᴰ}
+use mathlib.Core.Path.{_≡_, refl, sym, ap, _∙_}
+use mathlib.Core.Bool.{Bool, true, _&&_}
+use mathlib.Core.Option.{none, some}
+use mathlib.Core.List.{List, []}
 use native.Mathlib.Omega.{arith}
 use native.Mathlib.Numerals.{add-one}
-use lib.ListN.{length, getD, take, drop}
+use lib.ListN.{length, getD}
 use lib.Dec.{leb, ltb, eqb}
 use borrow.Author.Tests.{leb-true, ltb-true, eqb-true, le-leb, lt-ltb}
 use Rattle.format.specs.declared.Section.{Section}
@@ -23,7 +23,7 @@ use Rattle.format.specs.declared.Section.the-variants.{Groups, Rules, Co
 use Rattle.format.specs.declared.Refusal.{Refusal}
 use Rattle.format.specs.Bytes.{wordAt}
 use Rattle.format.specs.Refusals.{refusal, need, _orElse_, unlessRefused}
-use Rattle.format.specs.Format.{knownVersion, limitOf, countPlace, countOf, firstRecord}
+use Rattle.format.specs.Format.{knownVersion, limitOf, countOf}
 use Rattle.format.specs.Policy.{policyOf, recordsOf, recordAt, recordsAt, placeAfter, startOf, placeOf, endOf}
 use Rattle.format.specs.Check.{sectionFault, countFault, headerFault, bodyFault, check}
 use Rattle.format.specs.Give.{giveFault, givenRecord}

@@ -1,10 +1,10 @@
 -- Laws of byte lists and of the words in them. Assumes nothing.
 use Prim.Native.Nat.{ℕ, zero, suc, _+_, _-_, _*_, _/_, _%_, _≤_, _<_}
-use mathlib.Core.Path.{_≡_, refl, sym, ap, _∙_}
+use mathlib.Core.Path.{_≡_, refl, ap, _∙_}
 use mathlib.Core.List.{List, [], _∷_, _++_, flatten, List·Memᴰ, List·Memᴰ·head, List·Memᴰ·tail}
 use native.Mathlib.Omega.{arith}
 use lib.ListN.{length, getD, take, drop, length-drop}
-use lib.Seq.{getD-take, getD-drop, drop-cons, drop-drop}
+use lib.Seq.{getD-take, getD-drop, drop-cons}
 use native.Mathlib.Nat.{add-assoc}
 use Rattle.format.specs.Bytes.{Bytes, wordAt, words, putWord}
 

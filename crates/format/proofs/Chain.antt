@@ -1,13 +1,12 @@
 -- Laws of the refusals' chain: none where each link has none. Assumes nothing.
 use Prim.Native.Nat.{ℕ}
-use mathlib.Core.Path.{_≡_, refl, sym, _∙_}
+use mathlib.Core.Path.{_≡_, refl}
 use mathlib.Core.Bool.{Bool, true, false}
 use mathlib.Core.Option.{Option, none, some}
 use native.Mathlib.Omega.{arith}
 use Rattle.format.specs.declared.Refusal.{Refusal}
 use Rattle.format.specs.Refusals.{need, _orElse_}
-use Rattle.format.specs.Answers.{Outcome, refused, gives, outcome}
-use Rattle.format.proofs.Tests.{false-not-true}
+use Rattle.format.specs.Answers.{refused, gives, outcome}
 
 module _ {A : Type 0} where
   pub some-not-none : {C : Type 0} {a : A} → some a ≡ none → C

@@ -5,7 +5,7 @@
 --     front-count         with the buffer's own counts
 --     leading-check       the check of the leading bytes is the check of the front
 --     front-of, image-in-of   an accepted image with bytes behind it is an accepted front, and that image
-use Prim.Native.Nat.{ℕ, zero, suc, _+_, _≤_, _<_}
+use Prim.Native.Nat.{ℕ, _+_, _≤_, _<_}
 use mathlib.Core.Path.{_≡_, refl, sym, ap, _∙_}
 use mathlib.Core.Bool.{Bool, true, false, _&&_}
 use mathlib.Core.Option.{Option, none}

@@ -4,23 +4,21 @@
 --     group-at, rule-at, constraint-at   each record of an accepted image is so
 use Prim.Native.Nat.{ℕ, zero, suc, _+_, _-_, _*_, _/_, _%_, _≤_, _<_}
 use mathlib.Core.Path.{_≡_, refl, sym, subst, ap, _∙_}
-use mathlib.Core.Logic.{_⊎_, inl, inr, ⊎-elim}
-use mathlib.Core.Bool.{true}
+use mathlib.Core.Logic.{_⊎_, inl, inr}
 use mathlib.Core.Option.{none}
 use mathlib.Core.List.{List, [], _∷_}
 use native.Mathlib.Omega.{arith}
 use native.Mathlib.Nat.{add-assoc}
 use lib.ListN.{length, getD, drop, length-drop}
 use lib.Seq.{ext-getD}
-use Rattle.format.specs.declared.Section.{Section}
 use Rattle.format.specs.declared.Section.the-variants.{Groups, Rules, Constraints}
 use Rattle.format.specs.Bytes.{wordAt, words}
-use Rattle.format.specs.Format.{countOf, badGroup, badMember}
-use Rattle.format.specs.Policy.{policyOf, recordAt, placeOf}
+use Rattle.format.specs.Format.{countOf}
+use Rattle.format.specs.Policy.{recordAt, placeOf}
 use Rattle.format.specs.Check.{check}
-use Rattle.format.specs.Claims.{IsType, IsGroup, IsAllow, IsTransition, IsConstraint, IsRecord}
+use Rattle.format.specs.Claims.{IsType, IsAllow, IsTransition, IsRecord}
 use Rattle.format.proofs.Bytes.{length-words, words-nth}
-use Rattle.format.proofs.Shapes.{Formed, Stands, stands, stands-word}
+use Rattle.format.proofs.Shapes.{Stands, stands-word}
 use Rattle.format.proofs.Fields.{Rising, steps-rising, formed-is}
 use Rattle.format.proofs.Accepted.{record-formed, record-stands}
 

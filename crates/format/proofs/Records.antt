@@ -5,16 +5,16 @@
 use Prim.Native.Nat.{ℕ, zero, suc, _+_, _-_, _≤_, _<_}
 use mathlib.Core.Path.{_≡_, refl, sym, ap, ap₂, _∙_}
 use mathlib.Core.Logic.{⊎-elim}
-use mathlib.Core.Bool.{Bool, true}
-use mathlib.Core.Option.{Option, none}
+use mathlib.Core.Bool.{true}
+use mathlib.Core.Option.{none}
 use mathlib.Core.List.{List, [], _∷_, _++_, flatten, append-assoc, List·Memᴰ, List·Memᴰ·head, List·Memᴰ·tail, List·Memᴰ·not-nil, List·Memᴰ·cases-cons}
 use native.Mathlib.Omega.{arith}
-use native.Mathlib.Nat.{add-zero, add-assoc}
+use native.Mathlib.Nat.{add-zero}
 use lib.ListN.{length, getD, take, drop, length-append, take-append-drop, List·getD-append}
 use lib.Seq.{take-at, drop-at, drop-drop, getD-drop}
 use Rattle.format.specs.declared.Section.{Section}
-use Rattle.format.specs.declared.Section.the-variants.{Groups, Rules, Constraints}
-use Rattle.format.specs.Refusals.{need, _orElse_}
+use Rattle.format.specs.declared.Section.the-variants.{Groups}
+use Rattle.format.specs.Refusals.{_orElse_}
 use Rattle.format.specs.Format.{countOf, firstRecord, shapeOk}
 use Rattle.format.specs.Policy.{recordAt, placeAfter, recordsAt}
 use Rattle.format.specs.Check.{readOf, readFault, sectionFault}

@@ -1,19 +1,14 @@
 -- The type fields of a record: claim ReferencesHeld. Assumes nothing.
-use Prim.Native.Nat.{ℕ, zero, suc, _+_, _*_, _≤_, _<_}
-use mathlib.Core.Path.{_≡_, refl, sym, subst, ap, _∙_}
+use Prim.Native.Nat.{ℕ, suc, _<_}
+use mathlib.Core.Path.{_≡_, sym, subst, _∙_}
 use mathlib.Core.Logic.{_⊎_, inl, inr, ⊎-elim}
-use mathlib.Core.Bool.{cond}
-use mathlib.Core.Option.{none}
 use mathlib.Core.List.{List, [], _∷_, List·Memᴰ, List·Memᴰ·not-nil, List·Memᴰ·cases-cons}
 use native.Mathlib.Omega.{arith}
 use lib.ListN.{length, getD, drop, length-drop}
-use lib.Dec.{eqb}
 use Rattle.format.specs.declared.Section.{Section}
 use Rattle.format.specs.declared.Section.the-variants.{Groups, Rules, Constraints}
 use Rattle.format.specs.Bytes.{wordAt, words}
-use Rattle.format.specs.Policy.{policyOf, recordsOf}
-use Rattle.format.specs.Check.{check}
-use Rattle.format.specs.Claims.{IsType, IsGroup, IsAllow, IsTransition, IsConstraint, IsRecord, typeFields, ReferencesHeld}
+use Rattle.format.specs.Claims.{IsType, IsConstraint, IsRecord, typeFields, ReferencesHeld}
 use Rattle.format.proofs.Bytes.{length-words, words-nth}
 use Rattle.format.proofs.Fields.{formed-is}
 use Rattle.format.proofs.Images.{policy-formed, group-count}

@@ -3,11 +3,11 @@
 --     length-cases        the four kinds, with their lengths
 --     Stands l at r       the record r lies in the image l at a place, byte by byte
 --     read-whole, whole-read   the reader finds a whole record where the record is formed, and nowhere else
-use Prim.Native.Nat.{ℕ, zero, suc, _+_, _-_, _%_, _≤_, _<_}
+use Prim.Native.Nat.{ℕ, _+_, _-_, _%_, _≤_, _<_}
 use mathlib.Core.Path.{_≡_, refl, sym, ap, _∙_}
 use mathlib.Core.Bool.{Bool, true, false, _&&_, cond}
 use mathlib.Core.Option.{Option, none, some}
-use mathlib.Core.List.{List, [], _∷_}
+use mathlib.Core.List.{List}
 use native.Mathlib.Omega.{arith}
 use native.Mathlib.Nat.{add-zero, add-assoc}
 use lib.ListN.{length, getD, take, drop, length-take, length-drop}
@@ -15,14 +15,13 @@ use lib.Seq.{getD-take, getD-drop}
 use lib.Dec.{eqb, leb}
 use borrow.Author.Tests.{eqb-true, leb-true}
 use Rattle.format.specs.declared.Section.{Section}
-use Rattle.format.specs.declared.Section.the-variants.{Groups, Rules, Constraints}
 use Rattle.format.specs.declared.Read.{Read}
 use Rattle.format.specs.declared.Read.the-variants.{Whole, Malformed, BadField}
 use Rattle.format.specs.Bytes.{wordAt}
 use Rattle.format.specs.Format.{kindIn, lengthOk, firstRecord, shapeOk, badField}
 use Rattle.format.specs.Policy.{recordAt}
 use Rattle.format.specs.Check.{readFields, readOf, readFault}
-use Rattle.format.proofs.Tests.{both, and-true, choose, false-not-true}
+use Rattle.format.proofs.Tests.{both, choose, false-not-true}
 use Rattle.format.proofs.Chain.{some-not-none}
 
 pub record Formed (s : Section) (g : ℕ) (r : List ℕ) : Type 0 where

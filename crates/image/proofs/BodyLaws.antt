@@ -7,19 +7,18 @@ use native.Mathlib.Omega.{arith}
 use native.Mathlib.Nat.{add-sub-cancel-left}
 use lib.ListN.{length, getD, take, drop, length-drop}
 use lib.Seq.{length-take-le}
-use lib.Dec.{eqb, leb, ltb}
+use lib.Dec.{eqb, leb}
 use borrow.Author.Tests.{le-ltb}
 use Rattle.format.specs.declared.Section.{Section}
 use Rattle.format.specs.declared.Section.the-variants.{Groups, Rules, Constraints}
 use Rattle.format.specs.declared.Refusal.{Refusal}
-use Rattle.format.specs.declared.Starts.{Starts}
 use Rattle.format.specs.declared.Extent.{Extent}
 use Rattle.format.specs.Refusals.{refusal, need, _orElse_}
 use Rattle.format.specs.Format.{countOf}
 use Rattle.format.specs.Policy.{recordAt, placeAfter, startOf, placeOf, endOf}
 use Rattle.format.specs.Check.{sectionFault, headerFault, bodyFault, check}
 use Rattle.format.specs.Give.{giveFault, givenRecord}
-use Rattle.format.specs.Answers.{Outcome, refused, gives, outcome, starts, extent}
+use Rattle.format.specs.Answers.{gives, outcome, starts, extent}
 use Rattle.format.proofs.Chain.{orElse-next, orElse-first, need-some}
 use Rattle.format.proofs.Records.{place-least}
 use Rattle.format.proofs.Accepted.{section-inside, record-stands, record-is, give-none, given-at}

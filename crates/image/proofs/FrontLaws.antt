@@ -1,5 +1,5 @@
 -- Laws of the leading bytes of a buffer, by the ways that the code goes. Assumes nothing.
-use Prim.Native.Nat.{ℕ, _+_, _≤_, _<_}
+use Prim.Native.Nat.{ℕ, _≤_, _<_}
 use mathlib.Core.Path.{_≡_, refl, sym, ap, _∙_}
 use mathlib.Core.List.{List}
 use mathlib.Core.Option.{Option, none, some}
@@ -12,8 +12,8 @@ use borrow.Author.Tests.{le-leb, lt-leb}
 use Rattle.format.specs.declared.Refusal.{Refusal}
 use Rattle.format.specs.Bytes.{wordAt}
 use Rattle.format.specs.Check.{check, imageIn, checkFront, leading}
-use Rattle.format.specs.Give.{PartOf, Leads}
-use Rattle.format.specs.Answers.{Outcome, outcome, starts}
+use Rattle.format.specs.Give.{Leads}
+use Rattle.format.specs.Answers.{outcome, starts}
 use Rattle.format.proofs.Front.{leading-check, leading-image}
 
 module _ (b : List ℕ) where

@@ -1,15 +1,12 @@
 -- Laws of a walk over the records of a section, one for each way that a turn goes. Assumes nothing.
-use Prim.Native.Nat.{ℕ, zero, suc, _+_, _-_, _≤_, _<_}
-use mathlib.Core.Path.{_≡_, refl, sym, ap, _∙_}
+use Prim.Native.Nat.{ℕ, suc, _+_, _-_, _≤_, _<_}
+use mathlib.Core.Path.{_≡_, sym, _∙_}
 use mathlib.Core.List.{List}
-use mathlib.Core.Option.{Option, none, some}
 use native.Mathlib.Omega.{arith}
 use lib.ListN.{length, getD, take, drop, length-drop}
 use lib.Seq.{take-all}
 use Rattle.format.specs.declared.Section.{Section}
 use Rattle.format.specs.declared.Section.the-variants.{Groups}
-use Rattle.format.specs.declared.Refusal.{Refusal}
-use Rattle.format.specs.declared.Read.{Read}
 use Rattle.format.specs.declared.Read.the-variants.{Whole, Malformed, BadField}
 use Rattle.format.specs.Refusals.{refusal, _orElse_}
 use Rattle.format.specs.Format.{countOf}
@@ -17,9 +14,8 @@ use Rattle.format.specs.Policy.{recordAt, placeAfter}
 use Rattle.format.specs.Check.{readOf, readFault, sectionFault}
 use Rattle.format.proofs.Shapes.{Stands, stands, read-whole, read-bad-field}
 use Rattle.format.proofs.Fields.{field-inside}
-use Rattle.image.specs.declared.checker.Walked.{Walked}
 use Rattle.image.specs.declared.checker.Walked.the-variants.{To, Stop}
-use Rattle.image.specs.Walk.{walkedTo, walkOf}
+use Rattle.image.specs.Walk.{walkOf}
 
 -- the part of a list from a place on, as a part of a slice is given
 pub part-from : (l : List ℕ) (at : ℕ) → take (length l - at) (drop at l) ≡ drop at l

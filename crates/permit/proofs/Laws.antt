@@ -5,7 +5,7 @@ use native.Mathlib.Omega.{arith}
 use mathlib.Core.Path.{_≡_, refl, sym, subst, ap, _∙_}
 use mathlib.Core.List.{List, [], _∷_, _++_, append-assoc, append-nil}
 use lib.ListN.{length, getD, set, take, drop, length-append, length-drop, length-set}
-use lib.Seq.{append-snoc, drop-cons, getD-set-same, getD-set-other, getD-drop, drop-set-lt, take-suc, take-suc-set, take-set-le, take-add}
+use lib.Seq.{append-snoc, drop-cons, getD-set-same, getD-set-other, getD-drop, drop-set-lt, take-suc, take-suc-set, take-add}
 use borrow.Author.Tests.{lt-ltb, le-ltb}
 use Rattle.decision.specs.declared.Query.{Query}
 use Rattle.decision.specs.declared.Answer.{Answer}

@@ -1,12 +1,11 @@
 -- `add` meets its contract: where nothing is refused, what is inserted is the new image. Assumes nothing.
 use native.Mathlib.Omega.{arith}
-use mathlib.Core.Path.{_≡_, refl, sym, ap, _∙_}
+use mathlib.Core.Path.{_≡_, sym, ap, _∙_}
 use mathlib.Core.Option.{none, some}
 use denote.Ref.{now}
-use lib.ListN.{getD}
 use Rattle.format.specs.Bytes.{Bytes}
 use Rattle.format.specs.Refusals.{unlessRefused}
-use Rattle.format.specs.Answers.{outcome, gives}
+use Rattle.format.specs.Answers.{gives}
 use Rattle.format.proofs.Chain.{outcome-gives, outcome-refused}
 use Rattle.extension.specs.Add.{newNumber, addFault, bufferAfter}
 use Rattle.extension.specs.Splice.{inserted}

@@ -1,6 +1,6 @@
 -- `mungaite_add` meets its contract: a case for each answer of adding. Assumes nothing.
 use borrow.Author.Needs.{needs}
-use mathlib.Core.Path.{_≡_, refl, sym, ap, _∙_}
+use mathlib.Core.Path.{sym, ap, _∙_}
 use Rattle.extension.specs.Add.{addedOutcome}
 use Rattle.mungaite.specs.Code.{codeOf, partsOf, addCode}
 use Rattle.mungaite.proofs.mungaite_add.Statement.{statement}

@@ -1,6 +1,6 @@
 -- `mungaite_check` meets its contract: a case for each answer of the check. Assumes nothing.
 use borrow.Author.Needs.{needs}
-use mathlib.Core.Path.{_≡_, refl, sym, ap, _∙_}
+use mathlib.Core.Path.{sym, ap, _∙_}
 use Rattle.format.specs.Answers.{refusalOf}
 use Rattle.mungaite.specs.Code.{faultCode}
 use Rattle.mungaite.proofs.mungaite_check.Statement.{statement}

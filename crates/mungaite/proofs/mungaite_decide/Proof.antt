@@ -1,6 +1,6 @@
 -- `mungaite_decide` meets its contract: a case for each answer of the engine. Assumes nothing.
 use borrow.Author.Needs.{needs}
-use mathlib.Core.Path.{_≡_, refl, sym, ap, _∙_}
+use mathlib.Core.Path.{sym, ap, _∙_}
 use Rattle.decision.specs.Decide.{answerOutcome}
 use Rattle.mungaite.specs.Code.{decisionCode}
 use Rattle.mungaite.proofs.mungaite_decide.Statement.{statement}

@@ -1,6 +1,6 @@
 -- `mungaite_record` meets its contract: a case for each section. Assumes nothing.
 use borrow.Author.Needs.{needs}
-use mathlib.Core.Path.{_≡_, refl, sym, ap, _∙_}
+use mathlib.Core.Path.{sym, ap, _∙_}
 use denote.Ref.{now}
 use Rattle.format.specs.declared.Section.the-variants.{Groups, Rules, Constraints}
 use Rattle.format.specs.Answers.{refusalOf}

@@ -1,7 +1,7 @@
 -- `same_members` meets its contract: what is left of the two lists is the same where all of them is. Assumes nothing.
 use native.Mathlib.Omega.{arith}
-use Prim.Native.Nat.{ℕ, suc, _+_, _-_, _*_, _≤_}
-use mathlib.Core.Path.{_≡_, refl, sym, ap, _∙_}
+use Prim.Native.Nat.{suc, _+_, _-_, _*_, _≤_}
+use mathlib.Core.Path.{_≡_, refl, sym, _∙_}
 use lib.ListN.{length}
 use Rattle.format.proofs.Places.{wordsAt}
 use Rattle.decide.specs.Walks.{sameList}

@@ -1,6 +1,6 @@
 -- `companion` meets its contract: the arguments' marks are those of their sets. Assumes nothing.
 use native.Mathlib.Omega.{arith}
-use mathlib.Core.Path.{_≡_, sym, subst, ap, _∙_}
+use mathlib.Core.Path.{sym, subst, ap, _∙_}
 use mathlib.Core.Bool.{not}
 use denote.Ref.{now}
 use Rattle.format.specs.Policy.{recordAt}

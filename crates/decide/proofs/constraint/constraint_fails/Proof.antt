@@ -1,7 +1,7 @@
 -- `constraint_fails` meets its contract: a test that fails settles it, and the predicate has the last word. Assumes nothing.
 use native.Mathlib.Omega.{arith}
 use borrow.Author.Needs.{needs}
-use mathlib.Core.Path.{_≡_, sym, ap, _∙_}
+use mathlib.Core.Path.{sym, _∙_}
 use borrow.Author.Tests.{not-true, not-false}
 use Rattle.decision.specs.Decide.{requestOf}
 use Rattle.decide.proofs.TypeLaws.{set-rising}

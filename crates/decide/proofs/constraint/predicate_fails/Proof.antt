@@ -1,6 +1,6 @@
 -- `predicate_fails` meets its contract: each predicate number has its own. Assumes nothing.
 use native.Mathlib.Omega.{arith}
-use mathlib.Core.Path.{_≡_, sym, ap, _∙_}
+use mathlib.Core.Path.{sym, _∙_}
 use Rattle.decide.proofs.ConstraintLaws.{broken-ban, broken-separation, broken-roster, broken-companion, predicate-is}
 use Rattle.decide.proofs.constraint.predicate_fails.Statement.{statement}
 use Rattle.decide.proofs.constraint.predicate_fails.Tie as tie

@@ -1,16 +1,13 @@
 -- `roster` meets its contract: the marks are those of the second argument and of the list. Assumes nothing.
 use native.Mathlib.Omega.{arith}
 use borrow.Author.Needs.{needs}
-use Prim.Native.Nat.{ℕ, _-_, _/_}
-use mathlib.Core.Path.{_≡_, sym, subst, ap, _∙_}
+use Prim.Native.Nat.{_-_}
+use mathlib.Core.Path.{sym, subst, _∙_}
 use denote.Ref.{now}
-use lib.ListN.{getD}
 use Rattle.format.specs.Policy.{recordAt}
 use Rattle.format.specs.Claims.{IsType}
-use Rattle.format.proofs.Places.{wordsAt}
-use Rattle.decision.specs.Sets.{unionOf}
 use Rattle.decision.specs.Decide.{constraintOf}
-use Rattle.decide.specs.Walks.{groupsIn, markAll}
+use Rattle.decide.specs.Walks.{groupsIn}
 use Rattle.decide.proofs.MarkedLaws.{union-small}
 use Rattle.decide.proofs.ConstraintLaws.{marks-type, marks-small, roster-is, second-is, list-here, types-here}
 use Rattle.decide.proofs.constraint.roster.Statement.{statement}

@@ -1,14 +1,14 @@
 -- `first_rule` meets its contract: the search from the running rule on answers as the whole does. Assumes nothing.
 use native.Mathlib.Omega.{arith}
 use borrow.Author.Needs.{needs}
-use Prim.Native.Nat.{ℕ, suc, _+_, _-_, _*_, _≤_, _<_}
-use mathlib.Core.Path.{_≡_, refl, sym, subst, ap, _∙_}
+use Prim.Native.Nat.{ℕ, suc, _+_, _-_, _*_, _≤_}
+use mathlib.Core.Path.{_≡_, sym, subst, ap, _∙_}
 use mathlib.Core.Logic.{⊎-elim}
-use mathlib.Core.Bool.{Bool, true, false}
+use mathlib.Core.Bool.{Bool, false}
 use denote.Ref.{now}
 use lib.ListN.{length, getD}
-use borrow.Author.Tests.{not-true, not-false}
-use Rattle.format.specs.declared.Section.the-variants.{Groups, Rules}
+use borrow.Author.Tests.{not-false}
+use Rattle.format.specs.declared.Section.the-variants.{Rules}
 use Rattle.format.specs.Bytes.{wordAt}
 use Rattle.format.specs.Format.{countOf, countPlace}
 use Rattle.format.specs.Policy.{recordAt, placeOf}
@@ -17,7 +17,7 @@ use Rattle.format.proofs.Accepted.{accepted-header, place-next}
 use Rattle.format.proofs.Places.{wordsAt, RuleAt, rule-at}
 use Rattle.decision.specs.Sets.{setOf, within}
 use Rattle.decision.specs.Decide.{ruleOf, requestOf, covers}
-use Rattle.decide.specs.Walks.{groupsIn, tallied, fullyMarked, Kept, Skips, noSkips, mayAt, firstRule}
+use Rattle.decide.specs.Walks.{groupsIn, tallied, fullyMarked, Kept, Skips, noSkips, firstRule}
 use Rattle.decide.proofs.MarkLaws.{walk-small, walk-rest, tally-end, tally-yes, tally-no, hits-on, hits-off}
 use Rattle.decide.proofs.TypeLaws.{span-rising, span-told, set-rising}
 use Rattle.decide.proofs.SetLaws.{full-within, hits-full, hits-short}

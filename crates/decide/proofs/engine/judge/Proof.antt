@@ -1,6 +1,6 @@
 -- `judge` meets its contract: the lowest covering rule and the lowest failing constraint make the decision. Assumes nothing.
 use borrow.Author.Needs.{needs}
-use mathlib.Core.Path.{_≡_, sym, subst, ap, _∙_}
+use mathlib.Core.Path.{sym, subst, ap, _∙_}
 use Rattle.format.specs.Answers.{gives}
 use Rattle.format.specs.Claims.{IsType}
 use Rattle.format.proofs.Fields.{type-is}

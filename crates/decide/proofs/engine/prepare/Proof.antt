@@ -4,7 +4,7 @@ use mathlib.Core.Path.{_≡_, refl, sym, ap, _∙_}
 use mathlib.Core.Option.{none}
 use denote.Ref.{now}
 use Rattle.format.specs.Check.{check}
-use Rattle.format.specs.Answers.{sectionsOutcome, starts}
+use Rattle.format.specs.Answers.{sectionsOutcome}
 use Rattle.format.proofs.Chain.{outcome-gives, outcome-refused}
 use Rattle.decide.proofs.EngineLaws.{places-accepted, places-refused}
 use Rattle.decide.proofs.engine.prepare.Statement.{statement}

@@ -1,10 +1,7 @@
 -- `among` meets its contract: what is kept of a group is what a walk over it would answer. Assumes nothing.
 use native.Mathlib.Omega.{arith}
-use Prim.Native.Nat.{ℕ}
-use mathlib.Core.Path.{_≡_, refl, sym, ap, _∙_}
+use mathlib.Core.Path.{refl, sym, _∙_}
 use denote.Ref.{now}
-use lib.ListN.{getD}
-use Rattle.format.specs.Bytes.{wordAt}
 use Rattle.decide.specs.Walks.{allMarked}
 use Rattle.decide.proofs.TypeLaws.{few-groups, group-number, span-rising, span-told, kept-no, kept-yes, kept-more}
 use borrow.Author.Needs.{needs}

@@ -1,11 +1,10 @@
 -- `any_marked` meets its contract: what is left to look at answers as all does. Assumes nothing.
 use native.Mathlib.Omega.{arith}
-use Prim.Native.Nat.{ℕ, suc, _+_, _-_, _*_, _≤_}
-use mathlib.Core.Path.{_≡_, refl, sym, ap, _∙_}
+use Prim.Native.Nat.{suc, _+_, _-_, _*_, _≤_}
+use mathlib.Core.Path.{_≡_, refl, sym, _∙_}
 use lib.ListN.{length}
 use Rattle.format.proofs.Places.{wordsAt}
 use Rattle.format.proofs.Fields.{Rising}
-use borrow.Author.Tests.{not-true, not-false}
 use Rattle.decide.specs.Walks.{anyMarked}
 use Rattle.decide.proofs.MarkLaws.{walk-small, walk-rest, any-end, any-yes, any-no}
 use Rattle.decide.proofs.marks.any_marked.Statement.{statement}

@@ -1,7 +1,7 @@
 -- `fully_marked` meets its contract: the hits so far and those among what is left are all hits. Assumes nothing.
 use native.Mathlib.Omega.{arith}
-use Prim.Native.Nat.{ℕ, suc, _+_, _-_, _*_, _≤_}
-use mathlib.Core.Path.{_≡_, refl, sym, ap, _∙_}
+use Prim.Native.Nat.{suc, _+_, _-_, _*_, _≤_}
+use mathlib.Core.Path.{_≡_, ap}
 use lib.ListN.{length}
 use Rattle.format.proofs.Places.{wordsAt}
 use Rattle.format.proofs.Fields.{Rising}

@@ -1,7 +1,7 @@
 -- `mark` meets its contract: what is left to mark, on top of what is marked, is all. Assumes nothing.
 use native.Mathlib.Omega.{arith}
-use Prim.Native.Nat.{ℕ, suc, _+_, _-_, _*_, _≤_}
-use mathlib.Core.Path.{_≡_, refl, sym, ap, _∙_}
+use Prim.Native.Nat.{suc, _+_, _-_, _*_, _≤_}
+use mathlib.Core.Path.{_≡_, refl, sym, _∙_}
 use lib.ListN.{length}
 use Rattle.format.proofs.Places.{wordsAt}
 use Rattle.format.proofs.Fields.{Rising}

@@ -1,7 +1,7 @@
 -- `first_groups` meets its contract: the groups from the running one on have their entries. Assumes nothing.
 use native.Mathlib.Omega.{arith}
 use Prim.Native.Nat.{ℕ, _+_, _-_, _≤_, _<_}
-use mathlib.Core.Path.{_≡_, refl, sym, ap, _∙_}
+use mathlib.Core.Path.{_≡_, refl, ap, _∙_}
 use denote.Ref.{now}
 use lib.ListN.{length, getD, length-set}
 use Rattle.format.specs.declared.Section.the-variants.{Groups}

@@ -1,6 +1,6 @@
 -- `key` meets its contract: the middle member stands in the middle. Assumes nothing.
 use native.Mathlib.Omega.{arith}
-use mathlib.Core.Path.{_≡_, _∙_}
+use mathlib.Core.Path.{_∙_}
 use Rattle.decide.proofs.NameLaws.{key-at}
 use Rattle.decide.proofs.names.key.Statement.{statement}
 use Rattle.decide.proofs.names.key.Tie as tie

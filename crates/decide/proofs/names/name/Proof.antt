@@ -1,7 +1,7 @@
 -- `name` meets its contract: what is kept of a group is what a walk over the groups would answer. Assumes nothing.
 use native.Mathlib.Omega.{arith}
 use borrow.Author.Needs.{needs}
-use mathlib.Core.Path.{_≡_, sym, ap, _∙_}
+use mathlib.Core.Path.{_≡_}
 use denote.Ref.{now}
 use Prim.Native.Nat.{_-_, _<_}
 use Rattle.format.specs.Bytes.{wordAt}

@@ -1,12 +1,11 @@
 -- `reached` meets its contract: the rules from the running one on fill the table as all do. Assumes nothing.
 use native.Mathlib.Omega.{arith}
 use borrow.Author.Needs.{needs}
-use Prim.Native.Nat.{ℕ, suc, _+_, _-_, _≤_, _<_}
-use mathlib.Core.Path.{_≡_, refl, sym, subst, ap, _∙_}
+use Prim.Native.Nat.{ℕ, suc, _+_, _-_, _≤_}
+use mathlib.Core.Path.{_≡_, sym, ap, _∙_}
 use mathlib.Core.Logic.{⊎-elim}
-use mathlib.Core.Bool.{Bool, true, false, cond}
 use denote.Ref.{now}
-use lib.ListN.{length, getD, set}
+use lib.ListN.{getD}
 use Rattle.format.specs.declared.Section.the-variants.{Rules}
 use Rattle.format.specs.Format.{countOf, countPlace}
 use Rattle.format.specs.Policy.{recordAt, placeOf}

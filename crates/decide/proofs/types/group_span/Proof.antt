@@ -1,7 +1,6 @@
 -- `group_span` meets its contract: a group's members stand after its length and its kind. Assumes nothing.
 use native.Mathlib.Omega.{arith}
 use borrow.Author.Needs.{needs}
-use denote.Ref.{now}
 use Rattle.decide.proofs.TypeLaws.{few-groups, group-placed, group-span-is}
 use Rattle.decide.proofs.types.group_span.Statement.{statement}
 use Rattle.decide.proofs.types.group_span.Tie as tie

@@ -1,7 +1,5 @@
 -- `members` meets its contract: a basic type is its own member, in its field. Assumes nothing.
-use native.Mathlib.Omega.{arith}
 use borrow.Author.Needs.{needs}
-use denote.Ref.{now}
 use Rattle.decide.proofs.TypeLaws.{span-basic, span-number, group-number}
 use Rattle.decide.proofs.types.members.Statement.{statement}
 use Rattle.decide.proofs.types.members.Tie as tie

@@ -1,21 +1,16 @@
 -- `room` meets its contract: a law for each way that it goes. Assumes nothing.
 use native.Mathlib.Omega.{arith}
-use Prim.Native.Nat.{ℕ, _+_, _<_, _≤_}
-use mathlib.Core.Path.{_≡_, refl, sym, ap, _∙_}
-use mathlib.Core.Option.{Option}
+use Prim.Native.Nat.{_<_, _≤_}
+use mathlib.Core.Path.{_≡_, sym, ap, _∙_}
 use denote.Ref.{now}
 use lib.ListN.{length}
 use Rattle.format.specs.declared.Section.the-variants.{Groups}
-use Rattle.format.specs.declared.Refusal.{Refusal}
 use Rattle.format.specs.declared.Read.{Read}
 use Rattle.format.specs.declared.Read.the-variants.{Whole}
 use Rattle.format.specs.Bytes.{wordAt}
 use Rattle.format.specs.Format.{limitOf, countPlace, countOf}
 use Rattle.format.specs.Check.{readOf}
-use Rattle.format.specs.Answers.{outcome}
 use Rattle.format.proofs.Front.{front-header, front-fits}
-use Rattle.extension.specs.Add.{ownFault}
-use Rattle.extend.specs.Plans.{planOutcome, slotAt}
 use Rattle.extend.proofs.PlanLaws.{own-malformed, own-field, own-full, own-short, own-none, slot-made}
 use borrow.Author.Needs.{needs}
 use Rattle.extend.proofs.plan.room.Statement.{statement}

@@ -1,5 +1,4 @@
 -- `insert` meets its contract: its four steps, one after the other. Assumes nothing.
-use native.Mathlib.Omega.{arith}
 use mathlib.Core.Path.{refl}
 use denote.Ref.{now}
 use lib.ListN.{length}

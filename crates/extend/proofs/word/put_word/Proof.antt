@@ -1,7 +1,7 @@
 -- `put_word` meets its contract. Assumes nothing.
 use native.Mathlib.Omega.{arith}
 use Prim.Native.Nat.{_/_, _%_}
-use mathlib.Core.Path.{_≡_, ap, _∙_}
+use mathlib.Core.Path.{_≡_}
 use Rattle.extension.specs.Splice.{putWordAt}
 use borrow.Author.Needs.{needs}
 use Rattle.extend.proofs.word.put_word.Statement.{statement}

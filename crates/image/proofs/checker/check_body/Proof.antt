@@ -4,7 +4,6 @@ use mathlib.Core.Path.{_≡_, sym, ap, _∙_}
 use denote.Ref.{now}
 use Rattle.format.specs.declared.Section.the-variants.{Groups, Rules, Constraints}
 use Rattle.format.specs.Format.{countOf, countPlace}
-use Rattle.format.specs.Answers.{refused, outcome}
 use Rattle.image.specs.declared.checker.Walked.{Walked}
 use Rattle.image.specs.declared.checker.Walked.the-variants.{To}
 use Rattle.image.specs.Walk.{walkOf}

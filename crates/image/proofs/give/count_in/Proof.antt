@@ -1,5 +1,4 @@
 -- `count_in` meets its contract. Assumes nothing.
-use mathlib.Core.Path.{_∙_}
 use Rattle.format.specs.Format.{countOf, countPlace}
 use borrow.Author.Needs.{needs}
 use Rattle.image.proofs.give.count_in.Statement.{statement}

@@ -1,6 +1,6 @@
 -- `place_after` meets its contract: it has come past k records. Assumes nothing.
 use native.Mathlib.Omega.{arith}
-use Prim.Native.Nat.{suc, _+_, _-_, _≤_}
+use Prim.Native.Nat.{_+_, _-_, _≤_}
 use mathlib.Core.Path.{_≡_, refl, sym, ap, _∙_}
 use native.Mathlib.Numerals.{add-one}
 use lib.ListN.{getD}

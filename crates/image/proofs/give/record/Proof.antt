@@ -2,11 +2,10 @@
 use native.Mathlib.Omega.{arith}
 use Prim.Native.Nat.{_+_, _≤_}
 use mathlib.Core.Path.{_≡_, refl, sym, ap, _∙_}
-use mathlib.Core.Option.{none, some}
+use mathlib.Core.Option.{none}
 use native.Mathlib.Nat.{add-zero}
 use denote.Ref.{now}
 use lib.ListN.{length}
-use Rattle.format.specs.declared.Refusal.{Refusal}
 use Rattle.format.specs.Give.{giveFault}
 use Rattle.format.specs.Answers.{foundOutcome, extent}
 use Rattle.format.proofs.Chain.{outcome-gives, outcome-refused, some-not-none}

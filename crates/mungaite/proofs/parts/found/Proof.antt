@@ -1,6 +1,6 @@
 -- `found` meets its contract: a case for each of its answers. Assumes nothing.
 use borrow.Author.Needs.{needs}
-use mathlib.Core.Path.{_≡_, refl, sym, ap, _∙_}
+use mathlib.Core.Path.{sym, ap, _∙_}
 use Rattle.format.specs.Answers.{foundOutcome}
 use Rattle.mungaite.specs.Code.{codeOf, extentCode}
 use Rattle.mungaite.proofs.parts.found.Statement.{statement}

@@ -1,6 +1,6 @@
 -- `parts` meets its contract. Assumes nothing.
 use borrow.Author.Needs.{needs}
-use mathlib.Core.Path.{_≡_, refl, sym, ap, _∙_}
+use mathlib.Core.Path.{refl}
 use Rattle.mungaite.specs.Code.{partsOf}
 use Rattle.mungaite.proofs.parts.parts.Statement.{statement}
 use Rattle.mungaite.proofs.parts.parts.Tie as tie

@@ -1,6 +1,5 @@
 -- `refused` meets its contract. Assumes nothing.
 use borrow.Author.Needs.{needs}
-use mathlib.Core.Path.{_≡_, refl, sym, ap, _∙_}
 use Rattle.mungaite.specs.Code.{refusalCode}
 use Rattle.mungaite.proofs.parts.refused.Statement.{statement}
 use Rattle.mungaite.proofs.parts.refused.Tie as tie

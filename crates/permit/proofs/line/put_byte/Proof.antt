@@ -1,7 +1,6 @@
 -- `put_byte` meets its contract. Assumes nothing.
 use borrow.Author.Needs.{needs}
 use mathlib.Core.Path.{refl}
-use denote.Ref.{now}
 use Rattle.permit.proofs.Laws.{put-one}
 use Rattle.permit.proofs.line.put_byte.Statement.{statement}
 use Rattle.permit.proofs.line.put_byte.Tie as tie

@@ -7,7 +7,7 @@ use mathlib.Core.Path.{_≡_, refl, _∙_}
 use mathlib.Core.List.{_++_}
 use lib.ListN.{length, take, drop, length-set}
 use lib.Seq.{take-set-le}
-use Rattle.permit.specs.Lines.{width, digits, decimal}
+use Rattle.permit.specs.Lines.{width, digits}
 use Rattle.permit.proofs.Laws.{digits-start, digits-next, digits-put}
 use Rattle.permit.proofs.line.put_number.Statement.{statement}
 use Rattle.permit.proofs.line.put_number.Tie as tie
