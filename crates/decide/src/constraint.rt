@@ -68,7 +68,8 @@ fn companion(image: &[u8], groups: &[usize; 256], from: usize, at: usize) -> boo
     !helped(image, groups, from, &first, &second)
 }
 
-// Whether the predicate of the constraint at a place is false: ban, separation, roster or companion.
+// Whether the predicate of the constraint at a place is false: ban, separation, roster or companion. An accepted constraint
+// has no other number.
 fn predicate_fails(
     image: &[u8],
     groups: &[usize; 256],
@@ -83,7 +84,8 @@ fn predicate_fails(
         0 => true,
         1 => separation(image, groups, from, at, names),
         2 => roster(image, groups, from, at),
-        _ => companion(image, groups, from, at),
+        3 => companion(image, groups, from, at),
+        _ => false,
     }
 }
 

@@ -30,7 +30,12 @@ returns-3 : tie.Need-returns-3
 returns-3 c = (c .roster .ensures ∙ sym (broken-roster _ _ (predicate-is _ _ _ (c .before .before .before .before .pre .3) ∙ c .before .match .keys3)), c .before .before .before .before .pre .4)
 
 returns-4 : tie.Need-returns-4
-returns-4 c = let e = predicate-is _ _ _ (c .before .before .before .before .pre .3) in let m = c .before .match .rest in (c .companion .ensures ∙ sym (broken-companion _ _ (λ k. m .0 .0 .1 (sym e ∙ k)) (λ k. m .0 .1 (sym e ∙ k)) (λ k. m .1 (sym e ∙ k))), c .before .before .before .before .pre .4)
+returns-4 c = let e = predicate-is _ _ _ (c .before .before .before .before .pre .3) ∙ c .before .match .keys4 in
+    (c .companion .ensures ∙ sym (broken-companion _ _ (λ k. absurd (omega (arith, e, k))) (λ k. absurd (omega (arith, e, k))) (λ k. absurd (omega (arith, e, k)))), c .before .before .before .before .pre .4)
+
+returns-5 : tie.Need-returns-5
+returns-5 c = let r = c .match .rest in
+    absurd (omega (arith, r .0 .0 .0 .1, r .0 .0 .1, r .0 .1, r .1, c .before .before .before .pre .3 .predicate))
 
 pub predicate-fails-spec : {M : Type 1} → statement M
 predicate-fails-spec =
@@ -44,4 +49,5 @@ predicate-fails-spec =
     returns
     returns-2
     returns-3
-    returns-4)
+    returns-4
+    returns-5)
