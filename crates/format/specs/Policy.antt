@@ -7,7 +7,7 @@
 --     recordsAt l at n     those n records
 --     startOf l s          the place of a section's first record, and `endOf` the place past the last record of all
 --     placeOf l s n        the place of record n of a section
-use Prim.Native.Nat.{ℕ, zero, suc, _+_}
+use Prim.Native.Nat.{ℕ, zero, suc, _+_, _-_}
 use mathlib.Core.List.{List, [], _∷_, _++_, flatten}
 use lib.ListN.{length, getD, drop}
 use Rattle.format.specs.declared.Section.{Section}
