@@ -43,7 +43,7 @@ extern "C" {
 #define MUNGAITE_RULES 1
 #define MUNGAITE_CONSTRAINTS 2
 
-/* The largest image that is accepted, in bytes, and the empty policy. */
+/* The lengths, in bytes, of the largest image that is accepted and of the empty policy. */
 #define MUNGAITE_LARGEST 55561
 #define MUNGAITE_EMPTY 9
 
