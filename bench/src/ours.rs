@@ -1,25 +1,16 @@
-//! Mungaite's functions, as libmungaite.a exports them to C.
+//! Mungaite's functions, as libmungaite.a exports them to C, by the raw
+//! declarations of the crate in `rust/`.
 //!
 //! An answer is a number of four 16-bit parts, the highest first: 0,0,0,0 for
 //! NotPermitted, 0,1,0,rule for Permitted, 0,3,rule,constraint for UnKnown and
 //! 0,2,number,place for a refusal; a check that accepts gives 0.
 //!
-//! A function that decides on checked or prepared bytes is to be declared
-//! here; `contest` then times it instead of a difference.
+//! A function that decides on checked or prepared bytes is to be added here;
+//! `contest` then times it instead of a difference.
+
+use mungaite::raw::{mungaite_check, mungaite_decide};
 
 use crate::engine::answer::{Decision, Query, Refusal};
-
-extern "C" {
-    fn mungaite_check(image: *const u8, length: usize) -> u64;
-    fn mungaite_decide(
-        source: u16,
-        destination: u16,
-        class: u16,
-        action: u16,
-        image: *const u8,
-        length: usize,
-    ) -> u64;
-}
 
 pub fn check(image: &[u8]) -> u64 {
     // SAFETY: the pointer and the length are those of one slice, only read.
