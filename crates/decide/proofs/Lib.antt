@@ -6,6 +6,7 @@ pub mod MarkedLaws
 pub mod CompareLaws
 pub mod PredicateLaws
 pub mod NameLaws
+pub mod TableLaws
 pub mod ConstraintLaws
 pub mod EngineLaws
 pub mod CoverLaws

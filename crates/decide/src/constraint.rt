@@ -1,7 +1,7 @@
 // Whether a constraint applies and fails, and the lowest that does.
+use crate::apart::clashed;
 use crate::cover::Found;
 use crate::kept::inside;
-use crate::predicates::clashed;
 use crate::predicates::helped;
 use crate::predicates::strayed;
 use crate::sets::mark_type;

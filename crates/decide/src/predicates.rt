@@ -2,8 +2,6 @@
 // so that its length need not be read.
 use crate::kept::among;
 use crate::kept::meets;
-use crate::names::first_groups;
-use crate::names::name;
 use crate::word::wide;
 use crate::word::word_at;
 ghost use mathlib.Core.Path.{_≡_};
@@ -17,10 +15,10 @@ ghost use Rattle.format.specs.Check.{check};
 ghost use Rattle.format.proofs.Places.{RuleAt};
 ghost use Rattle.decision.specs.Sets.{anyOf};
 ghost use Rattle.decision.specs.Decide.{ruleOf};
-ghost use Rattle.decide.specs.Walks.{groupsIn, rulesIn, Placed, Kept, Firsts, NamesKept, anyMarked, allMarked, liveAt, wanted, strays, friend, reaching, reachedOf, noNames, named, pairedIn};
+ghost use Rattle.decide.specs.Walks.{groupsIn, rulesIn, Placed, Kept, anyMarked, allMarked, liveAt, strays, friend};
 
 // Whether the rule at a place is an allow rule that is on.
-fn on(image: &[u8], at: usize) -> bool
+pub(crate) fn on(image: &[u8], at: usize) -> bool
     requires { ⌜ (at + 8 ≤ length (now image)) × (getD (now image) (at + 1) 0 ≡ 2 → at + 11 ≤ length (now image)) ⌝ }
     ensures { λ r. ⌜ r ≡ liveAt (now (image .entry)) at ⌝ }
 {
@@ -115,87 +113,6 @@ pub(crate) fn helped(
     while 0 < left {
         if on(image, at) {
             if helps(image, groups, at, first, second, &mut told, &mut known) {
-                return true;
-            }
-            at += 11;
-        } else {
-            at += wide(image[at]);
-        }
-        left -= 1;
-    }
-    false
-}
-
-// The names of the sources of the rules that reach the marks.
-fn reached(
-    image: &[u8],
-    groups: &[usize; 256],
-    firsts: &[u16; 1024],
-    from: usize,
-    marks: &[bool; 1024],
-    names: &mut [u16; 256],
-) -> [bool; 1280]
-    requires { ⌜ (check (now image) ≡ none) × Placed (now image) (now groups) × Firsts (now image) (now firsts) × (from ≡ startOf (now image) Rules) × NamesKept (now image) (now names) ⌝ }
-    ensures { λ r. ⌜ (r ≡ reachedOf (now (image .entry)) (now (marks .entry)) (rulesIn (now (image .entry))) noNames) × NamesKept (now (image .entry)) (now (names .exit)) ⌝ }
-{
-    let mut table = [false; 1280];
-    let mut told = [0u8; 256];
-    let mut at = from;
-    let mut left = word_at(image, 5);
-    while 0 < left {
-        if on(image, at) {
-            if meets(image, groups, at + 4, marks, &mut told) {
-                table[name(image, groups, firsts, at + 2, names)] = true;
-            }
-            at += 11;
-        } else {
-            at += wide(image[at]);
-        }
-        left -= 1;
-    }
-    table
-}
-
-// Whether the live rule at a place reaches the marks, and its source has its name in a table.
-fn clashes(
-    image: &[u8],
-    groups: &[usize; 256],
-    firsts: &[u16; 1024],
-    at: usize,
-    first: &[bool; 1024],
-    table: &[bool; 1280],
-    told: &mut [u8; 256],
-    names: &mut [u16; 256],
-) -> bool
-    requires { ⌜ (check (now image) ≡ none) × Placed (now image) (now groups) × Firsts (now image) (now firsts) × RuleAt (now image) at (recordAt (now image) at) × (liveAt (now image) at ≡ true) × Kept (anyMarked (now first)) (now image) (now told) × NamesKept (now image) (now names) ⌝ }
-    ensures { λ r. ⌜ (r ≡ wanted (now (first .entry)) (named (now (image .entry)) (now (table .entry))) (ruleOf (groupsIn (now (image .entry))) (recordAt (now (image .entry)) at))) × Kept (anyMarked (now (first .entry))) (now (image .entry)) (now (told .exit)) × NamesKept (now (image .entry)) (now (names .exit)) ⌝ }
-{
-    if !meets(image, groups, at + 4, first, told) {
-        return false;
-    }
-    table[name(image, groups, firsts, at + 2, names)]
-}
-
-// Whether a rule breaks a separation, whose arguments are marked: the sources that reach the second are gathered first.
-pub(crate) fn clashed(
-    image: &[u8],
-    groups: &[usize; 256],
-    from: usize,
-    first: &[bool; 1024],
-    second: &[bool; 1024],
-    names: &mut [u16; 256],
-) -> bool
-    requires { ⌜ (check (now image) ≡ none) × Placed (now image) (now groups) × (from ≡ startOf (now image) Rules) × NamesKept (now image) (now names) ⌝ }
-    ensures { λ r. ⌜ (r ≡ anyOf (wanted (now (first .entry)) (pairedIn (now (image .entry)) (now (second .entry)))) (rulesIn (now (image .entry)))) × NamesKept (now (image .entry)) (now (names .exit)) ⌝ }
-{
-    let firsts = first_groups(image, groups);
-    let table = reached(image, groups, &firsts, from, second, names);
-    let mut told = [0u8; 256];
-    let mut at = from;
-    let mut left = word_at(image, 5);
-    while 0 < left {
-        if on(image, at) {
-            if clashes(image, groups, &firsts, at, first, &table, &mut told, names) {
                 return true;
             }
             at += 11;

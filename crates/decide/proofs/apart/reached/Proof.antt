@@ -13,9 +13,10 @@ use Rattle.format.proofs.Accepted.{accepted-header, place-next}
 use Rattle.format.proofs.Places.{RuleAt, rule-at}
 use Rattle.decide.specs.Walks.{rulesIn, Kept, NamesKept, anyMarked, reachedOf, noNames}
 use Rattle.decide.proofs.PredicateLaws.{kept-none, reaching-off, reaching-dest, live-length}
-use Rattle.decide.proofs.NameLaws.{name-small, reachedFrom, reached-start, reached-end, reached-near, reached-far}
-use Rattle.decide.proofs.predicates.reached.Statement.{statement}
-use Rattle.decide.proofs.predicates.reached.Tie as tie
+use Rattle.decide.proofs.NameLaws.{name-small}
+use Rattle.decide.proofs.TableLaws.{reachedFrom, reached-start, reached-end, reached-near, reached-far}
+use Rattle.decide.proofs.apart.reached.Statement.{statement}
+use Rattle.decide.proofs.apart.reached.Tie as tie
 
 abbrev Inv-loop : tie.InvT-loop
 Inv-loop image groups firsts from marks names₀ table₀ told₀ at₀ left₀ names table told at left = (left ≤ left₀) × (left₀ ≡ countOf image Rules) × (at ≡ placeOf image Rules (left₀ - left)) × (reachedOf image marks (rulesIn image) noNames ≡ reachedFrom image marks left at table) × Kept (anyMarked marks) image told × NamesKept image names

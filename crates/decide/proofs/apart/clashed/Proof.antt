@@ -16,9 +16,9 @@ use Rattle.decision.specs.Sets.{anyOf}
 use Rattle.decision.specs.Decide.{ruleOf}
 use Rattle.decide.specs.Walks.{groupsIn, rulesIn, Kept, NamesKept, anyMarked, wanted, named, pairedIn}
 use Rattle.decide.proofs.PredicateLaws.{kept-none, unwanted-off, live-length, anyFrom, any-rules-start, any-rules-end, any-rules-hit, any-rules-next}
-use Rattle.decide.proofs.NameLaws.{clashed-is}
-use Rattle.decide.proofs.predicates.clashed.Statement.{statement}
-use Rattle.decide.proofs.predicates.clashed.Tie as tie
+use Rattle.decide.proofs.TableLaws.{clashed-is}
+use Rattle.decide.proofs.apart.clashed.Statement.{statement}
+use Rattle.decide.proofs.apart.clashed.Tie as tie
 
 abbrev Inv-loop : tie.InvT-loop
 Inv-loop image groups from first second names₀ firsts table told₀ at₀ left₀ names told at left = (left ≤ left₀) × (left₀ ≡ countOf image Rules) × (at ≡ placeOf image Rules (left₀ - left)) × (anyOf (wanted first (named image table)) (rulesIn image) ≡ anyFrom (wanted first (named image table)) image left at) × Kept (anyMarked first) image told × NamesKept image names

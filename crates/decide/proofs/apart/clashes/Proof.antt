@@ -8,8 +8,8 @@ use borrow.Author.Tests.{not-true, not-false}
 use Rattle.decide.specs.Walks.{named}
 use Rattle.decide.proofs.PredicateLaws.{unwanted-dest, wanted-source}
 use Rattle.decide.proofs.NameLaws.{name-small}
-use Rattle.decide.proofs.predicates.clashes.Statement.{statement}
-use Rattle.decide.proofs.predicates.clashes.Tie as tie
+use Rattle.decide.proofs.apart.clashes.Statement.{statement}
+use Rattle.decide.proofs.apart.clashes.Tie as tie
 
 add-meets : tie.Need-add-meets
 add-meets c = let h = c .before .pre .3 in omega (arith, h .long, h .here .inside)
