@@ -5,7 +5,7 @@ use mungaite::{Decision, Query, Refusal, Section};
 use std::io::{Read, Write};
 use std::ops::Range;
 use std::path::PathBuf;
-use std::process::{Command, Stdio};
+use std::process::{Child, Command, Stdio};
 use std::{env, thread};
 
 /// Where the program is unless the environment variable PERMIT names another place. Relative to this crate's folder.
@@ -19,6 +19,15 @@ impl Engine {
     pub fn new() -> Engine {
         let crate_folder = PathBuf::from(env!("CARGO_MANIFEST_DIR"));
         Engine { permit: env::var_os("PERMIT").map_or(crate_folder.join(PERMIT), PathBuf::from) }
+    }
+
+    /// The program, started, with its input and output at hand.
+    pub fn start(&self) -> Child {
+        Command::new(&self.permit)
+            .stdin(Stdio::piped())
+            .stdout(Stdio::piped())
+            .spawn()
+            .unwrap_or_else(|error| panic!("cannot run {} (set PERMIT): {error}", self.permit.display()))
     }
 }
 
@@ -42,11 +51,7 @@ impl Subject for Engine {
     }
 
     fn permit(&self, input: &[u8]) -> String {
-        let mut child = Command::new(&self.permit)
-            .stdin(Stdio::piped())
-            .stdout(Stdio::piped())
-            .spawn()
-            .unwrap_or_else(|error| panic!("cannot run {} (set PERMIT): {error}", self.permit.display()));
+        let mut child = self.start();
         let mut stdin = child.stdin.take().expect("stdin is piped");
         let mut stdout = child.stdout.take().expect("stdout is piped");
         let mut output = String::new();

@@ -58,10 +58,6 @@ key-differs S T h = go (sameList S T) refl
 
 module _ (gs : List (List ℕ)) (S : List ℕ) where
   module _ (k h : ℕ) where
-    pub twin-end : k ≡ 0 → twinFrom gs S k h ≡ h
-    unfolding twinFrom
-    twin-end e = rw e refl
-
     module _ (j : ℕ) (more : k ≡ suc j) where
       pub twin-hit : sameList S (setOf gs (32768 + h)) ≡ true → twinFrom gs S k h ≡ h
       unfolding twinFrom

@@ -3,6 +3,7 @@
 mod limits;
 mod mutation;
 mod order;
+mod program;
 mod random;
 mod reached;
 mod round_trip;
@@ -17,7 +18,9 @@ fn differential() -> Vec<Cases> {
 }
 
 pub fn all(run: &mut Run) {
-    for test in worked::TESTS.iter().chain(&differential()).chain(round_trip::TESTS).chain(order::TESTS) {
+    for test in
+        worked::TESTS.iter().chain(&differential()).chain(round_trip::TESTS).chain(order::TESTS).chain(program::TESTS)
+    {
         run.cases(test);
     }
     for test in reached::tests().iter().chain(&mutation::tests()) {

@@ -12,7 +12,6 @@ pub const TESTS: &[Cases] = &[
     Cases { name: "sample/changes", count: Count::Listed(256 * LENGTH), run: change },
     Cases { name: "sample/cuts", count: Count::Listed(LENGTH), run: cut },
     Cases { name: "sample/permit-cuts", count: Count::Listed(LENGTH + 24), run: permit_cut },
-    Cases { name: "sample/permit-changes", count: Count::Listed(2 * LENGTH), run: permit_change },
 ];
 
 /// Case 256 p + v is the sample with value v at place p.
@@ -38,15 +37,6 @@ fn permit_cut(pair: &Pair, case: u64) -> Outcome {
     let mut input = SAMPLE.to_vec();
     input.extend(QUERIES[..3].iter().flat_map(|query| query.to_bytes()));
     pair.permit(&input[..case as usize])
-}
-
-/// Cases 2 p and 2 p + 1 raise and lower the byte at place p, before the queries.
-fn permit_change(pair: &Pair, case: u64) -> Outcome {
-    let mut input = SAMPLE.to_vec();
-    let byte = &mut input[case as usize / 2];
-    *byte = if case % 2 == 1 { byte.wrapping_sub(1) } else { byte.wrapping_add(1) };
-    input.extend(QUERIES.iter().flat_map(|query| query.to_bytes()));
-    pair.permit(&input)
 }
 
 fn every_call(pair: &Pair, image: &[u8]) -> Outcome {
