@@ -1,12 +1,12 @@
 -- The round trip: an accepted policy's records, added in order to the empty policy, give it back. Assumes nothing.
 --     add-section      a section's records added one after the other
---     round-trip       claim RoundTrip
+--     round-trip, round-trip-exact   claims RoundTrip and RoundTripExact
 use Prim.Native.Nat.{ℕ, _+_, _≤_, _<_}
 use mathlib.Core.Path.{_≡_, refl, sym, subst, ap, ap₂, _∙_}
 use mathlib.Core.List.{List, [], _∷_, _++_, flatten, append-assoc, append-nil, List·Memᴰ, List·Memᴰ·head, List·Memᴰ·tail, List·Memᴰ·not-nil}
 use native.Mathlib.Omega.{arith}
 use lib.ListN.{length, drop, length-append, length-drop}
-use lib.Seq.{drop-drop, drop-append-add}
+use lib.Seq.{drop-drop, drop-append-add, drop-length}
 use borrow.Author.Tests.{eqb-true}
 use Rattle.format.specs.declared.Section.{Section}
 use Rattle.format.specs.declared.Section.the-variants.{Groups, Rules, Constraints}
@@ -18,7 +18,7 @@ use Rattle.format.proofs.Shapes.{Formed}
 use Rattle.format.proofs.Fields.{formed-more, group-any}
 use Rattle.format.proofs.Images.{Sound, policy-sound, image-of-policy, image-length}
 use Rattle.extension.specs.Add.{withRecord, bufferAfter, overwrite}
-use Rattle.extension.specs.Claims.{addAll, allRecords, RoundTrip}
+use Rattle.extension.specs.Claims.{addAll, allRecords, RoundTrip, RoundTripExact}
 use Rattle.extension.proofs.Adds.{with-records, with-groups, with-sound, add-image}
 
 add-append : (b : List ℕ) (xs ys : List (List ℕ)) → addAll b (xs ++ ys) ≡ addAll (addAll b xs) ys
@@ -207,3 +207,11 @@ round-trip l t b e room =
     let k : length (bodyOf q) ≤ length t = omega (arith, n, length-append empty t, empty-length) in
     all-added q (policy-sound l b e) t k
     ∙ ap₂ _++_ is (sym (ap (λ (m : ℕ). drop m (empty ++ t)) (n ∙ ap (λ (m : ℕ). m + length (bodyOf q)) (sym empty-length)) ∙ drop-append-add empty t (length (bodyOf q))))
+
+pub round-trip-exact : RoundTripExact
+unfolding overwrite
+round-trip-exact l t b e n =
+    round-trip l t b e (omega arith)
+    ∙ ap (λ (k : ℕ). l ++ drop k (empty ++ t)) (sym n)
+    ∙ ap (λ (x : List ℕ). l ++ x) (drop-length (empty ++ t))
+    ∙ append-nil l

@@ -6,6 +6,7 @@
 --     GroupsKept        and whose groups have their old numbers
 --     RoundTrip         adding an accepted policy's records in order to the empty policy, in a buffer that holds it,
 --                       gives it byte for byte, and the bytes past it stay
+--     RoundTripExact    a buffer that has just the space is enough
 use Prim.Native.Nat.{ℕ, _≤_, _<_}
 use mathlib.Core.Path.{_≡_}
 use mathlib.Core.Option.{none}
@@ -40,3 +41,8 @@ abbrev pub RoundTrip : Type 0
 RoundTrip =
     (l t : List ℕ) → Bytes l → check l ≡ none → length l ≤ length (empty ++ t)
     → addAll (empty ++ t) (allRecords (policyOf l)) ≡ overwrite l (empty ++ t)
+
+abbrev pub RoundTripExact : Type 0
+RoundTripExact =
+    (l t : List ℕ) → Bytes l → check l ≡ none → length (empty ++ t) ≡ length l
+    → addAll (empty ++ t) (allRecords (policyOf l)) ≡ l

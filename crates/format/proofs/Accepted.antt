@@ -7,17 +7,18 @@
 --     record-stands       and lies in the image, at its place
 --     place-next          the next record's place
 --     records-count       the section of the policy has as many records as the header counts
---     records-given       claim RecordsGiven
+--     records-given, all-given, none-given   claims RecordsGiven, AllGiven, NoneGiven
 use Prim.Native.Nat.{ℕ, zero, suc, _+_, _-_, _≤_, _<_}
-use mathlib.Core.Path.{_≡_, refl, sym, ap, _∙_}
+use mathlib.Core.Path.{_≡_, refl, sym, ap, ap₂, _∙_}
 use mathlib.Core.Bool.{Bool, true, _&&_}
 use mathlib.Core.Option.{none, some}
-use mathlib.Core.List.{List, []}
+use mathlib.Core.List.{List, [], _∷_}
 use native.Mathlib.Omega.{arith}
+use native.Mathlib.Nat.{add-zero}
 use native.Mathlib.Numerals.{add-one}
 use lib.ListN.{length, getD}
 use lib.Dec.{leb, ltb, eqb}
-use borrow.Author.Tests.{leb-true, ltb-true, eqb-true, le-leb, lt-ltb}
+use borrow.Author.Tests.{leb-true, ltb-true, eqb-true, le-leb, lt-ltb, le-ltb}
 use Rattle.format.specs.declared.Section.{Section}
 use Rattle.format.specs.declared.Section.the-variants.{Groups, Rules, Constraints}
 use Rattle.format.specs.declared.Refusal.{Refusal}
@@ -27,9 +28,9 @@ use Rattle.format.specs.Format.{knownVersion, limitOf, countOf}
 use Rattle.format.specs.Policy.{policyOf, recordsOf, recordAt, recordsAt, placeAfter, startOf, placeOf, endOf}
 use Rattle.format.specs.Check.{sectionFault, countFault, headerFault, bodyFault, check}
 use Rattle.format.specs.Give.{giveFault, givenRecord}
-use Rattle.format.specs.Claims.{GivenAt, RecordsGiven}
+use Rattle.format.specs.Claims.{GivenAt, RecordsGiven, givenFrom, AllGiven, NoneGiven}
 use Rattle.format.proofs.Tests.{both, and-true}
-use Rattle.format.proofs.Chain.{orElse-split, orElse-none, need-true, need-none}
+use Rattle.format.proofs.Chain.{orElse-split, orElse-none, orElse-next, need-true, need-none, need-some}
 use Rattle.format.proofs.Shapes.{Formed, Stands, stands, record-part}
 use Rattle.format.proofs.Records.{place-snoc, records-length, records-nth, section-formed, section-rest}
 
@@ -177,6 +178,23 @@ records-given l e s n k =
       inside = rw is (st .inside);
       part = rw is (record-part l (placeOf l s n) st);
     }
+
+-- a list is what its elements are, one after the other
+given-list : (l : List ℕ) (s : Section) (k : ℕ) (rs : List (List ℕ)) → ((i : ℕ) → i < length rs → givenRecord l s (k + i) ≡ getD rs i []) → givenFrom l s k (length rs) ≡ rs
+unfolding givenFrom
+given-list l s k [] h = refl
+given-list l s k (r ∷ rs) h =
+    ap₂ _∷_ (ap (givenRecord l s) (sym (add-zero k)) ∙ h 0 (omega arith))
+    (given-list l s (suc k) rs (λ i j. (let z : suc k + i ≡ k + suc i = omega arith in rw z (h (suc i) (omega arith)))))
+
+pub all-given : AllGiven
+all-given l e s =
+    given-list l s 0 (recordsOf (policyOf l) s)
+    (λ i h. (let z : 0 + i ≡ i = omega arith in rw z (records-given l e s i h .nth)))
+
+pub none-given : NoneGiven
+unfolding giveFault
+none-given l e s n h = orElse-next _ e ∙ need-some _ (le-ltb n (countOf l s) (rw (records-count l s) at h))
 
 -- what it says that nothing is refused, for the callers of `find` and `record`
 pub give-split : (l : List ℕ) (s : Section) (n : ℕ) → giveFault l s n ≡ none → (check l ≡ none) × (n < countOf l s)

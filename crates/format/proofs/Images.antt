@@ -22,7 +22,8 @@ use Rattle.format.specs.Refusals.{_orElse_}
 use Rattle.format.specs.Format.{knownVersion, limitOf, countPlace, countOf, kindIn, firstRecord}
 use Rattle.format.specs.Policy.{Policy, recordsOf, bodyOf, imageOf, recordAt, recordsAt, placeAfter, startOf, placeOf, endOf, policyOf}
 use Rattle.format.specs.Check.{sectionFault, headerFault, bodyFault, check}
-use Rattle.format.specs.Claims.{WellFormed, AcceptedIsWellFormed, WellFormedIsAccepted, LongestImage}
+use Rattle.format.specs.Claims.{WellFormed, AcceptedIsWellFormed, WellFormedIsAccepted}
+use Rattle.format.specs.Longest.{LongestImage}
 use Rattle.format.proofs.Tests.{both}
 use Rattle.format.proofs.Chain.{orElse-none, need-none}
 use Rattle.format.proofs.Bytes.{bytes-cons, bytes-append, bytes-drop, bytes-take, bytes-flatten, bytes-word, word-bytes, word-back}
@@ -349,7 +350,7 @@ module _ (p : Policy) (w : Sound p) where
       (bytes-append (flatten (p .rules)) (flatten (p .constraints)) (bytes-flatten (p .rules) (w .bytes Rules))
       (bytes-flatten (p .constraints) (w .bytes Constraints)))
 
-  image-bytes : Bytes (imageOf p)
+  pub image-bytes : Bytes (imageOf p)
   unfolding imageOf recordsOf limitOf knownVersion
   image-bytes =
       let x = w .few Groups in

@@ -10,3 +10,4 @@ pub mod Images
 pub mod References
 pub mod Sample
 pub mod Places
+pub mod Longest

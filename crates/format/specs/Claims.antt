@@ -7,19 +7,21 @@
 --     typeFields r        the type fields of a rule or of a constraint
 --     AcceptedIsWellFormed, WellFormedIsAccepted   accepted means well formed, both ways
 --     GivenAt, RecordsGiven   record n is the nth of its section, the last included, and a part of the image
+--     AllGiven            the records given one after the other are the section's, the last included
+--     NoneGiven           past the last there is none: 14
 --     ReferencesHeld      a type field is a basic type, or names a group that the image has
---     LongestImage        an accepted image has at most 55,561 bytes
-use Prim.Native.Nat.{ℕ, suc, _+_, _*_, _≤_, _<_}
+use Prim.Native.Nat.{ℕ, zero, suc, _+_, _*_, _≤_, _<_}
 use mathlib.Core.Path.{_≡_}
 use mathlib.Core.Logic.{_⊎_}
 use mathlib.Core.Bool.{cond}
-use mathlib.Core.Option.{none}
+use mathlib.Core.Option.{none, some}
 use mathlib.Core.List.{List, [], _∷_, List·Memᴰ}
 use lib.ListN.{length, getD, take, drop}
 use lib.Dec.{eqb}
 use Rattle.format.specs.declared.Section.{Section}
 use Rattle.format.specs.declared.Section.the-variants.{Groups, Rules, Constraints}
 use Rattle.format.specs.Bytes.{Bytes, wordAt, words}
+use Rattle.format.specs.Refusals.{refusal}
 use Rattle.format.specs.Policy.{Policy, recordsOf, imageOf, policyOf, placeOf}
 use Rattle.format.specs.Check.{check}
 use Rattle.format.specs.Give.{giveFault, givenRecord}
@@ -98,10 +100,22 @@ pub record GivenAt (l : List ℕ) (s : Section) (n : ℕ) : Type 0 where
 abbrev pub RecordsGiven : Type 0
 RecordsGiven = (l : List ℕ) → check l ≡ none → (s : Section) (n : ℕ) → n < length (recordsOf (policyOf l) s) → GivenAt l s n
 
+-- n records of a section, from record k on, as they are given
+unfoldable pub givenFrom : List ℕ → Section → ℕ → ℕ → List (List ℕ)
+givenFrom l s k zero = []
+givenFrom l s k (suc n) = givenRecord l s k ∷ givenFrom l s (suc k) n
+
+abbrev pub AllGiven : Type 0
+AllGiven =
+    (l : List ℕ) → check l ≡ none → (s : Section)
+    → givenFrom l s 0 (length (recordsOf (policyOf l) s)) ≡ recordsOf (policyOf l) s
+
+abbrev pub NoneGiven : Type 0
+NoneGiven =
+    (l : List ℕ) → check l ≡ none → (s : Section) (n : ℕ) → length (recordsOf (policyOf l) s) ≤ n
+    → giveFault l s n ≡ some (refusal 14 0)
+
 abbrev pub ReferencesHeld : Type 0
 ReferencesHeld =
     (l : List ℕ) → check l ≡ none → (s : Section) (r : List ℕ) → List·Memᴰ r (recordsOf (policyOf l) s)
     → (t : ℕ) → List·Memᴰ t (typeFields r) → IsType (length (policyOf l .groups)) t
-
-abbrev pub LongestImage : Type 0
-LongestImage = (l : List ℕ) → check l ≡ none → length l ≤ 55561

@@ -6,4 +6,5 @@ pub mod Check
 pub mod Give
 pub mod Answers
 pub mod Claims
+pub mod Longest
 pub mod Sample
