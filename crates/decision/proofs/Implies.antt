@@ -37,10 +37,10 @@ pub cond⟹ : (b : Bool) {x y x′ y′ : Bool} → (b ≡ true → x ⟹ x′) 
 cond⟹ true f g = f refl
 cond⟹ false f g = g refl
 
-or-left : (a b : Bool) → a ≡ true → (a || b) ≡ true
+pub or-left : (a b : Bool) → a ≡ true → (a || b) ≡ true
 or-left a b h = rw h
 
-or-right : (a b : Bool) → b ≡ true → (a || b) ≡ true
+pub or-right : (a b : Bool) → b ≡ true → (a || b) ≡ true
 or-right true b h = refl
 or-right false b h = h
 

@@ -2,4 +2,5 @@ pub mod Cases
 pub mod Implies
 pub mod Lowest
 pub mod Order
+pub mod Growth
 pub mod Tepla

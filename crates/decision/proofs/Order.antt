@@ -2,6 +2,7 @@
 --     Above             the terms, over rules, constraints and queries as read, whatever their records
 --     judge-order       the rule at that level
 --     order             for two policies
+--     grown-order       for one query on a policy and on one that it grows to
 use Prim.Native.Nat.{ℕ, suc, _+_, _-_, _≤_, _<_}
 use native.Mathlib.Omega.{arith}
 use mathlib.Core.Path.{_≡_, refl, sym, subst, ap, ap₂}
@@ -28,7 +29,7 @@ use Rattle.format.proofs.Images.{policy-formed, group-count}
 use Rattle.decision.specs.declared.Query.{Query}
 use Rattle.decision.specs.Sets.{anyOf, isIn, setOf, unionOf, within}
 use Rattle.decision.specs.Decide.{Rule, ruleOf, Constraint, constraintOf, Request, requestOf, tests, covers, reaches, separationBroken, rosterBroken, companionBroken, broken, fails, firstAt, Decision, decisionOf, judge, decide, queryFault, answerFault, answer}
-use Rattle.decision.specs.Order.{height, Keeps, Extends, OrderRule, QueryOrder, NonDecreasing, Decided}
+use Rattle.decision.specs.Order.{height, Holds, Keeps, Grows, NoCompanion, Extends, OrderRule, QueryOrder, NonDecreasing, Decided}
 use Rattle.decision.proofs.Implies.{_⟹_, id⟹, eq⟹, and⟹, not⟹, cond⟹, anyOf⟹, within⟹, _⇉_, end, and, all⟹, cond⇉, map-mem, map-all, allOf-intro, anyOf-intro}
 
 -- ---- the height of a decision, from whether some rule covers and some constraint fails
@@ -183,7 +184,7 @@ module _ (p₁ p₂ : Policy) (q₁ q₂ : Query) (typed : Typed p₁) (e : Exte
   unfolding ruleOf
   rule-kept r m =
       let t = rule-types _ r (typed .rules r m) in
-      rw (set-kept (p₁ .groups) (p₂ .groups) (e .groups) (wordAt r 2) (t .0), set-kept (p₁ .groups) (p₂ .groups) (e .groups) (wordAt r 4) (t .1))
+      rw (set-kept (p₁ .groups) (p₂ .groups) (e .policy .groups) (wordAt r 2) (t .0), set-kept (p₁ .groups) (p₂ .groups) (e .policy .groups) (wordAt r 4) (t .1))
 
   constraint-is : (c : List ℕ) → List·Memᴰ c (p₁ .constraints) → (n : ℕ) × IsConstraint (length (p₁ .groups)) c n
   unfolding IsRecord
@@ -194,9 +195,9 @@ module _ (p₁ p₂ : Policy) (q₁ q₂ : Query) (typed : Typed p₁) (e : Exte
   constraint-kept c m =
       let t = constraint-is c m in
       rw (
-        set-kept (p₁ .groups) (p₂ .groups) (e .groups) (wordAt c 6) (t .1 .first),
-        set-kept (p₁ .groups) (p₂ .groups) (e .groups) (wordAt c 8) (t .1 .second),
-        union-kept (p₁ .groups) (p₂ .groups) (e .groups) (words (drop 11 c)) (list-types _ c (t .0) (t .1)),
+        set-kept (p₁ .groups) (p₂ .groups) (e .policy .groups) (wordAt c 6) (t .1 .first),
+        set-kept (p₁ .groups) (p₂ .groups) (e .policy .groups) (wordAt c 8) (t .1 .second),
+        union-kept (p₁ .groups) (p₂ .groups) (e .policy .groups) (words (drop 11 c)) (list-types _ c (t .0) (t .1)),
       )
 
   no-companion : (c : List ℕ) → List·Memᴰ c (p₁ .constraints) → (getD c 10 0 ≡ 3 → ⊥) → constraintOf (p₁ .groups) c .predicate < 3
@@ -208,8 +209,8 @@ module _ (p₁ p₂ : Policy) (q₁ q₂ : Query) (typed : Typed p₁) (e : Exte
   unfolding requestOf
   above =
       record {
-        rules = map-mem _ _ _ _ (λ r m. (e .rules r m, rule-kept r m));
-        constraints = map-mem _ _ _ _ (λ c m. (e .constraints c m, constraint-kept c m));
+        rules = map-mem _ _ _ _ (λ r m. (e .policy .rules r m, rule-kept r m));
+        constraints = map-mem _ _ _ _ (λ c m. (e .policy .constraints c m, constraint-kept c m));
         class = e .class;
         action = e .action;
         source = e .source;
@@ -246,16 +247,14 @@ order-rule l₁ l₂ q₁ q₂ d₁ d₂ e₁ e₂ x =
     let b = answer-accepted l₂ q₂ d₂ e₂ in
     rw (a .1, b .1) (order (policyOf l₁) (policyOf l₂) q₁ q₂ (accepted-typed l₁ (a .0)) x)
 
-keeps-same : (gs : List (List ℕ)) → Keeps gs gs
+pub keeps-same : (gs : List (List ℕ)) → Keeps gs gs
 keeps-same gs = record { count = omega arith; same = λ i h. refl }
 
 pub query-order : QueryOrder
 query-order l q₁ q₂ d₁ d₂ e₁ e₂ c a s d =
     order-rule l l q₁ q₂ d₁ d₂ e₁ e₂
     (record {
-      rules = λ r m. m;
-      constraints = λ r m. m;
-      groups = keeps-same _;
+      policy = record { rules = λ r m. m; constraints = λ r m. m; groups = keeps-same _ };
       class = c;
       action = a;
       source = s;
@@ -268,25 +267,29 @@ within-refl : (s : List ℕ) → within s s ≡ true
 unfolding within isIn
 within-refl s = allOf-intro (λ x. anyOf (eqb x) s) s (λ x m. anyOf-intro (eqb x) m (eq-eqb x x refl))
 
-pub non-decreasing : NonDecreasing
-non-decreasing l₁ l₂ q d₁ d₂ e₁ e₂ r c k n =
+-- one query on a policy and on one that it grows to
+pub grown-order :
+    (l₁ l₂ : List ℕ) (q : Query) (d₁ d₂ : Decision) → answer l₁ q ≡ gives d₁ → answer l₂ q ≡ gives d₂ → Grows (policyOf l₁) (policyOf l₂)
+    → NoCompanion (policyOf l₁ .constraints) ⊎ Holds (policyOf l₂ .rules) (policyOf l₁ .rules) → height d₁ ≤ height d₂
+grown-order l₁ l₂ q d₁ d₂ e₁ e₂ g n =
     order-rule l₁ l₂ q q d₁ d₂ e₁ e₂
     (record {
-      rules = r;
-      constraints = c;
-      groups = k;
+      policy = g;
       class = refl;
       action = refl;
       source = same (q .source) (valid .0);
       dest = same (q .dest) (valid .1);
-      companions = inl n;
+      companions = n;
     })
   where
     valid : IsType (length (policyOf l₁ .groups)) (q .source) × IsType (length (policyOf l₁ .groups)) (q .dest)
     valid = answer-types l₁ q d₁ e₁
 
     same : (t : ℕ) → IsType (length (policyOf l₁ .groups)) t → within (setOf (policyOf l₂ .groups) t) (setOf (policyOf l₁ .groups) t) ≡ true
-    same t h = rw (set-kept (policyOf l₁ .groups) (policyOf l₂ .groups) k t h) (within-refl (setOf (policyOf l₂ .groups) t))
+    same t h = rw (set-kept (policyOf l₁ .groups) (policyOf l₂ .groups) (g .groups) t h) (within-refl (setOf (policyOf l₂ .groups) t))
+
+pub non-decreasing : NonDecreasing
+non-decreasing l₁ l₂ q d₁ d₂ e₁ e₂ g n = grown-order l₁ l₂ q d₁ d₂ e₁ e₂ g (inl n)
 
 pub decided : Decided
 unfolding answer answerFault queryFault

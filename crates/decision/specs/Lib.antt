@@ -2,5 +2,6 @@ pub mod Sets
 pub mod Decide
 pub mod Lowest
 pub mod Order
+pub mod Growth
 pub mod Tepla
 pub mod Cases

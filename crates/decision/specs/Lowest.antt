@@ -3,6 +3,7 @@
 --     Names rs cs a d        what a decision says of the rules and the constraints: where it names one, that is the lowest, and
 --                            where it names none, there is none
 --     LowestNamed            the decision names the lowest, for all rules, constraints and queries
+--     NamedAlone             and no other decision does
 --     LowestAnswered         and so does the engine's answer, of the image's records
 use Prim.Native.Nat.{ℕ}
 use mathlib.Core.Path.{_≡_}
@@ -27,6 +28,9 @@ Names rs cs a (unknown r c) = Lowest (covers a) rs r × Lowest (fails rs a) cs c
 
 abbrev pub LowestNamed : Type 0
 LowestNamed = (rs : List Rule) (cs : List Constraint) (a : Request) → Names rs cs a (judge rs cs a)
+
+abbrev pub NamedAlone : Type 0
+NamedAlone = (rs : List Rule) (cs : List Constraint) (a : Request) (d : Decision) → Names rs cs a d → d ≡ judge rs cs a
 
 abbrev pub LowestAnswered : Type 0
 LowestAnswered =

@@ -2,6 +2,7 @@
 --     height d              NotPermitted < Permitted < UnKnown
 --     Holds rs₁ rs₂         document 01's "holds": each record of the first list is in the second, at any number
 --     Keeps gs₁ gs₂         the second list has the first's groups, under their old numbers
+--     Grows p₁ p₂           the second policy holds the first's rules and constraints, and has its groups under their old numbers
 --     NoCompanion cs        no constraint of the list is a companion
 --     Extends p₁ q₁ p₂ q₂   the terms: a second policy and query extend a first
 --     OrderRule             demand 3, on what the engine answers
@@ -38,18 +39,21 @@ pub record Keeps (gs₁ gs₂ : List (List ℕ)) : Type 0 where
   pub count : length gs₁ ≤ length gs₂
   pub same : (i : ℕ) → i < length gs₁ → getD gs₁ i [] ≡ getD gs₂ i []
 
+pub record Grows (p₁ p₂ : Policy) : Type 0 where
+  pub rules : Holds (p₁ .rules) (p₂ .rules)
+  pub constraints : Holds (p₁ .constraints) (p₂ .constraints)
+  pub groups : Keeps (p₁ .groups) (p₂ .groups)
+
 abbrev pub NoCompanion : List (List ℕ) → Type 0
 NoCompanion cs = (c : List ℕ) → List·Memᴰ c cs → getD c 10 0 ≡ 3 → ⊥
 
 pub record Extends (p₁ : Policy) (q₁ : Query) (p₂ : Policy) (q₂ : Query) : Type 0 where
-  pub rules : Holds (p₁ .rules) (p₂ .rules)
-  pub constraints : Holds (p₁ .constraints) (p₂ .constraints)
-  pub groups : Keeps (p₁ .groups) (p₂ .groups)
+  pub policy : Grows p₁ p₂
   pub class : q₁ .class ≡ q₂ .class
   pub action : q₁ .action ≡ q₂ .action
   pub source : within (setOf (p₂ .groups) (q₂ .source)) (setOf (p₁ .groups) (q₁ .source)) ≡ true
   pub dest : within (setOf (p₂ .groups) (q₂ .dest)) (setOf (p₁ .groups) (q₁ .dest)) ≡ true
-  -- no companion constraint in the first, or, with `rules`, both hold the same rules
+  -- no companion constraint in the first, or, with `policy`, both hold the same rules
   pub companions : NoCompanion (p₁ .constraints) ⊎ Holds (p₂ .rules) (p₁ .rules)
 
 abbrev pub OrderRule : Type 0
@@ -68,8 +72,7 @@ QueryOrder =
 abbrev pub NonDecreasing : Type 0
 NonDecreasing =
     (l₁ l₂ : List ℕ) (q : Query) (d₁ d₂ : Decision) → answer l₁ q ≡ gives d₁ → answer l₂ q ≡ gives d₂
-    → Holds (policyOf l₁ .rules) (policyOf l₂ .rules) → Holds (policyOf l₁ .constraints) (policyOf l₂ .constraints)
-    → Keeps (policyOf l₁ .groups) (policyOf l₂ .groups) → NoCompanion (policyOf l₁ .constraints)
+    → Grows (policyOf l₁) (policyOf l₂) → NoCompanion (policyOf l₁ .constraints)
     → height d₁ ≤ height d₂
 
 abbrev pub Decided : Type 0
