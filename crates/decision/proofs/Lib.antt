@@ -3,4 +3,5 @@ pub mod Implies
 pub mod Lowest
 pub mod Order
 pub mod Growth
+pub mod Filled
 pub mod Tepla
