@@ -1,12 +1,13 @@
 // Records added to the sample and to other images, and images rebuilt from the empty policy.
 use crate::sample::GROUP;
-use crate::sample::SAMPLE;
 use crate::sample::repeat;
 use crate::show::end_line;
 use crate::show::show_add;
 use crate::show::show_record;
 use crate::show::show_same;
 use format::Section;
+use samples::EMPTY;
+use samples::SAMPLE;
 ghost use Prim.Native.Nat.{_<_};
 
 pub(crate) fn run() {
@@ -277,7 +278,7 @@ fn add_section(buffer: &mut [u8], from: &[u8], section: Section) {
 
 // Adds the records of an image to the empty policy at the front of a buffer.
 fn rebuild(buffer: &mut [u8], from: &[u8]) {
-    repeat(buffer, 0, b"\x01\x00\x09\x00\x00\x00\x00\x00\x00", 1);
+    repeat(buffer, 0, &EMPTY, 1);
     add_section(buffer, from, Section::Groups);
     add_section(buffer, from, Section::Rules);
     add_section(buffer, from, Section::Constraints);

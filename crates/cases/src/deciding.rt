@@ -1,7 +1,7 @@
 // Queries decided: on the sample, and on small policies, each made for one clause of document 01.
-use crate::sample::SAMPLE;
 use crate::show::show_decision;
 use decision::Query;
+use samples::SAMPLE;
 
 const TWO_RULES: [u8; 31] = *b"\
     \x01\x00\x1F\x00\x00\x00\x02\x00\x00\

@@ -1,11 +1,11 @@
 // The check of an image, and its records.
 use crate::sample::GROUP;
-use crate::sample::SAMPLE;
 use crate::sample::repeat;
 use crate::sample::with_byte;
 use crate::show::show_check;
 use crate::show::show_record;
 use format::Section;
+use samples::SAMPLE;
 
 pub(crate) fn run() {
     header();
