@@ -1,4 +1,5 @@
--- The order rule: an extension never decides lower. Claims OrderRule, QueryOrder, NonDecreasing, Decided. Assumes nothing.
+-- The order rule: an extension never decides lower. Claims OrderRule, QueryOrder, NonDecreasing, Decided,
+-- DecidedOnly. Assumes nothing.
 --     Above             the terms, over rules, constraints and queries as read, whatever their records
 --     judge-order       the rule at that level
 --     order             for two policies
@@ -29,7 +30,7 @@ use Rattle.format.proofs.Images.{policy-formed, group-count}
 use Rattle.decision.specs.declared.Query.{Query}
 use Rattle.decision.specs.Sets.{anyOf, isIn, setOf, unionOf, within}
 use Rattle.decision.specs.Decide.{Rule, ruleOf, Constraint, constraintOf, Request, requestOf, tests, covers, reaches, separationBroken, rosterBroken, companionBroken, broken, fails, firstAt, Decision, decisionOf, judge, decide, queryFault, answerFault, answer}
-use Rattle.decision.specs.Order.{height, Holds, Keeps, Grows, NoCompanion, Extends, OrderRule, QueryOrder, NonDecreasing, Decided}
+use Rattle.decision.specs.Order.{height, Holds, Keeps, Grows, NoCompanion, Extends, OrderRule, QueryOrder, NonDecreasing, Decided, DecidedOnly}
 use Rattle.decision.proofs.Implies.{_⟹_, id⟹, eq⟹, and⟹, not⟹, cond⟹, anyOf⟹, within⟹, _⇉_, end, and, all⟹, cond⇉, map-mem, map-all, allOf-intro, anyOf-intro}
 
 -- ---- the height of a decision, from whether some rule covers and some constraint fails
@@ -233,13 +234,18 @@ answer-accepted l q d e =
     let a = outcome-gives (check l orElse queryFault (countOf l Groups) q) (decide (policyOf l) q) (sym e) in
     (orElse-split (check l) (queryFault (countOf l Groups) q) (a .0) .0, a .1)
 
-pub answer-types : (l : List ℕ) (q : Query) (d : Decision) → answer l q ≡ gives d → IsType (length (policyOf l .groups)) (q .source) × IsType (length (policyOf l .groups)) (q .dest)
+pub decided-only : DecidedOnly
 unfolding answer answerFault queryFault
-answer-types l q d e =
+decided-only l q d e =
     let a = outcome-gives (check l orElse queryFault (countOf l Groups) q) (decide (policyOf l) q) (sym e) in
-    let b = orElse-split (check l) (queryFault (countOf l Groups) q) (a .0) .1 in
-    let c = orElse-split (need (isType (countOf l Groups) (q .source)) (refusal 8 0)) (need (isType (countOf l Groups) (q .dest)) (refusal 9 0)) b in
-    rw (group-count l) (type-is (countOf l Groups) (q .source) (need-true _ _ (c .0)), type-is (countOf l Groups) (q .dest) (need-true _ _ (c .1)))
+    let b = orElse-split (check l) (queryFault (countOf l Groups) q) (a .0) in
+    let c = orElse-split (need (isType (countOf l Groups) (q .source)) (refusal 8 0)) (need (isType (countOf l Groups) (q .dest)) (refusal 9 0)) (b .1) in
+    (b .0, need-true _ _ (c .0), need-true _ _ (c .1))
+
+pub answer-types : (l : List ℕ) (q : Query) (d : Decision) → answer l q ≡ gives d → IsType (length (policyOf l .groups)) (q .source) × IsType (length (policyOf l .groups)) (q .dest)
+answer-types l q d e =
+    let v = decided-only l q d e in
+    rw (group-count l) (type-is (countOf l Groups) (q .source) (v .1), type-is (countOf l Groups) (q .dest) (v .2))
 
 pub order-rule : OrderRule
 order-rule l₁ l₂ q₁ q₂ d₁ d₂ e₁ e₂ x =

@@ -1,18 +1,29 @@
 -- The marked cases of the sample sheet (document 01), as one table with one claim. The images with records added are those
 -- that adding gives, in a buffer that has just the space.
+--     withSpace l r     the image l in a buffer that has just the space for the record r as well
+--     extended l r      the buffer after adding r to it
+--     cases             the table: image, query, and the answer that document 01 gives
+--     MarkedCases       the definitions give these answers
+--     MarkedAdds        and the adds in it are accepted
 use Prim.Native.Nat.{ℕ, _/_, _%_}
 use mathlib.Core.Path.{_≡_}
+use mathlib.Core.Option.{none}
 use mathlib.Core.List.{List, [], _∷_, _++_, map}
 use lib.ListN.{length, replicate}
+use Rattle.format.specs.declared.Section.the-variants.{Rules}
 use Rattle.format.specs.Refusals.{refusal}
+use Rattle.format.specs.Format.{countOf}
 use Rattle.format.specs.Answers.{Outcome, refused, gives}
 use Rattle.format.specs.Sample.{sample, empty}
-use Rattle.extension.specs.Add.{bufferAfter}
+use Rattle.extension.specs.Add.{addFault, bufferAfter}
 use Rattle.decision.specs.declared.Query.{Query}
 use Rattle.decision.specs.Decide.{Decision, notPermitted, permitted, unknown, answer}
 
+unfoldable pub withSpace : List ℕ → List ℕ → List ℕ
+withSpace l r = l ++ replicate (length r) 0
+
 unfoldable pub extended : List ℕ → List ℕ → List ℕ
-extended l r = bufferAfter (l ++ replicate (length r) 0) r
+extended l r = bufferAfter (withSpace l r) r
 
 unfoldable pub g0 : ℕ
 g0 = 0x8000
@@ -58,3 +69,11 @@ expectedOf c = c .expected
 
 abbrev pub MarkedCases : Type 0
 MarkedCases = map given cases ≡ map expectedOf cases
+
+pub record MarkedAdds : Type 0 where
+  pub separated : addFault (withSpace sample (allow 10 30 5 3)) (allow 10 30 5 3) ≡ none
+  pub rostered : addFault (withSpace sample (allow 14 g0 7 7)) (allow 14 g0 7 7) ≡ none
+  pub companied : addFault (withSpace sample companion) companion ≡ none
+  pub helped : addFault (withSpace (extended sample companion) (allow 21 10 5 9)) (allow 21 10 5 9) ≡ none
+  -- a constraint leaves the rules
+  pub rules-stay : countOf (extended sample companion) Rules ≡ 4

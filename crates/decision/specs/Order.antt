@@ -11,6 +11,7 @@
 --     NonDecreasing         the paper's non-decreasing property: one query, groups kept, no companion in the first; more rules and
 --                           constraints, no lower decision
 --     Decided               totality: every valid query on an accepted image gets one of the three decisions
+--     DecidedOnly           and nothing else does
 use Prim.Native.Nat.{ℕ, _≤_, _<_}
 use mathlib.Core.Path.{_≡_}
 use mathlib.Core.Logic.{_⊎_}
@@ -79,3 +80,8 @@ abbrev pub Decided : Type 0
 Decided =
     (l : List ℕ) (q : Query) → check l ≡ none → isType (countOf l Groups) (q .source) ≡ true → isType (countOf l Groups) (q .dest) ≡ true
     → (d : Decision) × (answer l q ≡ gives d)
+
+abbrev pub DecidedOnly : Type 0
+DecidedOnly =
+    (l : List ℕ) (q : Query) (d : Decision) → answer l q ≡ gives d
+    → (check l ≡ none) × (isType (countOf l Groups) (q .source) ≡ true) × (isType (countOf l Groups) (q .dest) ≡ true)

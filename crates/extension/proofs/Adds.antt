@@ -24,10 +24,11 @@ use Rattle.format.specs.Format.{limitOf, countPlace, countOf, kindIn, shapeOk, 
 use Rattle.format.specs.Policy.{Policy, recordsOf, imageOf, policyOf}
 use Rattle.format.specs.Check.{check, imageIn, checkFront}
 use Rattle.format.proofs.Tests.{both}
+use Rattle.format.proofs.Bytes.{bytes-append, bytes-drop}
 use Rattle.format.proofs.Chain.{orElse-split, orElse-none, need-true, need-none, some-not-none}
 use Rattle.format.proofs.Shapes.{Formed, length-cases, shape-kind}
 use Rattle.format.proofs.Fields.{formed-more}
-use Rattle.format.proofs.Images.{Sound, policy-sound, image-of-policy, policy-of-image, image-accepted, image-length, image-count}
+use Rattle.format.proofs.Images.{Sound, policy-sound, image-of-policy, policy-of-image, image-accepted, image-bytes, image-length, image-count}
 use Rattle.format.proofs.Front.{front-accepted, front-length, front-count, front-split, front-bytes, front-of, image-in-of, front-of-length, front-of-count}
 use Rattle.extension.specs.Add.{sectionOf, withRecord, fieldFault, newNumber, ownFault, addFault, newImage, overwrite, bufferAfter}
 use Rattle.extension.specs.Splice.{inserted, endOfSection}
@@ -266,6 +267,13 @@ module _ (b r : List ℕ) (by : Bytes b) (e : addFault b r ≡ none) where
     after-accepted : checkFront (bufferAfter b r) ≡ none
     after-accepted = rw buffer-image (front-of (imageOf (withRecord s p r)) (drop (length r) t) with-accepted)
 
+    after-bytes : Bytes (bufferAfter b r)
+    unfolding t
+    after-bytes =
+        let i : Bytes (imageOf (withRecord s p r)) = image-bytes (withRecord s p r) (with-sound p r s sound formed bytes few) in
+        subst Bytes (sym buffer-image)
+        (bytes-append (imageOf (withRecord s p r)) (drop (length r) t) i (bytes-drop (length r) t (bytes-drop (wordAt b 1) b by)))
+
     after-policy : policyOf (imageIn (bufferAfter b r)) ≡ withRecord s p r
     after-policy =
         rw buffer-image
@@ -274,7 +282,7 @@ module _ (b r : List ℕ) (by : Bytes b) (e : addFault b r ≡ none) where
 
 pub added-accepted : AddedAccepted
 unfolding p s
-added-accepted b r by bytes e = (after-accepted b r by e bytes, after-policy b r by e bytes)
+added-accepted b r by bytes e = (after-accepted b r by e bytes, after-policy b r by e bytes, after-bytes b r by e bytes)
 
 groups-first : (s : Section) (p : Policy) (r : List ℕ) (n : ℕ) → n < length (p .groups) → getD (withRecord s p r .groups) n [] ≡ getD (p .groups) n []
 unfolding withRecord

@@ -2,7 +2,7 @@
 --     addAll b rs       the buffer after adding records one after the other
 --     allRecords p      the records of a policy in order: groups, rules, constraints
 --     AddedAccepted     adding to an accepted image gives an accepted image, whose policy has the record last in its
---                       section and is otherwise the same
+--                       section and is otherwise the same; and of bytes it makes bytes
 --     GroupsKept        and whose groups have their old numbers
 --     RoundTrip         adding an accepted policy's records in order to the empty policy, in a buffer that holds it,
 --                       gives it byte for byte, and the bytes past it stay
@@ -30,6 +30,7 @@ AddedAccepted =
     (b r : List ℕ) → Bytes b → Bytes r → addFault b r ≡ none
     → (checkFront (bufferAfter b r) ≡ none)
     × (policyOf (imageIn (bufferAfter b r)) ≡ withRecord (sectionOf (getD r 1 0)) (policyOf (imageIn b)) r)
+    × Bytes (bufferAfter b r)
 
 abbrev pub GroupsKept : Type 0
 GroupsKept =

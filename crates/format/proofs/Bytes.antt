@@ -2,11 +2,15 @@
 use Prim.Native.Nat.{ℕ, zero, suc, _+_, _-_, _*_, _/_, _%_, _≤_, _<_}
 use mathlib.Core.Path.{_≡_, refl, ap, _∙_}
 use mathlib.Core.List.{List, [], _∷_, _++_, flatten, List·Memᴰ, List·Memᴰ·head, List·Memᴰ·tail}
+use mathlib.Core.Bool.{Bool, true, _&&_}
 use native.Mathlib.Omega.{arith}
 use lib.ListN.{length, getD, take, drop, length-drop}
 use lib.Seq.{getD-take, getD-drop, drop-cons}
+use lib.Dec.{ltb}
 use native.Mathlib.Nat.{add-assoc}
+use borrow.Author.Tests.{ltb-true}
 use Rattle.format.specs.Bytes.{Bytes, wordAt, words, putWord}
+use Rattle.format.proofs.Tests.{both}
 
 pub bytes-nil : Bytes []
 bytes-nil zero = omega arith
@@ -15,6 +19,15 @@ bytes-nil (suc i) = omega arith
 pub bytes-cons : (x : ℕ) (l : List ℕ) → x < 256 → Bytes l → Bytes (x ∷ l)
 bytes-cons x l h b zero = h
 bytes-cons x l h b (suc i) = b i
+
+-- a list that is written out, by a test
+abbrev pub allBytes : List ℕ → Bool
+allBytes [] = true
+allBytes (x ∷ l) = ltb x 256 && allBytes l
+
+pub bytes-of : (l : List ℕ) → allBytes l ≡ true → Bytes l
+bytes-of [] e = bytes-nil
+bytes-of (x ∷ l) e = let q = both (ltb x 256) (allBytes l) e in bytes-cons x l (ltb-true x 256 (q .0)) (bytes-of l (q .1))
 
 bytes-tail : (x : ℕ) (l : List ℕ) → Bytes (x ∷ l) → Bytes l
 bytes-tail x l b i = b (suc i)

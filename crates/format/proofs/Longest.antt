@@ -1,4 +1,5 @@
 -- The longest image that the limits allow is accepted: claim LongestReached. Assumes nothing.
+--     longest-full       each section has as many records as it may
 --     longest-sound      the policy `longest` passes the check's tests
 use Prim.Native.Nat.{ℕ, zero, suc, _+_, _*_, _≤_, _<_}
 use mathlib.Core.Path.{_≡_, refl, sym, subst, ap, _∙_}
@@ -106,11 +107,11 @@ replicate-length (suc n) r = rw (length-append r (flatten (replicate n r)), repl
 
 -- ---- the policy
 
-longest-few : (s : Section) → length (recordsOf longest s) ≤ limitOf s
+pub longest-full : (s : Section) → length (recordsOf longest s) ≡ limitOf s
 unfolding recordsOf limitOf longest
-longest-few Groups = omega (arith, groups-many 256)
-longest-few Rules = omega (arith, length-replicate 1024 longRule)
-longest-few Constraints = omega (arith, length-replicate 256 longConstraint)
+longest-full Groups = groups-many 256
+longest-full Rules = length-replicate 1024 longRule
+longest-full Constraints = length-replicate 256 longConstraint
 
 longest-formed : (g : ℕ) (s : Section) (r : List ℕ) → List·Memᴰ r (recordsOf longest s) → Formed s g r
 unfolding recordsOf longest
@@ -130,7 +131,7 @@ longest-version = refl
 
 pub longest-sound : Sound longest
 longest-sound =
-    record { version = longest-version; few = longest-few; formed = longest-formed (length (longest .groups)); bytes = longest-bytes }
+    record { version = longest-version; few = λ s. omega (arith, longest-full s); formed = longest-formed (length (longest .groups)); bytes = longest-bytes }
 
 rule-length : length longRule ≡ 11
 unfolding longRule

@@ -1,10 +1,11 @@
 -- The sample sheet and the empty policy (document 01, "The sample sheet").
 --     sample, empty      their images
---     SampleAccepted     both are accepted
+--     SampleAccepted     both are lists of bytes, and accepted
 use Prim.Native.Nat.{ℕ}
 use mathlib.Core.Path.{_≡_}
 use mathlib.Core.Option.{none}
 use mathlib.Core.List.{List, [], _∷_}
+use Rattle.format.specs.Bytes.{Bytes}
 use Rattle.format.specs.Check.{check}
 
 unfoldable pub sample : List ℕ
@@ -21,5 +22,8 @@ sample =
 unfoldable pub empty : List ℕ
 empty = 1 ∷ 0 ∷ 9 ∷ 0 ∷ 0 ∷ 0 ∷ 0 ∷ 0 ∷ 0 ∷ []
 
-abbrev pub SampleAccepted : Type 0
-SampleAccepted = (check sample ≡ none) × (check empty ≡ none)
+pub record SampleAccepted : Type 0 where
+  pub sample-bytes : Bytes sample
+  pub sample-passes : check sample ≡ none
+  pub empty-bytes : Bytes empty
+  pub empty-passes : check empty ≡ none

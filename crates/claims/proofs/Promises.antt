@@ -1,0 +1,61 @@
+-- The one proof of everything that is claimed. Assumes nothing.
+use Rattle.format.proofs.Accepted as accepted
+use Rattle.format.proofs.Images as images
+use Rattle.format.proofs.References as references
+use Rattle.format.proofs.Longest as longest
+use Rattle.format.proofs.Sample as sample
+use Rattle.extension.proofs.Adds as adds
+use Rattle.extension.proofs.Trip as trip
+use Rattle.decision.proofs.Filled as filled
+use Rattle.decision.proofs.Lowest as lowest
+use Rattle.decision.proofs.Tepla as tepla
+use Rattle.decision.proofs.Order as order
+use Rattle.decision.proofs.Growth as growth
+use Rattle.decision.proofs.Cases as cases
+use Rattle.claims.specs.Promises.{Promises}
+
+pub promises : Promises
+promises =
+    record {
+      reading = record {
+        accepted-is-well-formed = images.accepted-is-well-formed;
+        well-formed-is-accepted = images.well-formed-is-accepted;
+        records-given = accepted.records-given;
+        all-given = accepted.all-given;
+        none-given = accepted.none-given;
+        references-held = references.references-held;
+        longest-image = images.longest-image;
+        longest-reached = longest.longest-reached;
+        sample-accepted = sample.sample-accepted;
+      };
+      adding = record {
+        added-accepted = adds.added-accepted;
+        groups-kept = adds.groups-kept;
+        round-trip = trip.round-trip;
+        round-trip-exact = trip.round-trip-exact;
+      };
+      deciding = record {
+        decided = order.decided;
+        decided-only = order.decided-only;
+        types-filled = filled.types-filled;
+        fields-filled = filled.fields-filled;
+        lowest-named = lowest.lowest-named;
+        named-alone = lowest.named-alone;
+        lowest-answered = lowest.lowest-answered;
+        published-meaning = tepla.published-meaning;
+        published-answer = tepla.published-answer;
+        published-order = tepla.published-order;
+        marked-cases = cases.marked-cases;
+        marked-adds = cases.marked-adds;
+      };
+      ordering = record {
+        order-rule = order.order-rule;
+        query-order = order.query-order;
+        non-decreasing = order.non-decreasing;
+        member-order = growth.member-order;
+        added-grows = growth.added-grows;
+        added-order = growth.added-order;
+        same-rules = growth.same-rules;
+        rules-reordered = growth.rules-reordered;
+      };
+    }
