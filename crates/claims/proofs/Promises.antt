@@ -23,6 +23,7 @@ promises =
         records-given = accepted.records-given;
         all-given = accepted.all-given;
         none-given = accepted.none-given;
+        empty-tells = accepted.empty-tells;
         references-held = references.references-held;
         longest-image = images.longest-image;
         longest-reached = longest.longest-reached;
@@ -47,6 +48,7 @@ promises =
         published-order = tepla.published-order;
         marked-cases = cases.marked-cases;
         marked-adds = cases.marked-adds;
+        marked-order = cases.marked-order;
       };
       ordering = record {
         order-rule = order.order-rule;

@@ -26,11 +26,12 @@ use Rattle.extension.specs.Add.{sectionOf, addFault, bufferAfter, overwrite}
 use Rattle.extension.specs.Claims.{addAll, allRecords}
 use Rattle.decision.specs.declared.Query.{Query}
 use Rattle.decision.specs.Decide.{Decision, notPermitted, permitted, unknown, answer}
+use Rattle.decision.specs.Order.{height}
 use Rattle.decision.specs.Tepla.{Dcs, forget, evalQuery}
-use Rattle.decision.specs.Growth.{reordered, DecidedAbove, DecidedLevel}
+use Rattle.decision.specs.Growth.{reordered}
 use Rattle.decision.specs.Cases.{Case, g0, allow, companion, withSpace, extended, ask, cases, given, expectedOf}
 use Rattle.claims.specs.Promises.{Promises}
-use Rattle.claims.specs.Terms.{query, TermsMet}
+use Rattle.claims.specs.Terms.{query, NotRevoked, TermsMet}
 use Rattle.claims.proofs.Promises.{promises}
 
 empty-nine : length empty ≡ 9
@@ -61,6 +62,11 @@ rules-few e = omega (arith, records-count (extended sample companion) Rules)
 gives-one : {A : Type 0} {a b : A} → gives a ≡ gives b → a ≡ b
 gives-one e = cc
 
+-- what was Permitted and is no lower is not NotPermitted
+not-lower : (d : Decision) → d ≡ notPermitted → height (permitted 0) ≤ height d → ⊥
+unfolding height
+not-lower d e h = omega (arith, ap height e)
+
 module _ (p : Promises) where
   -- the answer of a marked case
   case-at : (n : ℕ) → getD (map given cases) n (gives notPermitted) ≡ getD (map expectedOf cases) n (gives notPermitted)
@@ -69,6 +75,10 @@ module _ (p : Promises) where
   sample-permitted : answer sample (query 10 21 5 1) ≡ gives (permitted 0)
   unfolding cases given expectedOf ask
   sample-permitted = case-at 0
+
+  group-permitted : answer sample (query 10 g0 5 1) ≡ gives (permitted 0)
+  unfolding cases given expectedOf ask
+  group-permitted = case-at 1
 
   roster-fails : answer (extended sample (allow 14 g0 7 7)) (query 10 21 5 1) ≡ gives (unknown 0 0)
   unfolding cases given expectedOf ask
@@ -116,24 +126,48 @@ module _ (p : Promises) where
       let a = p .reading .sample-accepted in
       p .adding .round-trip sample (replicate 72 9) (a .sample-bytes) (a .sample-passes) (omega arith)
 
-  companion-added : DecidedAbove (imageIn (extended sample companion)) (query 10 21 5 1) (permitted 0)
+  companion-added : NotRevoked (imageIn (extended sample companion)) (query 10 21 5 1)
   unfolding extended
-  companion-added =
+  companion-added e =
       let a = p .reading .sample-accepted in
+      let d =
       p .ordering .added-order (withSpace sample companion) companion space-bytes companion-bytes (p .deciding .marked-adds .companied)
       (inr companion-no-rule) (query 10 21 5 1) (permitted 0)
-      (ap (λ (l : List ℕ). answer l (query 10 21 5 1)) (space-image (a .sample-passes)) ∙ sample-permitted)
+      (ap (λ (l : List ℕ). answer l (query 10 21 5 1)) (space-image (a .sample-passes)) ∙ sample-permitted) in
+      not-lower (d .now) (gives-one (sym (d .answered) ∙ e)) (d .above)
 
   companion-bytes-after : Bytes (extended sample companion)
   unfolding extended
   companion-bytes-after =
       p .adding .added-accepted (withSpace sample companion) companion space-bytes companion-bytes (p .deciding .marked-adds .companied) .2
 
-  companion-reordered : DecidedLevel (imageOf (reordered (policyOf (extended sample companion)))) (query 10 21 5 1) (unknown 0 2)
-  companion-reordered =
+  companion-reordered :
+      (d : Decision) → answer (imageOf (reordered (policyOf (extended sample companion)))) (query 10 21 5 1) ≡ gives d → height d ≡ 2
+  unfolding height
+  companion-reordered d e =
       let v = p .deciding .decided-only (extended sample companion) (query 10 21 5 1) (unknown 0 2) companion-fails in
+      let r =
       p .ordering .rules-reordered (extended sample companion) companion-bytes-after (v .0) (rules-few (p .deciding .marked-adds .rules-stay)) .1
-      (query 10 21 5 1) (unknown 0 2) companion-fails
+      (query 10 21 5 1) (unknown 0 2) companion-fails in
+      ap height (gives-one (sym e ∙ r .answered)) ∙ sym (r .level)
+
+  order-met : NotRevoked (extended sample (allow 14 g0 7 7)) (query 10 21 5 1)
+  order-met e =
+      not-lower notPermitted refl
+      (p .ordering .order-rule sample (extended sample (allow 14 g0 7 7)) (query 10 g0 5 1) (query 10 21 5 1) (permitted 0) notPermitted
+      group-permitted e (p .deciding .marked-order .extends))
+
+  rule-added : NotRevoked (extended sample (allow 14 g0 7 7)) (query 10 21 5 1)
+  rule-added e =
+      not-lower notPermitted refl
+      (p .ordering .non-decreasing sample (extended sample (allow 14 g0 7 7)) (query 10 21 5 1) (permitted 0) notPermitted
+      sample-permitted e (p .deciding .marked-order .extends .policy) (p .deciding .marked-order .no-companion))
+
+  member-met : NotRevoked sample (query 10 21 5 1)
+  member-met e =
+      not-lower notPermitted refl
+      (p .ordering .member-order sample (query 10 g0 5 1) (query 10 21 5 1) (permitted 0) notPermitted group-permitted e refl refl
+      (omega arith) (omega arith) (p .deciding .marked-order .itself) (p .deciding .marked-order .member))
 
   published-unknown : evalQuery (policyOf (extended sample (allow 14 g0 7 7))) (query 10 21 5 1) ≡ Dcs.UnKnown
   unfolding forget
@@ -146,15 +180,25 @@ module _ (p : Promises) where
 
 pub terms-met : Promises → TermsMet
 terms-met p =
+    let a = p .reading .sample-accepted in
+    let sample-is = p .reading .accepted-is-well-formed sample (a .sample-bytes) (a .sample-passes) in
+    let empty-is = p .reading .accepted-is-well-formed empty (a .empty-bytes) (a .empty-passes) in
+    let longest-is = p .reading .well-formed-is-accepted longest (longest-formed p) in
     record {
-      sample-well-formed = p .reading .accepted-is-well-formed sample (p .reading .sample-accepted .sample-bytes) (p .reading .sample-accepted .sample-passes) .0;
-      empty-well-formed = p .reading .accepted-is-well-formed empty (p .reading .sample-accepted .empty-bytes) (p .reading .sample-accepted .empty-passes) .0;
+      sample-well-formed = sample-is .0;
+      sample-image = sample-is .1;
+      empty-well-formed = empty-is .0;
       longest-well-formed = longest-formed p;
-      longest-accepted = p .reading .well-formed-is-accepted longest (longest-formed p) .1;
+      longest-accepted = longest-is .1;
+      longest-policy = longest-is .2;
+      longest-most = p .reading .longest-image (imageOf longest) (longest-is .1);
       longest-given = longest-given p;
       longest-past = longest-past p;
       sample-rebuilt = sample-rebuilt p;
       longest-rebuilt = longest-rebuilt p;
+      order-met = order-met p;
+      rule-added = rule-added p;
+      member-met = member-met p;
       companion-added = companion-added p;
       companion-reordered = companion-reordered p;
       published-unknown = published-unknown p;

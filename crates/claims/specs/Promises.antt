@@ -1,7 +1,7 @@
 -- Everything that is claimed of the definitions, on one page: a field for each claim, which its own crate states and proves. The one
 -- proof of all is `promises` (proofs/Promises.antt). That the code answers what the definitions say is each function's contract,
 -- beside its body in src/. docs/CLAIMS.md leads from each sentence of the documents to its claim or contract.
-use Rattle.format.specs.Claims.{AcceptedIsWellFormed, WellFormedIsAccepted, RecordsGiven, AllGiven, NoneGiven, ReferencesHeld}
+use Rattle.format.specs.Claims.{AcceptedIsWellFormed, WellFormedIsAccepted, RecordsGiven, AllGiven, NoneGiven, EmptyTells, ReferencesHeld}
 use Rattle.format.specs.Longest.{LongestImage, LongestReached}
 use Rattle.format.specs.Sample.{SampleAccepted}
 use Rattle.extension.specs.Claims.{AddedAccepted, GroupsKept, RoundTrip, RoundTripExact}
@@ -10,7 +10,7 @@ use Rattle.decision.specs.Lowest.{LowestNamed, NamedAlone, LowestAnswered}
 use Rattle.decision.specs.Tepla.{PublishedMeaning, PublishedAnswer, PublishedOrder}
 use Rattle.decision.specs.Order.{Decided, DecidedOnly, OrderRule, QueryOrder, NonDecreasing}
 use Rattle.decision.specs.Growth.{AddedGrows, AddedOrder, SameRules, RulesReordered, MemberOrder}
-use Rattle.decision.specs.Cases.{MarkedCases, MarkedAdds}
+use Rattle.decision.specs.Cases.{MarkedCases, MarkedAdds, MarkedOrder}
 
 -- Demand 1: every policy that meets the layout is accepted with all its records, the last included; everything else is refused.
 pub record Reading : Type 0 where
@@ -19,6 +19,7 @@ pub record Reading : Type 0 where
   pub records-given : RecordsGiven
   pub all-given : AllGiven
   pub none-given : NoneGiven
+  pub empty-tells : EmptyTells
   pub references-held : ReferencesHeld
   pub longest-image : LongestImage
   pub longest-reached : LongestReached
@@ -45,6 +46,7 @@ pub record Deciding : Type 0 where
   pub published-order : PublishedOrder
   pub marked-cases : MarkedCases
   pub marked-adds : MarkedAdds
+  pub marked-order : MarkedOrder
 
 -- Demand 3: the order rule, what the papers say of it, and what meets its terms.
 pub record Ordering : Type 0 where

@@ -5,19 +5,25 @@
 --     cases             the table: image, query, and the answer that document 01 gives
 --     MarkedCases       the definitions give these answers
 --     MarkedAdds        and the adds in it are accepted
+--     MarkedOrder       the sample and a rule more, and a query on group 0 and one on its member, meet the order rule's terms;
+--                       the sample has no companion, and 21 is a member of its group
 use Prim.Native.Nat.{ℕ, _/_, _%_}
 use mathlib.Core.Path.{_≡_}
+use mathlib.Core.Bool.{true}
 use mathlib.Core.Option.{none}
 use mathlib.Core.List.{List, [], _∷_, _++_, map}
 use lib.ListN.{length, replicate}
 use Rattle.format.specs.declared.Section.the-variants.{Rules}
 use Rattle.format.specs.Refusals.{refusal}
 use Rattle.format.specs.Format.{countOf}
+use Rattle.format.specs.Policy.{policyOf}
 use Rattle.format.specs.Answers.{Outcome, refused, gives}
 use Rattle.format.specs.Sample.{sample, empty}
 use Rattle.extension.specs.Add.{addFault, bufferAfter}
 use Rattle.decision.specs.declared.Query.{Query}
+use Rattle.decision.specs.Sets.{isIn, setOf}
 use Rattle.decision.specs.Decide.{Decision, notPermitted, permitted, unknown, answer}
+use Rattle.decision.specs.Order.{NoCompanion, Extends}
 
 unfoldable pub withSpace : List ℕ → List ℕ → List ℕ
 withSpace l r = l ++ replicate (length r) 0
@@ -77,3 +83,11 @@ pub record MarkedAdds : Type 0 where
   pub helped : addFault (withSpace (extended sample companion) (allow 21 10 5 9)) (allow 21 10 5 9) ≡ none
   -- a constraint leaves the rules
   pub rules-stay : countOf (extended sample companion) Rules ≡ 4
+
+pub record MarkedOrder : Type 0 where
+  pub extends :
+      Extends (policyOf sample) (record { source = 10; dest = g0; class = 5; action = 1 })
+      (policyOf (extended sample (allow 14 g0 7 7))) (record { source = 10; dest = 21; class = 5; action = 1 })
+  pub no-companion : NoCompanion (policyOf sample .constraints)
+  pub itself : isIn 10 (setOf (policyOf sample .groups) 10) ≡ true
+  pub member : isIn 21 (setOf (policyOf sample .groups) g0) ≡ true

@@ -7,7 +7,7 @@
 --     record-stands       and lies in the image, at its place
 --     place-next          the next record's place
 --     records-count       the section of the policy has as many records as the header counts
---     records-given, all-given, none-given   claims RecordsGiven, AllGiven, NoneGiven
+--     records-given, all-given, none-given, empty-tells   claims RecordsGiven, AllGiven, NoneGiven, EmptyTells
 use Prim.Native.Nat.{ℕ, zero, suc, _+_, _-_, _≤_, _<_}
 use mathlib.Core.Path.{_≡_, refl, sym, ap, ap₂, _∙_}
 use mathlib.Core.Bool.{Bool, true, _&&_}
@@ -28,7 +28,7 @@ use Rattle.format.specs.Format.{knownVersion, limitOf, countOf}
 use Rattle.format.specs.Policy.{policyOf, recordsOf, recordAt, recordsAt, placeAfter, startOf, placeOf, endOf}
 use Rattle.format.specs.Check.{sectionFault, countFault, headerFault, bodyFault, check}
 use Rattle.format.specs.Give.{giveFault, givenRecord}
-use Rattle.format.specs.Claims.{GivenAt, RecordsGiven, givenFrom, AllGiven, NoneGiven}
+use Rattle.format.specs.Claims.{GivenAt, RecordsGiven, givenFrom, AllGiven, NoneGiven, EmptyTells}
 use Rattle.format.proofs.Tests.{both, and-true}
 use Rattle.format.proofs.Chain.{orElse-split, orElse-none, orElse-next, need-true, need-none, need-some}
 use Rattle.format.proofs.Shapes.{Formed, Stands, stands, record-part}
@@ -209,3 +209,6 @@ given-at l s n e = let q = give-split l s n e in records-given l (q .0) s n (rw 
 pub given-none : (l : List ℕ) (s : Section) (n : ℕ) {f : Refusal} → giveFault l s n ≡ some f → givenRecord l s n ≡ []
 unfolding givenRecord unlessRefused
 given-none l s n e = rw e
+
+pub empty-tells : EmptyTells
+empty-tells = record { given = λ l s n e. given-at l s n e .nonempty; refused = λ l s n f e. given-none l s n e }

@@ -9,6 +9,7 @@
 --     GivenAt, RecordsGiven   record n is the nth of its section, the last included, and a part of the image
 --     AllGiven            the records given one after the other are the section's, the last included
 --     NoneGiven           past the last there is none: 14
+--     EmptyTells          the bytes given are none exactly where the call is refused
 --     ReferencesHeld      a type field is a basic type, or names a group that the image has
 use Prim.Native.Nat.{ℕ, zero, suc, _+_, _*_, _≤_, _<_}
 use mathlib.Core.Path.{_≡_}
@@ -20,6 +21,7 @@ use lib.ListN.{length, getD, take, drop}
 use lib.Dec.{eqb}
 use Rattle.format.specs.declared.Section.{Section}
 use Rattle.format.specs.declared.Section.the-variants.{Groups, Rules, Constraints}
+use Rattle.format.specs.declared.Refusal.{Refusal}
 use Rattle.format.specs.Bytes.{Bytes, wordAt, words}
 use Rattle.format.specs.Refusals.{refusal}
 use Rattle.format.specs.Policy.{Policy, recordsOf, imageOf, policyOf, placeOf}
@@ -114,6 +116,10 @@ abbrev pub NoneGiven : Type 0
 NoneGiven =
     (l : List ℕ) → check l ≡ none → (s : Section) (n : ℕ) → length (recordsOf (policyOf l) s) ≤ n
     → giveFault l s n ≡ some (refusal 14 0)
+
+pub record EmptyTells : Type 0 where
+  pub given : (l : List ℕ) (s : Section) (n : ℕ) → giveFault l s n ≡ none → 0 < length (givenRecord l s n)
+  pub refused : (l : List ℕ) (s : Section) (n : ℕ) (f : Refusal) → giveFault l s n ≡ some f → givenRecord l s n ≡ []
 
 abbrev pub ReferencesHeld : Type 0
 ReferencesHeld =
