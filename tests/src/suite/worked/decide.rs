@@ -36,7 +36,15 @@ pub const ROWS: &[Row] = &[
     (&SAMPLE, &[], query(10, 1024, 5, 1), no(9, 0)),
     (&SAMPLE, &[], query(10, 32769, 5, 1), no(9, 0)),
     (&SAMPLE, &[], query(1024, 1024, 5, 1), no(8, 0)),
+    (&SAMPLE, &[], query(65535, 32767, 5, 1), no(8, 0)),
+    (&SAMPLE, &[], query(32767, 21, 5, 1), no(8, 0)),
+    (&SAMPLE, &[], query(0, 1023, 65535, 65535), Ok(Decision::NotPermitted)),
+    (&EMPTY, &[], query(0, G0, 0, 0), no(9, 0)),
+    // The image's causes come first.
     (&[1, 0, 8, 0, 0, 0, 0, 0, 0], &[], query(1024, 1024, 5, 1), no(3, 0)),
+    (&[1, 0, 9, 0, 1, 0, 0, 0, 0], &[], query(1024, 1024, 5, 1), no(5, 9)),
+    (&[1, 0, 13, 0, 1, 0, 0, 0, 0, 4, 1, 4, 0], &[], query(1024, 1024, 5, 1), no(6, 11)),
+    (&[1, 0, 10, 0, 0, 0, 0, 0, 0, 0], &[], query(1024, 1024, 5, 1), no(7, 9)),
 ];
 
 const fn permitted(rule: u16) -> Result<Decision, Refusal> {

@@ -31,6 +31,14 @@ pub fn run(pair: &Pair, case: u64) -> Outcome {
     both(pair, &format!("{query:?}"), expected, |subject| subject.decide(&image, query))
 }
 
+/// The same queries, asked of the program.
+pub fn permit(pair: &Pair, _: u64) -> Outcome {
+    let queries = ROWS.iter().flat_map(|(query, _)| query.to_bytes()).collect();
+    let input = [image(), queries].concat();
+    let expected = "U 1023 255\nU 1023 255\nU 1023 255\nN\nN\nP 0\nN\nR 8 0\nR 9 0\n";
+    both(pair, "every query", expected.to_string(), |subject| subject.permit(&input))
+}
+
 fn image() -> Vec<u8> {
     let mut draft = Draft {
         groups: vec![group(&[1, 2]); 256],

@@ -3,21 +3,32 @@
 
 mod add;
 mod check;
+mod constraints;
 mod decide;
 mod full;
 mod permit;
+mod predicates;
 mod record;
+mod rules;
+mod small;
 
 use crate::compare::{equal, Outcome, Pair};
 use crate::runner::{Cases, Count};
 use crate::subject::Subject;
 use mungaite::Refusal;
+use predicates::{COMPANION, ROSTER, SEPARATION};
 use std::fmt::Debug;
 
 pub const TESTS: &[Cases] = &[
     Cases { name: "worked/check", count: Count::Listed(check::ROWS.len() as u64), run: check::run },
     Cases { name: "worked/decide", count: Count::Listed(decide::ROWS.len() as u64), run: decide::run },
+    Cases { name: "worked/rules", count: Count::Listed(rules::ROWS.len() as u64), run: rules::run },
+    Cases { name: "worked/constraints", count: Count::Listed(constraints::ROWS.len() as u64), run: constraints::run },
+    Cases { name: "worked/separation", count: Count::Listed(SEPARATION.len() as u64), run: predicates::separations },
+    Cases { name: "worked/roster", count: Count::Listed(ROSTER.len() as u64), run: predicates::rosters },
+    Cases { name: "worked/companion", count: Count::Listed(COMPANION.len() as u64), run: predicates::companions },
     Cases { name: "worked/full", count: Count::Listed(full::ROWS.len() as u64), run: full::run },
+    Cases { name: "worked/full-permit", count: Count::Listed(1), run: full::permit },
     Cases { name: "worked/record", count: Count::Listed(record::ROWS.len() as u64), run: record::run },
     Cases { name: "worked/record-sections", count: Count::Listed(6), run: record::no_section },
     Cases { name: "worked/add", count: Count::Listed(add::ROWS.len() as u64), run: add::run },

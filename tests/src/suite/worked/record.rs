@@ -1,30 +1,42 @@
-//! Records of the sample, by their places in it.
+//! Records, by their places in the image.
 
 use super::{both, no};
-use crate::compare::{equal, Outcome, Pair};
-use crate::sample::SAMPLE;
+use crate::compare::{equal, hex, Outcome, Pair};
+use crate::sample::{EMPTY, SAMPLE};
 use mungaite::{Refusal, Section};
 use std::ops::Range;
 
-type Row = (Section, u16, Result<Range<usize>, Refusal>);
+type Row = (&'static [u8], Section, u16, Result<Range<usize>, Refusal>);
 
+/// An image, a section, a record's number, and where the record stands.
 pub const ROWS: &[Row] = &[
-    (Section::Groups, 0, Ok(9..15)),
-    (Section::Groups, 1, no(14, 0)),
-    (Section::Rules, 0, Ok(15..26)),
-    (Section::Rules, 1, Ok(26..37)),
-    (Section::Rules, 2, Ok(37..45)),
-    (Section::Rules, 3, Ok(45..56)),
-    (Section::Rules, 4, no(14, 0)),
-    (Section::Constraints, 0, Ok(56..69)),
-    (Section::Constraints, 1, Ok(69..80)),
-    (Section::Constraints, 2, no(14, 0)),
-    (Section::Constraints, 65535, no(14, 0)),
+    (&SAMPLE, Section::Groups, 0, Ok(9..15)),
+    (&SAMPLE, Section::Groups, 1, no(14, 0)),
+    (&SAMPLE, Section::Rules, 0, Ok(15..26)),
+    (&SAMPLE, Section::Rules, 1, Ok(26..37)),
+    (&SAMPLE, Section::Rules, 2, Ok(37..45)),
+    (&SAMPLE, Section::Rules, 3, Ok(45..56)),
+    (&SAMPLE, Section::Rules, 4, no(14, 0)),
+    (&SAMPLE, Section::Constraints, 0, Ok(56..69)),
+    (&SAMPLE, Section::Constraints, 1, Ok(69..80)),
+    (&SAMPLE, Section::Constraints, 2, no(14, 0)),
+    (&SAMPLE, Section::Constraints, 256, no(14, 0)),
+    (&SAMPLE, Section::Constraints, 65535, no(14, 0)),
+    (&EMPTY, Section::Groups, 0, no(14, 0)),
+    (&EMPTY, Section::Rules, 0, no(14, 0)),
+    (&EMPTY, Section::Constraints, 0, no(14, 0)),
+    // The image's causes come first, of a record that there is and of one that there is not.
+    (SAMPLE.split_at(79).0, Section::Groups, 0, no(3, 0)),
+    (SAMPLE.split_at(79).0, Section::Groups, 1, no(3, 0)),
+    (&[1, 0, 9, 0, 1, 0, 0, 0, 0], Section::Rules, 0, no(5, 9)),
+    (&[1, 0, 13, 0, 1, 0, 0, 0, 0, 4, 1, 4, 0], Section::Groups, 0, no(6, 11)),
+    (&[1, 0, 13, 0, 1, 0, 0, 0, 0, 4, 1, 4, 0], Section::Rules, 0, no(6, 11)),
+    (&[1, 0, 10, 0, 0, 0, 0, 0, 0, 0], Section::Constraints, 0, no(7, 9)),
 ];
 
 pub fn run(pair: &Pair, case: u64) -> Outcome {
-    let (section, n, expected) = ROWS[case as usize].clone();
-    both(pair, &format!("{section:?} {n}"), expected, |subject| subject.record(&SAMPLE, section, n))
+    let (image, section, n, expected) = ROWS[case as usize].clone();
+    both(pair, &format!("{section:?} {n} of {}", hex(image)), expected, |subject| subject.record(image, section, n))
 }
 
 /// A section above 2 has no record: 14, after the image's own causes. Only the C function can be asked for one.
