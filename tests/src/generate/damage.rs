@@ -64,7 +64,7 @@ pub fn damage_record(random: &mut Random, record: &mut Vec<u8>, groups: usize) {
             record[0] = length as u8;
         }
         3 => damage_head_or_field(random, record, groups),
-        _ => break_field(random, record, groups),
+        _ => break_fields(random, record, groups),
     }
 }
 
@@ -78,8 +78,15 @@ fn damage_head_or_field(random: &mut Random, rest: &mut [u8], groups: usize) {
         1 => rest[1] = random.pick(&[0, 1, 2, 3, 4, 5]),
         _ => {
             let end = rest.len().min(usize::from(rest[0]));
-            break_field(random, &mut rest[..end], groups);
+            break_fields(random, &mut rest[..end], groups);
         }
+    }
+}
+
+/// Breaks a field, in one of four cases two, so that it matters which comes first.
+fn break_fields(random: &mut Random, record: &mut [u8], groups: usize) {
+    for _ in 0..1 + usize::from(random.percent(25)) {
+        break_field(random, record, groups);
     }
 }
 

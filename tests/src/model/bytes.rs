@@ -34,6 +34,12 @@ impl Records {
         self.lists[section as usize].push(record.to_vec());
     }
 
+    /// These records with one more at the start of its section.
+    pub fn with_first(mut self, section: Section, record: &[u8]) -> Records {
+        self.lists[section as usize].insert(0, record.to_vec());
+        self
+    }
+
     /// The image that holds these records.
     pub fn image(&self) -> Vec<u8> {
         let records: Vec<u8> = self.lists.iter().flatten().flatten().copied().collect();

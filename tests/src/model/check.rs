@@ -7,8 +7,12 @@ use mungaite::{Refusal, Section};
 impl Model {
     /// The records of an image, or the first cause that applies to it.
     pub fn read(self, image: &[u8]) -> Result<Records, Refusal> {
-        if self.leading_image(image)?.len() != image.len() {
-            return Err(refusal(3, 0));
+        if self.slips(Slip::CountsBeforeLength) && image.len() >= HEADER {
+            self.counts(image)?;
+        }
+        let leading = self.leading_image(image)?;
+        if leading.len() != image.len() {
+            return if self.slips(Slip::LongerSlicePasses) { self.read(leading) } else { Err(refusal(3, 0)) };
         }
         self.counts(image)?;
         if self.slips(Slip::FieldsAfterRecords) {
@@ -33,7 +37,11 @@ impl Model {
     }
 
     fn counts(self, image: &[u8]) -> Result<(), Refusal> {
-        for section in Section::ALL {
+        let mut sections = Section::ALL;
+        if self.slips(Slip::LastCountFirst) {
+            sections.reverse();
+        }
+        for section in sections {
             let place = count_place(section);
             if usize::from(number(image, place)) > self.limit(section) {
                 return Err(refusal(4, place));
@@ -69,7 +77,7 @@ impl Model {
                 if look_at_fields {
                     self.fields(record, groups).map_err(|at| refusal(6, place + at))?;
                 }
-                records.push(section, record);
+                records.push(section_of(record[1]).unwrap_or(section), record);
                 place += record.len();
             }
         }
@@ -84,17 +92,20 @@ impl Model {
         let length = usize::from(*rest.first()?);
         let kind = *rest.get(1)?;
         let record = rest.get(..length)?;
-        (section_of(kind) == Some(section) && self.length_suits(kind, length)).then_some(record)
+        let suits = section_of(kind) == Some(section) || self.slips(Slip::KindOfAnySection);
+        (suits && self.length_suits(kind, length)).then_some(record)
     }
 
     /// Whether a kind of record may have this length.
     pub fn length_suits(self, kind: u8, length: usize) -> bool {
         let over = if self.slips(Slip::LengthOver) { 2 } else { 0 };
+        let least = if self.slips(Slip::EmptyGroupPasses) { 2 } else { 4 };
+        let any = self.slips(Slip::HalfFieldPasses);
         match kind {
-            1 => (4..=130 + over).contains(&length) && length.is_multiple_of(2),
+            1 => (least..=130 + over).contains(&length) && (length.is_multiple_of(2) || any),
             2 => length == 11,
-            3 => length == 8,
-            4 => (11..=43 + over).contains(&length) && !length.is_multiple_of(2),
+            3 => length == 8 || self.slips(Slip::LongTransitionPasses) && length == 11,
+            4 => (11..=43 + over).contains(&length) && (!length.is_multiple_of(2) || any),
             _ => false,
         }
     }

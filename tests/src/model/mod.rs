@@ -7,9 +7,11 @@
 //! - `policy`: an accepted image with every type as its set
 //! - `predicate`: the four predicates
 //! - `decide`: cover, and the decision
+//! - `adding`: one more record in a buffer
 //! - `calls`: the engine's calls and the program
 //! - `slip`: mistakes that the model can be told to make
 
+mod adding;
 mod bytes;
 mod calls;
 mod check;

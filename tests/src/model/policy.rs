@@ -1,6 +1,7 @@
 //! An accepted image with every type as the set of basic types that it stands for.
 
 use super::bytes::{number, Records};
+use super::fields::words;
 use super::{Model, Slip};
 use mungaite::{Query, Section};
 use std::collections::BTreeSet;
@@ -27,8 +28,9 @@ pub struct Rule {
     pub class: u16,
     /// What an allow rule has and a transition has not.
     pub allow: Option<Allow>,
-    /// The source as it is written. Only a mistaken model looks at it.
+    /// The types as they are written. Only a mistaken model looks at them.
     pub source_field: u16,
+    pub destination_field: u16,
 }
 
 pub struct Allow {
@@ -58,9 +60,11 @@ impl Model {
     pub fn policy(self, records: &Records) -> Policy {
         let mut policy = Policy { groups: Vec::new(), rules: Vec::new(), constraints: Vec::new() };
         for record in records.of(Section::Groups) {
-            let mut members: Set = (2..record.len()).step_by(2).map(|at| number(record, at)).collect();
-            if self.slips(Slip::LastMemberLost) && members.len() > 1 {
-                members.pop_last();
+            let mut members: Set = words(record, 2).map(|at| number(record, at)).collect();
+            match self.slip {
+                Some(Slip::LastMemberLost) if members.len() > 1 => drop(members.pop_last()),
+                Some(Slip::FirstMemberLost) if members.len() > 1 => drop(members.pop_first()),
+                _ => {}
             }
             policy.groups.push(members);
         }
@@ -86,6 +90,7 @@ impl Policy {
             class: number(record, 6),
             allow: (record[1] == 2).then(|| Allow { action: number(record, 8), on: record[10] == 1 }),
             source_field: number(record, 2),
+            destination_field: number(record, 4),
         }
     }
 
@@ -96,7 +101,7 @@ impl Policy {
             first: self.set(number(record, 6)),
             second: self.set(number(record, 8)),
             predicate: record[10],
-            list: (11..record.len()).step_by(2).map(|at| self.set(number(record, at))).collect(),
+            list: words(record, 11).map(|at| self.set(number(record, at))).collect(),
         }
     }
 

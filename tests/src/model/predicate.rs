@@ -1,85 +1,133 @@
 //! The four predicates.
 
 use super::policy::{touches, within, Constraint, Policy, Request, Rule, Set};
+use super::slip::Predicate;
 use super::{Model, Slip};
+
+/// A predicate that looks at the rules: what it was asked, and the live rules.
+struct Asked<'a> {
+    predicate: Predicate,
+    first: &'a Set,
+    second: &'a Set,
+    live: Vec<&'a Rule>,
+}
 
 impl Model {
     /// Whether a constraint's predicate is true.
     pub fn holds(self, constraint: &Constraint, policy: &Policy, query: &Request) -> bool {
-        let ban_always = self.slips(Slip::BanWithoutGate) && constraint.predicate == 0;
-        if !self.concerns(constraint, query) && !ban_always {
+        let predicate = match constraint.predicate {
+            0 => {
+                let concerns = self.concerns(constraint, query) || self.slips(Slip::BanWithoutGate);
+                return !concerns || self.slips(Slip::BanHolds);
+            }
+            1 => Predicate::Separation,
+            2 => Predicate::Roster,
+            _ => Predicate::Companion,
+        };
+        if !self.concerns(constraint, query) && !self.slips(Slip::NoGate(predicate)) {
             return true;
         }
-        let live: Vec<&Rule> = policy.rules.iter().filter(|rule| self.live(rule, query)).collect();
-        match constraint.predicate {
-            0 => false,
-            1 => !self.same_source(constraint, &live),
-            2 => self.all_listed(constraint, &live),
-            _ => self.has_companion(constraint, &live),
+        let (first, second) = if self.slips(Slip::PredicateOfQuery(predicate)) {
+            (&query.source, &query.destination)
+        } else {
+            (&constraint.first, &constraint.second)
+        };
+        let live = policy.rules.iter().filter(|rule| self.live(predicate, rule, query)).collect();
+        let asked = Asked { predicate, first, second, live };
+        match predicate {
+            Predicate::Separation => !self.same_source(&asked),
+            Predicate::Roster => self.all_listed(&asked, &constraint.list),
+            Predicate::Companion => self.has_companion(&asked),
         }
     }
 
     /// The query's source is within the first argument and its destination within the second.
     pub fn concerns(self, constraint: &Constraint, query: &Request) -> bool {
-        let inside = if self.slips(Slip::GateByTouch) { touches } else { within };
-        inside(&query.source, &constraint.first) && inside(&query.destination, &constraint.second)
+        let inside: fn(&Set, &Set) -> bool = match self.slip {
+            Some(Slip::GateByTouch) => touches,
+            Some(Slip::GateOutward) => |asked, argument| within(argument, asked),
+            _ => within,
+        };
+        let (first, second) = (&constraint.first, &constraint.second);
+        match self.slip {
+            Some(Slip::GateSwapped) => inside(&query.source, second) && inside(&query.destination, first),
+            Some(Slip::GateBySourceOnly) => inside(&query.source, first),
+            Some(Slip::GateByDestinationOnly) => inside(&query.destination, second),
+            _ => inside(&query.source, first) && inside(&query.destination, second),
+        }
     }
 
     /// A rule's type meets an argument.
-    fn meets(self, set: &Set, argument: &Set) -> bool {
-        if self.slips(Slip::PredicateByWithin) {
+    fn meets(self, asked: &Asked, set: &Set, argument: &Set) -> bool {
+        if self.slips(Slip::PredicateByWithin(asked.predicate)) {
             within(set, argument)
+        } else if self.slips(Slip::PredicateOutward(asked.predicate)) {
+            within(argument, set)
         } else {
             touches(set, argument)
         }
     }
 
     /// An allow rule that is on, of any class and action.
-    fn live(self, rule: &Rule, query: &Request) -> bool {
-        let live = match &rule.allow {
-            Some(allow) => allow.on || self.slips(Slip::OffRuleLive),
-            None => self.slips(Slip::TransitionLive),
+    fn live(self, predicate: Predicate, rule: &Rule, query: &Request) -> bool {
+        let Some(allow) = &rule.allow else {
+            return self.slips(Slip::TransitionLive(predicate));
         };
-        live && (rule.class == query.class || !self.slips(Slip::PredicateOfOneClass))
+        (allow.on || self.slips(Slip::OffRuleLive(predicate)))
+            && (rule.class == query.class || !self.slips(Slip::PredicateOfOneClass(predicate)))
+            && (allow.action == query.action || !self.slips(Slip::PredicateOfOneAction(predicate)))
     }
 
     /// A rule to the first argument and a rule to the second have the same source.
-    fn same_source(self, constraint: &Constraint, live: &[&Rule]) -> bool {
-        let same = |one: &Rule, other: &Rule| {
-            if self.slips(Slip::SeparationByField) {
-                one.source_field == other.source_field
-            } else {
-                one.source == other.source
-            }
+    fn same_source(self, asked: &Asked) -> bool {
+        let same: fn(&Rule, &Rule) -> bool = match self.slip {
+            Some(Slip::SeparationByField) => |one, other| one.source_field == other.source_field,
+            Some(Slip::SeparationByTouch) => |one, other| touches(&one.source, &other.source),
+            Some(Slip::SeparationByWithin) => |one, other| within(&one.source, &other.source),
+            Some(Slip::SeparationWithoutSources) => |_, _| true,
+            _ => |one, other| one.source == other.source,
         };
         let wants_two = self.slips(Slip::SeparationOfTwoRules);
         let to = |argument: &Set| -> Vec<usize> {
-            (0..live.len()).filter(|&n| self.meets(&live[n].destination, argument)).collect()
+            (0..asked.live.len()).filter(|&n| self.meets(asked, &asked.live[n].destination, argument)).collect()
         };
-        let (to_first, to_second) = (to(&constraint.first), to(&constraint.second));
-        to_first.iter().any(|&n| to_second.iter().any(|&m| same(live[n], live[m]) && (n != m || !wants_two)))
+        let to_first = to(if self.slips(Slip::SeparationOfSecond) { asked.second } else { asked.first });
+        let to_second = to(if self.slips(Slip::SeparationOfFirst) { asked.first } else { asked.second });
+        to_first
+            .iter()
+            .any(|&n| to_second.iter().any(|&m| same(asked.live[n], asked.live[m]) && (n != m || !wants_two)))
     }
 
     /// Every rule to the second argument has its source within the union of the list.
-    fn all_listed(self, constraint: &Constraint, live: &[&Rule]) -> bool {
-        let argument = if self.slips(Slip::RosterByFirst) { &constraint.first } else { &constraint.second };
-        let union: Set = constraint.list.iter().flatten().copied().collect();
-        live.iter().filter(|rule| self.meets(&rule.destination, argument)).all(|rule| {
-            if self.slips(Slip::RosterOfOneType) {
-                constraint.list.iter().any(|listed| within(&rule.source, listed))
-            } else {
-                within(&rule.source, &union)
-            }
-        })
+    fn all_listed(self, asked: &Asked, list: &[Set]) -> bool {
+        let list = if self.slips(Slip::LastListedLost) { &list[..list.len() - 1] } else { list };
+        let argument = if self.slips(Slip::RosterByFirst) { asked.first } else { asked.second };
+        let union: Set = list.iter().flatten().copied().collect();
+        let listed = |rule: &&Rule| match self.slip {
+            Some(Slip::RosterOfOneType) => list.iter().any(|listed| within(&rule.source, listed)),
+            Some(Slip::RosterByTouch) => touches(&rule.source, &union),
+            _ => within(&rule.source, &union),
+        };
+        let any_rule = self.slips(Slip::RosterOfAnyRule);
+        let mut rules = asked.live.iter().filter(|rule| any_rule || self.meets(asked, &rule.destination, argument));
+        match self.slip {
+            Some(Slip::RosterOfSome) => rules.any(listed),
+            _ => rules.all(listed),
+        }
     }
 
     /// Some rule goes the other way: from the second argument to the first.
-    fn has_companion(self, constraint: &Constraint, live: &[&Rule]) -> bool {
-        let (from, to) = if self.slips(Slip::CompanionSameWay) {
-            (&constraint.first, &constraint.second)
-        } else {
-            (&constraint.second, &constraint.first)
-        };
-        live.iter().any(|rule| self.meets(&rule.source, from) && self.meets(&rule.destination, to))
+    fn has_companion(self, asked: &Asked) -> bool {
+        let (from, to) =
+            if self.slips(Slip::CompanionSameWay) { (asked.first, asked.second) } else { (asked.second, asked.first) };
+        let leaves = |rule: &&Rule| self.meets(asked, &rule.source, from);
+        let arrives = |rule: &&Rule| self.meets(asked, &rule.destination, to);
+        let live = &asked.live;
+        match self.slip {
+            Some(Slip::CompanionByTwoRules) => live.iter().any(leaves) && live.iter().any(arrives),
+            Some(Slip::CompanionBySource) => live.iter().any(leaves),
+            Some(Slip::CompanionByDestination) => live.iter().any(arrives),
+            _ => live.iter().any(|rule| leaves(rule) && arrives(rule)),
+        }
     }
 }

@@ -1,150 +1,173 @@
-//! Mistakes that the model can be told to make, to see that the comparison with the engine notices them.
+//! Mistakes that the model can be told to make, to see that the tests notice them.
 
 use mungaite::Section;
 
-/// One mistake.
+/// A predicate that looks at the rules.
 #[derive(Clone, Copy, Debug, PartialEq, Eq)]
-pub enum Slip {
-    // The five misreadings of document 01.
-    LastRuleSkipped,
-    FailureLiftsUncovered,
-    CoverByTouch,
-    OffRuleLive,
-    PredicateOfOneClass,
-    // Deciding.
-    HighestRule,
-    HighestConstraint,
-    OffRuleCovers,
-    SwappedCover,
-    TransitionOfOneClass,
-    TransitionLive,
-    ConstraintOfAnyAction,
-    BanWithoutGate,
-    GateByTouch,
-    PredicateByWithin,
-    SeparationByField,
-    SeparationOfTwoRules,
-    RosterByFirst,
-    RosterOfOneType,
-    CompanionSameWay,
-    LastMemberLost,
-    // Checking.
-    LimitReached(Section),
-    LimitPassed(Section),
-    LengthOver,
-    RecordPlaceOff,
-    FieldPlaceOff,
-    RisingNotStrict,
-    BasicTypeOver,
-    GroupOver,
-    ListUnchecked,
-    FieldsAfterRecords,
-    TrailingPasses,
-    // Queries, records and adding.
-    DestinationFirst,
-    RecordPastEnd,
-    AddedAtImageEnd,
-    ShortBeforeFull,
-    RestCleared,
-    // The program.
-    StopsAtRefusedQuery,
-    LeftoverIgnored,
+pub enum Predicate {
+    Separation,
+    Roster,
+    Companion,
+}
+
+impl Predicate {
+    const ALL: [Predicate; 3] = [Predicate::Separation, Predicate::Roster, Predicate::Companion];
+}
+
+/// The mistakes, each with what the mistaken model does. One with a kind in brackets is a mistake for each of that kind.
+macro_rules! slips {
+    ($($name:ident $(($kind:ident))? => $says:literal,)*) => {
+        /// One mistake.
+        #[derive(Clone, Copy, Debug, PartialEq, Eq)]
+        pub enum Slip {
+            $(#[doc = $says] $name $(($kind))?,)*
+        }
+
+        impl Slip {
+            pub fn all() -> Vec<Slip> {
+                let mut all = Vec::new();
+                $(slips!(@put all $name $($kind)?);)*
+                all
+            }
+
+            /// What the mistaken model does.
+            pub fn says(self) -> &'static str {
+                match self {
+                    $(Slip::$name { .. } => $says,)*
+                }
+            }
+        }
+    };
+    (@put $all:ident $name:ident) => { $all.push(Slip::$name) };
+    (@put $all:ident $name:ident $kind:ident) => { $all.extend($kind::ALL.map(Slip::$name)) };
 }
 
 impl Slip {
-    pub const ALL: [Slip; 43] = [
-        Slip::LastRuleSkipped,
-        Slip::FailureLiftsUncovered,
-        Slip::CoverByTouch,
-        Slip::OffRuleLive,
-        Slip::PredicateOfOneClass,
-        Slip::HighestRule,
-        Slip::HighestConstraint,
-        Slip::OffRuleCovers,
-        Slip::SwappedCover,
-        Slip::TransitionOfOneClass,
-        Slip::TransitionLive,
-        Slip::ConstraintOfAnyAction,
-        Slip::BanWithoutGate,
-        Slip::GateByTouch,
-        Slip::PredicateByWithin,
-        Slip::SeparationByField,
-        Slip::SeparationOfTwoRules,
-        Slip::RosterByFirst,
-        Slip::RosterOfOneType,
-        Slip::CompanionSameWay,
-        Slip::LastMemberLost,
-        Slip::LimitReached(Section::Groups),
-        Slip::LimitReached(Section::Rules),
-        Slip::LimitReached(Section::Constraints),
-        Slip::LimitPassed(Section::Groups),
-        Slip::LimitPassed(Section::Rules),
-        Slip::LimitPassed(Section::Constraints),
-        Slip::LengthOver,
-        Slip::RecordPlaceOff,
-        Slip::FieldPlaceOff,
-        Slip::RisingNotStrict,
-        Slip::BasicTypeOver,
-        Slip::GroupOver,
-        Slip::ListUnchecked,
-        Slip::FieldsAfterRecords,
-        Slip::TrailingPasses,
-        Slip::DestinationFirst,
-        Slip::RecordPastEnd,
-        Slip::AddedAtImageEnd,
-        Slip::ShortBeforeFull,
-        Slip::RestCleared,
-        Slip::StopsAtRefusedQuery,
-        Slip::LeftoverIgnored,
-    ];
-
     /// The mistake's name, in letters only.
     pub fn name(self) -> String {
         format!("{self:?}").replace(['(', ')'], "")
     }
+}
 
-    /// What the mistaken model does.
-    pub fn says(self) -> &'static str {
-        match self {
-            Slip::LastRuleSkipped => "the last rule is skipped, since nothing follows it",
-            Slip::FailureLiftsUncovered => "a failing constraint lifts an uncovered query to UnKnown",
-            Slip::CoverByTouch => "a rule covers a query that only touches it",
-            Slip::OffRuleLive => "rules that are off are counted by a predicate",
-            Slip::PredicateOfOneClass => "a predicate searches only rules of the query's class",
-            Slip::HighestRule => "the highest rule that covers is named",
-            Slip::HighestConstraint => "the highest constraint that fails is named",
-            Slip::OffRuleCovers => "a rule that is off covers",
-            Slip::SwappedCover => "source and destination are swapped in the cover",
-            Slip::TransitionOfOneClass => "a transition covers only queries of its class",
-            Slip::TransitionLive => "a transition is live",
-            Slip::ConstraintOfAnyAction => "a constraint applies whatever its action",
-            Slip::BanWithoutGate => "a ban is false whatever its arguments",
-            Slip::GateByTouch => "a constraint concerns a query that only touches its arguments",
-            Slip::PredicateByWithin => "a predicate wants a rule's type within an argument",
-            Slip::SeparationByField => "separation compares type fields, not sets",
-            Slip::SeparationOfTwoRules => "separation wants two different rules",
-            Slip::RosterByFirst => "the roster's rules are selected by the first argument",
-            Slip::RosterOfOneType => "the roster wants a source within one listed type",
-            Slip::CompanionSameWay => "the companion's rule goes the same way as the query",
-            Slip::LastMemberLost => "a group's last member is lost",
-            Slip::LimitReached(_) => "a count at its limit is refused",
-            Slip::LimitPassed(_) => "a count one over its limit passes",
-            Slip::LengthOver => "65 members and 17 listed types pass",
-            Slip::RecordPlaceOff => "a record's place is one too high",
-            Slip::FieldPlaceOff => "a field's place is one too high",
-            Slip::RisingNotStrict => "equal members pass",
-            Slip::BasicTypeOver => "1024 is a basic type",
-            Slip::GroupOver => "the group count itself names a group",
-            Slip::ListUnchecked => "any list suits any predicate",
-            Slip::FieldsAfterRecords => "all records are framed before any field is looked at",
-            Slip::TrailingPasses => "bytes after the last record pass",
-            Slip::DestinationFirst => "a bad destination comes before a bad source",
-            Slip::RecordPastEnd => "the record number that equals the count gives the last record",
-            Slip::AddedAtImageEnd => "an added record goes to the end of the image",
-            Slip::ShortBeforeFull => "a short buffer comes before a full section",
-            Slip::RestCleared => "adding clears the bytes past the image",
-            Slip::StopsAtRefusedQuery => "the program stops at a refused query",
-            Slip::LeftoverIgnored => "the program ignores 1 to 7 bytes left",
-        }
-    }
+slips! {
+    // The five misreadings of document 01.
+    LastRuleSkipped => "the last rule is skipped, since nothing follows it",
+    FailureLiftsUncovered => "a failing constraint lifts an uncovered query to UnKnown",
+    CoverByTouch => "a rule covers a query that only touches it",
+    OffRuleLive(Predicate) => "rules that are off are counted by a predicate",
+    PredicateOfOneClass(Predicate) => "a predicate searches only rules of the query's class",
+    // Cover.
+    HighestRule => "the highest rule that covers is named",
+    OffRuleCovers => "a rule that is off covers",
+    SwappedCover => "source and destination are swapped in the cover",
+    CoverOutward => "a rule covers a query that its own types are within",
+    CoverBySameSet => "a rule covers a query of its own types only",
+    SourceNotCompared => "a rule covers whatever its source",
+    DestinationNotCompared => "a rule covers whatever its destination",
+    ClassNotCompared => "an allow rule covers queries of any class",
+    ActionNotCompared => "an allow rule covers queries of any action",
+    TransitionOfOneClass => "a transition covers only queries of its class",
+    TransitionNeverCovers => "a transition covers nothing",
+    GroupJudgedOnce => "a group that is a rule's source and its destination is compared as destination alone",
+    FirstMemberLost => "a group's first member is lost",
+    LastMemberLost => "a group's last member is lost",
+    // Constraints.
+    HighestConstraint => "the highest constraint that fails is named",
+    LowestApplying => "the lowest constraint that applies is named, where another fails",
+    FirstApplyingOnly => "only the lowest constraint that applies is looked at",
+    AllMustFail => "UnKnown only where every constraint that applies fails",
+    LastConstraintSkipped => "the last constraint is skipped, since nothing follows it",
+    TransitionUnconstrained => "a query that a transition covers meets no constraint",
+    ConstraintOfAnyClass => "a constraint applies whatever its class",
+    ConstraintOfAnyAction => "a constraint applies whatever its action",
+    // The arguments within which a predicate may be false.
+    GateByTouch => "a constraint concerns a query that only touches its arguments",
+    GateOutward => "a constraint concerns a query that its arguments are within",
+    GateSwapped => "the query's source is compared with the second argument, its destination with the first",
+    GateBySourceOnly => "a constraint concerns a query whatever its destination",
+    GateByDestinationOnly => "a constraint concerns a query whatever its source",
+    BanWithoutGate => "a ban is false whatever its arguments",
+    NoGate(Predicate) => "a predicate is asked of a query outside of its arguments",
+    BanHolds => "a ban is true",
+    // What the predicates ask of the rules.
+    PredicateOfOneAction(Predicate) => "a predicate searches only rules of the query's action",
+    TransitionLive(Predicate) => "a transition is live",
+    PredicateByWithin(Predicate) => "a predicate wants a rule's type within an argument",
+    PredicateOutward(Predicate) => "a predicate wants an argument within a rule's type",
+    PredicateOfQuery(Predicate) => "a predicate looks for the query's types in place of its arguments",
+    SeparationByField => "separation compares type fields, not sets",
+    SeparationByTouch => "separation compares sources by touching",
+    SeparationByWithin => "separation compares sources by inclusion",
+    SeparationOfTwoRules => "separation wants two different rules",
+    SeparationOfFirst => "separation looks for the first argument twice",
+    SeparationOfSecond => "separation looks for the second argument twice",
+    SeparationWithoutSources => "separation does not compare the sources",
+    RosterByFirst => "the roster's rules are selected by the first argument",
+    RosterOfAnyRule => "the roster looks at every live rule",
+    RosterOfOneType => "the roster wants a source within one listed type",
+    RosterByTouch => "the roster wants a source that touches a listed type",
+    RosterOfSome => "the roster is true where one rule's source is listed",
+    LastListedLost => "a roster's last listed type is lost",
+    CompanionSameWay => "the companion's rule goes the same way as the query",
+    CompanionByTwoRules => "the companion is found in two rules, one by its source, one by its destination",
+    CompanionBySource => "the companion's destination is not looked at",
+    CompanionByDestination => "the companion's source is not looked at",
+    // Checking: header and records.
+    CountsBeforeLength => "counts over their limits come before a wrong length field",
+    LastCountFirst => "the counts are looked at from the last to the first",
+    LimitReached(Section) => "a count at its limit is refused",
+    LimitPassed(Section) => "a count one over its limit passes",
+    LongerSlicePasses => "bytes past the length field pass",
+    KindOfAnySection => "any kind of record may stand in any section",
+    LongTransitionPasses => "a transition of length 11 passes",
+    EmptyGroupPasses => "a group without members passes",
+    LengthOver => "65 members and 17 listed types pass",
+    HalfFieldPasses => "a group of odd length and a constraint of even length pass",
+    RecordPlaceOff => "a record's place is one too high",
+    FieldsAfterRecords => "all records are framed before any field is looked at",
+    TrailingPasses => "bytes after the last record pass",
+    // Checking: fields.
+    FieldPlaceOff => "a field's place is one too high",
+    RisingNotStrict => "equal members pass",
+    EarlierMemberNamed => "of two members that do not rise the earlier is named",
+    BasicBeforeRising => "a member that is no basic type comes before members that do not rise",
+    RisingBeforeBasic => "members that do not rise come before one that is no basic type",
+    LastMemberBasic => "of a group only the last member must be a basic type",
+    BasicTypeOver => "1024 is a basic type",
+    GroupOver => "the group count itself names a group",
+    RuleDestinationFirst => "a rule's bad destination comes before its bad source",
+    ConditionFirst => "a bad condition comes before bad types",
+    ConditionAny => "any condition passes",
+    SecondArgumentFirst => "a bad second argument comes before a bad first",
+    PredicateFirst => "a bad predicate byte comes before bad arguments",
+    PredicateLast => "a bad predicate byte comes after bad listed types",
+    LastListedFirst => "the last bad listed type is named",
+    ListUnchecked => "any list suits any predicate",
+    CompanionWithList => "a companion may have a list",
+    UnsuitedListPlace => "a list that does not suit is named at its own place",
+    LastListedUnchecked => "a roster's last listed type may be any number",
+    // Queries, records and adding.
+    QueryBeforeImage => "a query's own causes come before the image's",
+    DestinationFirst => "a bad destination comes before a bad source",
+    RecordBeforeImage => "a section without that record comes before the image's causes",
+    RecordPastEnd => "the record number that equals the count gives the last record",
+    RecordsFromOne => "records are numbered from 1",
+    AddedBeforeImage => "an added record's own causes come before the image's",
+    ImageToBufferEnd => "adding takes the whole buffer for the image",
+    FullBeforeField => "a full section comes before a bad field",
+    ShortBeforeField => "a short buffer comes before a bad field",
+    ShortBeforeFull => "a short buffer comes before a full section",
+    FullElsewhere => "a record is refused where another section is full",
+    ExactRoomShort => "a buffer that just holds the new image is short",
+    FieldPlaceInImage => "an added record's bad field is named by its place in the new image",
+    AddedAtImageEnd => "an added record goes to the end of the image",
+    AddedFirst => "an added record goes to the start of its section",
+    NumberAfterAdding => "the answer to adding is the new count",
+    RestCleared => "adding clears the bytes past the image",
+    RestMoved => "adding moves the bytes past the image up",
+    // The program.
+    StopsAtRefusedQuery => "the program stops at a refused query",
+    LeftoverIgnored => "the program ignores 1 to 7 bytes left",
+    LeftoverAlone => "the program answers no query where 1 to 7 bytes are left",
+    ConstraintBeforeRule => "the program prints the constraint before the rule",
 }

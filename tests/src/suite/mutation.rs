@@ -1,6 +1,6 @@
-//! The tests have teeth: each notices a model with one mistake.
+//! The tests have teeth: a worked row notices each mistake that the model can make, and so do the generated inputs.
 
-use super::{differential, order, round_trip};
+use super::{differential, order, round_trip, worked};
 use crate::compare::Pair;
 use crate::model::{Model, Slip};
 use crate::runner::{run_case, Cases, Finding, Run, Whole, PANIC};
@@ -16,18 +16,38 @@ const PROPERTIES: [(Cases, Slip); 7] = [
     (round_trip::RANDOM, Slip::LimitReached(mungaite::Section::Rules)),
 ];
 
-/// One test for each mistake, and one for each of the table's rows.
+/// Two tests for each mistake, and one for each of the table's rows.
 pub fn tests() -> Vec<Whole> {
-    let compared = Slip::ALL
-        .into_iter()
-        .map(|slip| Whole { name: format!("mutation/{}", slip.name()), run: Box::new(move |run| compared(run, slip)) });
+    let worked_out = Slip::all().into_iter().map(|slip| Whole {
+        name: format!("mutation/worked/{}", slip.name()),
+        run: Box::new(move |run| worked_out(run, slip)),
+    });
+    let compared = Slip::all().into_iter().map(|slip| Whole {
+        name: format!("mutation/generated/{}", slip.name()),
+        run: Box::new(move |run| compared(run, slip)),
+    });
     let alone = PROPERTIES.into_iter().map(|(test, slip)| Whole {
         name: format!("mutation/{}/{}", test.name, slip.name()),
         run: Box::new(move |run| {
             noticed(run, &[test], &Pair { engine: &Model::with(slip), model: Model::RIGHT }, slip)
         }),
     });
-    compared.chain(alone).collect()
+    worked_out.chain(compared).chain(alone).collect()
+}
+
+/// The worked tables, with the mistaken model in the engine's place.
+fn worked_out(run: &Run, slip: Slip) -> Finding {
+    let pair = Pair { engine: &Model::with(slip), model: Model::RIGHT };
+    for test in worked::TESTS {
+        for case in run.quick_seeds(test) {
+            match run_case(test, &pair, case) {
+                Ok(()) => {}
+                Err(what) if what.starts_with(PANIC) => return Err(what),
+                Err(_) => return Ok(format!("{}: noticed by {}, row {}", slip.says(), test.name, case)),
+            }
+        }
+    }
+    Err(format!("no worked row notices: {}", slip.says()))
 }
 
 /// The engine against the mistaken model.

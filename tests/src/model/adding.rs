@@ -1,0 +1,87 @@
+//! Adding a record, with the causes 10 to 13.
+
+use super::bytes::{number, Records};
+use super::check::section_of;
+use super::{refusal, Model, Slip};
+use mungaite::{Refusal, Section};
+
+impl Model {
+    /// The number of the record that was added to the image that a buffer starts with.
+    pub fn added(self, buffer: &mut [u8], record: &[u8]) -> Result<u16, Refusal> {
+        if self.slips(Slip::AddedBeforeImage) {
+            self.shaped(record)?;
+        }
+        let image = if self.slips(Slip::ImageToBufferEnd) { &*buffer } else { self.leading_image(buffer)? };
+        let old_length = image.len();
+        let mut records = self.read(image)?;
+        let section = self.addable(&records, record, old_length, buffer.len())?;
+        let n = records.of(section).len();
+        let new = match self.slip {
+            Some(Slip::AddedAtImageEnd) => added_at_end(&buffer[..old_length], section, record),
+            Some(Slip::AddedFirst) => records.with_first(section, record).image(),
+            _ => {
+                records.push(section, record);
+                records.image()
+            }
+        };
+        match self.slip {
+            Some(Slip::RestCleared) => buffer[new.len()..].fill(0),
+            Some(Slip::RestMoved) => buffer.copy_within(old_length..buffer.len() - record.len(), new.len()),
+            _ => {}
+        }
+        buffer[..new.len()].copy_from_slice(&new);
+        Ok(if self.slips(Slip::NumberAfterAdding) { n + 1 } else { n } as u16)
+    }
+
+    /// The section of a record that is to be added: cause 10.
+    fn shaped(self, record: &[u8]) -> Result<Section, Refusal> {
+        let kind = *record.get(1).ok_or(refusal(10, 0))?;
+        let section = section_of(kind).ok_or(refusal(10, 0))?;
+        if usize::from(record[0]) != record.len() || !self.length_suits(kind, record.len()) {
+            return Err(refusal(10, 0));
+        }
+        Ok(section)
+    }
+
+    /// The section that a record may be added to: causes 10 to 13.
+    fn addable(self, old: &Records, record: &[u8], image: usize, buffer: usize) -> Result<Section, Refusal> {
+        let section = self.shaped(record)?;
+        let bad_field = self.fields(record, old.of(Section::Groups).len() as u16).err();
+        let is_full = |section: Section| old.of(section).len() >= self.limit(section);
+        let full = is_full(section) || self.slips(Slip::FullElsewhere) && Section::ALL.into_iter().any(is_full);
+        let wanted = image + record.len() + usize::from(self.slips(Slip::ExactRoomShort));
+        let mut causes = [(11, bad_field.is_some()), (12, full), (13, buffer < wanted)];
+        match self.slip {
+            Some(Slip::FullBeforeField) => causes.swap(0, 1),
+            Some(Slip::ShortBeforeFull) => causes.swap(1, 2),
+            Some(Slip::ShortBeforeField) => causes.rotate_right(1),
+            _ => {}
+        }
+        match causes.into_iter().find(|(_, applies)| *applies) {
+            Some((11, _)) => Err(refusal(11, self.added_place(old, section, bad_field.unwrap_or(0)))),
+            Some((cause, _)) => Err(refusal(cause, 0)),
+            None => Ok(section),
+        }
+    }
+
+    /// The place that an added record's bad field is named by.
+    fn added_place(self, old: &Records, section: Section, at: usize) -> usize {
+        let up_to = Section::ALL.into_iter().filter(|other| *other <= section).flat_map(|other| old.of(other));
+        if self.slips(Slip::FieldPlaceInImage) {
+            9 + up_to.map(Vec::len).sum::<usize>() + at
+        } else {
+            at
+        }
+    }
+}
+
+/// What a mistaken adder writes: the record behind the whole image.
+fn added_at_end(image: &[u8], section: Section, record: &[u8]) -> Vec<u8> {
+    let mut new = [image, record].concat();
+    let length = (new.len() as u16).to_be_bytes();
+    new[1..3].copy_from_slice(&length);
+    let place = 3 + 2 * section as usize;
+    let count = (number(image, place) + 1).to_be_bytes();
+    new[place..place + 2].copy_from_slice(&count);
+    new
+}
