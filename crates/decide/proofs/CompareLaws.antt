@@ -7,10 +7,9 @@ use native.Mathlib.Omega.{arith}
 use lib.Dec.{eqb, ltb}
 use borrow.Author.Tests.{eq-eqb, ne-eqb, eqb-true, eqb-false, ltb-true, ltb-false}
 use Rattle.format.specs.Bytes.{wordAt}
-use Rattle.format.proofs.Fields.{Rising}
-use Rattle.format.proofs.Places.{wordsAt}
+use Rattle.format.specs.Inner.Places.{wordsAt, Rising}
 use Rattle.decision.specs.Sets.{anyOf, allOf, isIn, within, sameSet}
-use Rattle.decide.specs.Walks.{sameList}
+use Rattle.decide.specs.Inner.Names.{sameList}
 use Rattle.decide.proofs.SetLaws.{below-out}
 
 -- what lies above x is in x ∷ ys where it is in ys

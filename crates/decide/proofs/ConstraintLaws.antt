@@ -15,10 +15,12 @@ use Rattle.format.specs.Policy.{policyOf, recordAt, recordsAt, startOf, placeOf
 use Rattle.format.specs.Check.{check}
 use Rattle.format.specs.Claims.{IsType}
 use Rattle.format.proofs.Shapes.{stands-word}
-use Rattle.format.proofs.Places.{wordsAt, ConstraintAt}
+use Rattle.format.specs.Inner.Places.{wordsAt, ConstraintAt}
 use Rattle.decision.specs.Sets.{anyOf, allOf, isIn, setOf, unionOf, within, touches, sameSet}
 use Rattle.decision.specs.Decide.{Rule, Constraint, constraintOf, Request, requestOf, firstAt, live, reaches, separationBroken, rosterBroken, companionBroken, broken, fails}
-use Rattle.decide.specs.Walks.{groupsIn, rulesIn, markAll, anyMarked, allMarked, wanted, strays, friend, pairedIn, foundOf, firstConstraint}
+use Rattle.decide.specs.Inner.Spans.{groupsIn}
+use Rattle.decide.specs.Inner.Marks.{markAll, anyMarked, allMarked}
+use Rattle.decide.specs.Inner.Rules.{rulesIn, wanted, strays, friend, pairedIn, foundOf, firstConstraint}
 use Rattle.decide.specs.declared.cover.Found.{Found}
 use Rattle.decide.specs.declared.cover.Found.the-variants.{At, Nothing}
 use Rattle.decision.specs.declared.Query.{Query}

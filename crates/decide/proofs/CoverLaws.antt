@@ -18,13 +18,15 @@ use Rattle.format.specs.Check.{check}
 use Rattle.format.specs.Claims.{IsType}
 use Rattle.format.proofs.Tests.{false-not-true}
 use Rattle.format.proofs.Shapes.{stands-word}
-use Rattle.format.proofs.Places.{RuleAt}
+use Rattle.format.specs.Inner.Places.{RuleAt}
 use Rattle.decision.specs.declared.Query.{Query}
 use Rattle.decision.specs.Sets.{allOf, setOf, within}
 use Rattle.decision.specs.Decide.{Rule, ruleOf, Request, requestOf, live, tests, covers, firstAt}
 use Rattle.decide.specs.declared.cover.Found.{Found}
 use Rattle.decide.specs.declared.cover.Found.the-variants.{At, Nothing}
-use Rattle.decide.specs.Walks.{groupsIn, mayAt, skippedOf, skipMore, noSkips, Skips, foundOf, firstRule}
+use Rattle.decide.specs.Inner.Spans.{groupsIn}
+use Rattle.decide.specs.Inner.Kept.{skippedOf, skipMore, noSkips, Skips}
+use Rattle.decide.specs.Inner.Rules.{mayAt, foundOf, firstRule}
 use Rattle.decide.proofs.ArrayLaws.{blank, by-set}
 use Rattle.decide.proofs.TypeLaws.{few-groups}
 

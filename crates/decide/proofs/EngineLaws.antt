@@ -18,8 +18,10 @@ use Rattle.decision.specs.Sets.{setOf}
 use Rattle.decision.specs.Decide as tepla
 use Rattle.decide.specs.declared.cover.Found.{Found}
 use Rattle.decide.specs.declared.cover.Found.the-variants.{At, Nothing}
-use Rattle.decide.specs.Walks.{groupsIn, rulesIn, placeIn, Places, markAll, Marked, foundOf, firstRule, firstConstraint}
-use Rattle.decide.specs.Ready.{unless, groupPlace, Prepares, Ready}
+use Rattle.decide.specs.Ready.{placeIn, unless, groupPlace, Prepares, Ready}
+use Rattle.decide.specs.Inner.Spans.{groupsIn, Places}
+use Rattle.decide.specs.Inner.Marks.{markAll, Marked}
+use Rattle.decide.specs.Inner.Rules.{rulesIn, foundOf, firstRule, firstConstraint}
 use Rattle.decide.specs.declared.engine.Prepared.{Prepared}
 use Rattle.format.specs.declared.Starts.{Starts}
 use Rattle.format.specs.declared.Sections.the-variants as sections

@@ -6,10 +6,9 @@ use mathlib.Core.List.{List, [], _∷_}
 use native.Mathlib.Omega.{arith}
 use lib.ListN.{getD, set}
 use Rattle.format.specs.Bytes.{wordAt}
-use Rattle.format.proofs.Places.{wordsAt}
-use Rattle.format.proofs.Fields.{Rising}
+use Rattle.format.specs.Inner.Places.{wordsAt, Rising}
 use Rattle.decision.specs.Sets.{anyOf, allOf}
-use Rattle.decide.specs.Walks.{markAll, anyMarked, allMarked, tallied}
+use Rattle.decide.specs.Inner.Marks.{markAll, anyMarked, allMarked, tallied}
 
 -- a rising list is rising from a lower bound too
 pub rising-lower : (low k : ℕ) (ms : List ℕ) → k ≤ low → Rising low ms → Rising k ms

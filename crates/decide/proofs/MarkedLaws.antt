@@ -17,10 +17,11 @@ use Rattle.format.specs.Bytes.{wordAt}
 use Rattle.format.specs.Format.{countOf}
 use Rattle.format.specs.Check.{check}
 use Rattle.format.specs.Claims.{IsType}
-use Rattle.format.proofs.Fields.{Rising}
-use Rattle.format.proofs.Places.{wordsAt, words-at-length}
+use Rattle.format.specs.Inner.Places.{wordsAt, Rising}
+use Rattle.format.proofs.Places.{words-at-length}
 use Rattle.decision.specs.Sets.{anyOf, isIn, setOf, unionOf}
-use Rattle.decide.specs.Walks.{groupsIn, Spans, markAll, Marked}
+use Rattle.decide.specs.Inner.Spans.{groupsIn, Spans}
+use Rattle.decide.specs.Inner.Marks.{markAll, Marked}
 use Rattle.decide.proofs.ArrayLaws.{blank}
 use Rattle.decide.proofs.TypeLaws.{set-basic, set-rising}
 

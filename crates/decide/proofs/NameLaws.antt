@@ -16,10 +16,12 @@ use Rattle.format.specs.Format.{countOf}
 use Rattle.format.specs.Check.{check}
 use Rattle.format.specs.Claims.{IsType}
 use Rattle.format.proofs.Tests.{false-not-true}
-use Rattle.format.proofs.Fields.{Rising, rising-basic}
-use Rattle.format.proofs.Places.{wordsAt, words-at-length, words-at-nth}
+use Rattle.format.specs.Inner.Places.{wordsAt, Rising}
+use Rattle.format.proofs.Fields.{rising-basic}
+use Rattle.format.proofs.Places.{words-at-length, words-at-nth}
 use Rattle.decision.specs.Sets.{setOf, sameSet}
-use Rattle.decide.specs.Walks.{groupsIn, Spans, sameList, twinFrom, keyOf, Firsts, nameOf, NamesKept}
+use Rattle.decide.specs.Inner.Spans.{groupsIn, Spans}
+use Rattle.decide.specs.Inner.Names.{sameList, twinFrom, keyOf, Firsts, nameOf, NamesKept}
 use Rattle.decide.proofs.ArrayLaws.{blank, by-set}
 use Rattle.decide.proofs.TypeLaws.{few-groups, set-basic, set-rising}
 use Rattle.decide.proofs.CompareLaws.{same-is}

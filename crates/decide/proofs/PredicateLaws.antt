@@ -14,10 +14,13 @@ use Rattle.format.specs.Format.{countOf}
 use Rattle.format.specs.Policy.{policyOf, recordAt, recordsAt, startOf, placeOf, placeAfter}
 use Rattle.format.proofs.Tests.{false-not-true}
 use Rattle.format.proofs.Shapes.{stands-word}
-use Rattle.format.proofs.Places.{RuleAt}
+use Rattle.format.specs.Inner.Places.{RuleAt}
 use Rattle.decision.specs.Sets.{anyOf, setOf}
 use Rattle.decision.specs.Decide.{Rule, ruleOf, live}
-use Rattle.decide.specs.Walks.{groupsIn, rulesIn, Kept, anyMarked, liveAt, wanted, reaching}
+use Rattle.decide.specs.Inner.Spans.{groupsIn}
+use Rattle.decide.specs.Inner.Marks.{anyMarked}
+use Rattle.decide.specs.Inner.Kept.{Kept}
+use Rattle.decide.specs.Inner.Rules.{rulesIn, liveAt, wanted, reaching}
 use Rattle.decide.proofs.ArrayLaws.{blank}
 
 -- nothing is kept at first

@@ -9,9 +9,9 @@ use lib.ListN.{length, getD}
 use native.Mathlib.Omega.{arith}
 use lib.Dec.{eqb, eqb·suc-suc}
 use borrow.Author.Tests.{eqb-true, eqb-false, eq-eqb, ne-eqb}
-use Rattle.format.proofs.Fields.{Rising}
+use Rattle.format.specs.Inner.Places.{Rising}
 use Rattle.decision.specs.Sets.{anyOf, allOf, isIn, within}
-use Rattle.decide.specs.Walks.{Marked, tallied, fullyMarked}
+use Rattle.decide.specs.Inner.Marks.{Marked, tallied, fullyMarked}
 
 -- how many pass the test
 unfoldable pub tally : (ℕ → Bool) → List ℕ → ℕ

@@ -16,10 +16,14 @@ use Rattle.format.specs.Policy.{policyOf, recordAt, recordsAt, startOf, placeOf
 use Rattle.format.specs.Check.{check}
 use Rattle.format.specs.Claims.{IsType}
 use Rattle.format.proofs.Accepted.{place-next}
-use Rattle.format.proofs.Places.{RuleAt, rule-at}
+use Rattle.format.specs.Inner.Places.{RuleAt}
+use Rattle.format.proofs.Places.{rule-at}
 use Rattle.decision.specs.Sets.{anyOf, setOf, sameSet}
 use Rattle.decision.specs.Decide.{Rule, ruleOf, live}
-use Rattle.decide.specs.Walks.{groupsIn, rulesIn, anyMarked, wanted, pairedIn, nameOf, reaching, reachedOf, noNames, named}
+use Rattle.decide.specs.Inner.Spans.{groupsIn}
+use Rattle.decide.specs.Inner.Marks.{anyMarked}
+use Rattle.decide.specs.Inner.Rules.{rulesIn, wanted, pairedIn, reaching}
+use Rattle.decide.specs.Inner.Names.{nameOf, reachedOf, noNames, named}
 use Rattle.decide.proofs.ArrayLaws.{blank}
 use Rattle.decide.proofs.PredicateLaws.{source-is, anyFrom, any-rules-start}
 use Rattle.decide.proofs.NameLaws.{name-small, name-same}

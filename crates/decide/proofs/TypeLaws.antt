@@ -16,11 +16,13 @@ use Rattle.format.specs.Format.{countOf, limitOf}
 use Rattle.format.specs.Policy.{recordsOf, placeAfter, placeOf, startOf}
 use Rattle.format.specs.Check.{check}
 use Rattle.format.specs.Claims.{IsType}
-use Rattle.format.proofs.Fields.{Rising}
+use Rattle.format.specs.Inner.Places.{wordsAt, Rising, GroupAt}
 use Rattle.format.proofs.Accepted.{accepted-header, record-nth}
-use Rattle.format.proofs.Places.{wordsAt, GroupAt, group-at}
+use Rattle.format.proofs.Places.{group-at}
 use Rattle.decision.specs.Sets.{setOf}
-use Rattle.decide.specs.Walks.{groupsIn, placeIn, Placed, Places, Spans, Kept}
+use Rattle.decide.specs.Ready.{placeIn, Placed}
+use Rattle.decide.specs.Inner.Spans.{groupsIn, Places, Spans}
+use Rattle.decide.specs.Inner.Kept.{Kept}
 use Rattle.decide.proofs.ArrayLaws.{by-set}
 
 pub few-groups : (l : List ℕ) → check l ≡ none → countOf l Groups ≤ 256

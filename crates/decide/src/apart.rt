@@ -12,10 +12,15 @@ ghost use Prim.Native.Nat.{_+_, _<_};
 ghost use Rattle.format.specs.declared.Section.the-variants.{Rules};
 ghost use Rattle.format.specs.Policy.{recordAt, startOf};
 ghost use Rattle.format.specs.Check.{check};
-ghost use Rattle.format.proofs.Places.{RuleAt};
+ghost use Rattle.format.specs.Inner.Places.{RuleAt};
 ghost use Rattle.decision.specs.Sets.{anyOf};
 ghost use Rattle.decision.specs.Decide.{ruleOf};
-ghost use Rattle.decide.specs.Walks.{groupsIn, rulesIn, Placed, Kept, Firsts, NamesKept, anyMarked, liveAt, wanted, reachedOf, noNames, named, pairedIn};
+ghost use Rattle.decide.specs.Ready.{Placed};
+ghost use Rattle.decide.specs.Inner.Spans.{groupsIn};
+ghost use Rattle.decide.specs.Inner.Marks.{anyMarked};
+ghost use Rattle.decide.specs.Inner.Kept.{Kept};
+ghost use Rattle.decide.specs.Inner.Rules.{rulesIn, liveAt, wanted, pairedIn};
+ghost use Rattle.decide.specs.Inner.Names.{Firsts, NamesKept, reachedOf, noNames, named};
 
 // The names of the sources of the rules that reach the marks.
 fn reached(

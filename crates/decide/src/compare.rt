@@ -4,8 +4,8 @@ use crate::word::word_at;
 ghost use mathlib.Core.Path.{_≡_};
 ghost use Prim.Native.Nat.{_+_, _*_, _≤_};
 ghost use lib.ListN.{length};
-ghost use Rattle.format.proofs.Places.{wordsAt};
-ghost use Rattle.decide.specs.Walks.{sameList};
+ghost use Rattle.format.specs.Inner.Places.{wordsAt};
+ghost use Rattle.decide.specs.Inner.Names.{sameList};
 
 // Whether two parts of the image hold the same members. Members rise, so the sets are then the same, and only then.
 pub(crate) fn same_members(image: &[u8], s: Span, t: Span) -> bool

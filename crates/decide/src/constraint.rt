@@ -15,10 +15,15 @@ ghost use mathlib.Core.Option.{none};
 ghost use Rattle.format.specs.declared.Section.the-variants.{Rules, Constraints};
 ghost use Rattle.format.specs.Policy.{recordAt, startOf};
 ghost use Rattle.format.specs.Check.{check};
-ghost use Rattle.format.proofs.Places.{ConstraintAt};
+ghost use Rattle.format.specs.Inner.Places.{ConstraintAt};
 ghost use Rattle.decision.specs.Sets.{setOf};
 ghost use Rattle.decision.specs.Decide.{constraintOf, requestOf, separationBroken, rosterBroken, companionBroken, broken, fails};
-ghost use Rattle.decide.specs.Walks.{groupsIn, rulesIn, Placed, Marked, Kept, NamesKept, fullyMarked, firstConstraint};
+ghost use Rattle.decide.specs.Ready.{Placed};
+ghost use Rattle.decide.specs.Inner.Spans.{groupsIn};
+ghost use Rattle.decide.specs.Inner.Marks.{Marked, fullyMarked};
+ghost use Rattle.decide.specs.Inner.Kept.{Kept};
+ghost use Rattle.decide.specs.Inner.Rules.{rulesIn, firstConstraint};
+ghost use Rattle.decide.specs.Inner.Names.{NamesKept};
 
 // Whether the separation at a place fails.
 fn separation(

@@ -13,7 +13,11 @@ ghost use Rattle.format.specs.declared.Section.the-variants.{Rules};
 ghost use Rattle.format.specs.Policy.{startOf};
 ghost use Rattle.format.specs.Check.{check};
 ghost use Rattle.decision.specs.Sets.{setOf};
-ghost use Rattle.decide.specs.Walks.{groupsIn, Placed, Marked, Kept, fullyMarked, mayAt, skippedOf, skipMore, firstRule};
+ghost use Rattle.decide.specs.Ready.{Placed};
+ghost use Rattle.decide.specs.Inner.Spans.{groupsIn};
+ghost use Rattle.decide.specs.Inner.Marks.{Marked, fullyMarked};
+ghost use Rattle.decide.specs.Inner.Kept.{Kept, skippedOf, skipMore};
+ghost use Rattle.decide.specs.Inner.Rules.{mayAt, firstRule};
 
 pub(crate) enum Found {
     At(usize),

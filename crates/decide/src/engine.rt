@@ -22,8 +22,7 @@ ghost use Rattle.format.specs.Policy.{policyOf, startOf};
 ghost use Rattle.format.specs.Check.{check};
 ghost use Rattle.format.specs.Answers.{gives};
 ghost use Rattle.decision.specs.Decide as tepla;
-ghost use Rattle.decide.specs.Walks.{Placed};
-ghost use Rattle.decide.specs.Ready.{Prepares, Ready};
+ghost use Rattle.decide.specs.Ready.{Placed, Prepares, Ready};
 
 // A policy as its check leaves it: where its sections start, or the refusal, and the place of each group. Past the groups,
 // and in a refused image, the places are 0.

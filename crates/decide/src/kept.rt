@@ -14,7 +14,10 @@ ghost use Rattle.format.specs.Format.{countOf};
 ghost use Rattle.format.specs.Check.{check};
 ghost use Rattle.format.specs.Claims.{IsType};
 ghost use Rattle.decision.specs.Sets.{setOf};
-ghost use Rattle.decide.specs.Walks.{groupsIn, Placed, fullyMarked, anyMarked, allMarked, Kept};
+ghost use Rattle.decide.specs.Ready.{Placed};
+ghost use Rattle.decide.specs.Inner.Spans.{groupsIn};
+ghost use Rattle.decide.specs.Inner.Marks.{fullyMarked, anyMarked, allMarked};
+ghost use Rattle.decide.specs.Inner.Kept.{Kept};
 
 // Whether the marked set, of a size, is within the type in the field at a place.
 pub(crate) fn inside(

@@ -3,9 +3,8 @@ use crate::word::word_at;
 ghost use mathlib.Core.Path.{_≡_};
 ghost use Prim.Native.Nat.{_+_, _*_, _≤_};
 ghost use lib.ListN.{length};
-ghost use Rattle.format.proofs.Places.{wordsAt};
-ghost use Rattle.format.proofs.Fields.{Rising};
-ghost use Rattle.decide.specs.Walks.{markAll, anyMarked, allMarked, fullyMarked};
+ghost use Rattle.format.specs.Inner.Places.{wordsAt, Rising};
+ghost use Rattle.decide.specs.Inner.Marks.{markAll, anyMarked, allMarked, fullyMarked};
 
 // Marks the members of a part.
 pub(crate) fn mark(image: &[u8], from: usize, count: usize, marks: &mut [bool; 1024])

@@ -13,9 +13,11 @@ ghost use Rattle.format.specs.Bytes.{wordAt};
 ghost use Rattle.format.specs.Format.{countOf};
 ghost use Rattle.format.specs.Check.{check};
 ghost use Rattle.format.specs.Claims.{IsType};
-ghost use Rattle.format.proofs.Places.{wordsAt};
+ghost use Rattle.format.specs.Inner.Places.{wordsAt};
 ghost use Rattle.decision.specs.Sets.{setOf};
-ghost use Rattle.decide.specs.Walks.{groupsIn, Placed, keyOf, Firsts, nameOf, NamesKept};
+ghost use Rattle.decide.specs.Ready.{Placed};
+ghost use Rattle.decide.specs.Inner.Spans.{groupsIn};
+ghost use Rattle.decide.specs.Inner.Names.{keyOf, Firsts, nameOf, NamesKept};
 
 fn one_less(n: usize) -> usize
     ensures { λ r. ⌜ r ≡ n - 1 ⌝ }

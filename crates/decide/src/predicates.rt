@@ -12,10 +12,14 @@ ghost use lib.ListN.{length, getD};
 ghost use Rattle.format.specs.declared.Section.the-variants.{Rules};
 ghost use Rattle.format.specs.Policy.{recordAt, startOf};
 ghost use Rattle.format.specs.Check.{check};
-ghost use Rattle.format.proofs.Places.{RuleAt};
+ghost use Rattle.format.specs.Inner.Places.{RuleAt};
 ghost use Rattle.decision.specs.Sets.{anyOf};
 ghost use Rattle.decision.specs.Decide.{ruleOf};
-ghost use Rattle.decide.specs.Walks.{groupsIn, rulesIn, Placed, Kept, anyMarked, allMarked, liveAt, strays, friend};
+ghost use Rattle.decide.specs.Ready.{Placed};
+ghost use Rattle.decide.specs.Inner.Spans.{groupsIn};
+ghost use Rattle.decide.specs.Inner.Marks.{anyMarked, allMarked};
+ghost use Rattle.decide.specs.Inner.Kept.{Kept};
+ghost use Rattle.decide.specs.Inner.Rules.{rulesIn, liveAt, strays, friend};
 
 // Whether the rule at a place is an allow rule that is on.
 pub(crate) fn on(image: &[u8], at: usize) -> bool

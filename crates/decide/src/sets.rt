@@ -11,9 +11,11 @@ ghost use Rattle.format.specs.Bytes.{wordAt};
 ghost use Rattle.format.specs.Format.{countOf};
 ghost use Rattle.format.specs.Check.{check};
 ghost use Rattle.format.specs.Claims.{IsType};
-ghost use Rattle.format.proofs.Places.{wordsAt};
+ghost use Rattle.format.specs.Inner.Places.{wordsAt};
 ghost use Rattle.decision.specs.Sets.{setOf, unionOf};
-ghost use Rattle.decide.specs.Walks.{groupsIn, Placed, markAll};
+ghost use Rattle.decide.specs.Ready.{Placed};
+ghost use Rattle.decide.specs.Inner.Spans.{groupsIn};
+ghost use Rattle.decide.specs.Inner.Marks.{markAll};
 
 // Marks the basic types of a type, and tells how many they are.
 pub(crate) fn mark_type(

@@ -11,7 +11,8 @@ ghost use Rattle.format.specs.Format.{countOf};
 ghost use Rattle.format.specs.Check.{check};
 ghost use Rattle.format.specs.Claims.{IsType};
 ghost use Rattle.decision.specs.Sets.{setOf};
-ghost use Rattle.decide.specs.Walks.{groupsIn, Placed, Places, Spans};
+ghost use Rattle.decide.specs.Ready.{Placed};
+ghost use Rattle.decide.specs.Inner.Spans.{groupsIn, Places, Spans};
 
 // A part of the image that holds basic types, so many from a place on.
 pub(crate) struct Span {

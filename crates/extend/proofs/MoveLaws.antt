@@ -8,8 +8,8 @@ use native.Mathlib.Omega.{arith}
 use native.Mathlib.Numerals.{add-one}
 use lib.ListN.{length, getD, take, drop, set, take-append-drop, List·getD-append}
 use lib.Seq.{slice, slice-empty, slice-cons, take-suc, append-snoc, set-at, drop-at, getD-take, length-take-le, take-append-le, take-take, take-length}
-use Rattle.extension.specs.Splice.{putWordAt, spliced, inserted}
-use Rattle.extend.specs.Moves.{movedUp, pasted}
+use Rattle.extension.specs.Inner.Splice.{putWordAt, spliced, inserted}
+use Rattle.extend.specs.Inner.Moves.{movedUp, pasted}
 
 pub up-none : (l : List ℕ) (to by : ℕ) → l ≡ movedUp l to to by
 unfolding movedUp

@@ -25,10 +25,10 @@ use Rattle.format.proofs.Records.{place-least}
 use Rattle.format.proofs.Front.{front-accepted, front-length}
 use Rattle.format.proofs.Images.{longest-image}
 use Rattle.extension.specs.Add.{sectionOf, fieldFault, newNumber, ownFault, addFault}
-use Rattle.extension.specs.Splice.{endOfSection}
+use Rattle.extension.specs.Inner.Splice.{endOfSection}
 use Rattle.extension.proofs.Adds.{section-of, own-passes, passes-own}
-use Rattle.extend.specs.Plans.{slotAt, slotOf}
-use Rattle.extend.specs.Moves.{Fits}
+use Rattle.extend.specs.Inner.Plans.{slotAt, slotOf}
+use Rattle.extend.specs.Inner.Moves.{Fits}
 
 -- ---- refusal 10
 

@@ -17,7 +17,7 @@ ghost use Rattle.format.specs.Format.{countPlace, countOf, limitOf, kindIn};
 ghost use Rattle.format.specs.Check.{imageIn, checkFront};
 ghost use Rattle.format.specs.Answers.{outcome, starts};
 ghost use Rattle.extension.specs.Add.{ownFault, addFault};
-ghost use Rattle.extend.specs.Plans.{planOutcome, slotAt, slotOf};
+ghost use Rattle.extend.specs.Inner.Plans.{planOutcome, slotAt, slotOf};
 
 // The place that a record goes to, the image's size, and the place and the value of its section's count.
 pub(crate) struct Slot {

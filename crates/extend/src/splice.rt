@@ -4,8 +4,8 @@ use crate::word::put_word;
 ghost use mathlib.Core.Path.{_≡_};
 ghost use Prim.Native.Nat.{_+_, _≤_, _<_};
 ghost use lib.ListN.{length};
-ghost use Rattle.extension.specs.Splice.{inserted};
-ghost use Rattle.extend.specs.Moves.{movedUp, pasted, Fits};
+ghost use Rattle.extension.specs.Inner.Splice.{inserted};
+ghost use Rattle.extend.specs.Inner.Moves.{movedUp, pasted, Fits};
 
 // The bytes of from..to go up by so many places, the last first.
 fn shift_up(buffer: &mut [u8], from: usize, to: usize, by: usize)

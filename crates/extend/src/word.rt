@@ -3,7 +3,7 @@ ghost use mathlib.Core.Path.{_≡_};
 ghost use Prim.Native.Nat.{_+_, _<_, _%_};
 ghost use lib.ListN.{length};
 ghost use Rattle.format.specs.Bytes.{wordAt};
-ghost use Rattle.extension.specs.Splice.{putWordAt};
+ghost use Rattle.extension.specs.Inner.Splice.{putWordAt};
 
 pub(crate) fn wide(x: u8) -> usize
     ensures { λ r. ⌜ (r ≡ x) × (r < 256) ⌝ }

@@ -31,7 +31,7 @@ use Rattle.format.proofs.Fields.{formed-more}
 use Rattle.format.proofs.Images.{Sound, policy-sound, image-of-policy, policy-of-image, image-accepted, image-bytes, image-length, image-count}
 use Rattle.format.proofs.Front.{front-accepted, front-length, front-count, front-split, front-bytes, front-of, image-in-of, front-of-length, front-of-count}
 use Rattle.extension.specs.Add.{sectionOf, withRecord, fieldFault, newNumber, ownFault, addFault, newImage, overwrite, bufferAfter}
-use Rattle.extension.specs.Splice.{inserted, endOfSection}
+use Rattle.extension.specs.Inner.Splice.{inserted, endOfSection}
 use Rattle.extension.specs.Claims.{AddedAccepted, GroupsKept}
 use Rattle.extension.proofs.Splices.{before, section-end, length-with, inserted-image}
 

@@ -15,7 +15,7 @@ use Rattle.format.specs.Format.{countPlace}
 use Rattle.format.specs.Policy.{Policy, recordsOf, bodyOf, imageOf}
 use Rattle.format.proofs.Images.{Sound, image-length, start-rules, start-constraints}
 use Rattle.extension.specs.Add.{withRecord}
-use Rattle.extension.specs.Splice.{putWordAt, spliced, inserted, endOfSection}
+use Rattle.extension.specs.Inner.Splice.{putWordAt, spliced, inserted, endOfSection}
 
 unfoldable pub before : Section → Policy → List ℕ
 before Groups p = flatten (p .groups)

@@ -1,3 +1,3 @@
 pub mod Add
-pub mod Splice
 pub mod Claims
+pub mod Inner

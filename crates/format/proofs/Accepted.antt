@@ -31,7 +31,8 @@ use Rattle.format.specs.Give.{giveFault, givenRecord}
 use Rattle.format.specs.Claims.{GivenAt, RecordsGiven, givenFrom, AllGiven, NoneGiven, EmptyTells}
 use Rattle.format.proofs.Tests.{both, and-true}
 use Rattle.format.proofs.Chain.{orElse-split, orElse-none, orElse-next, need-true, need-none, need-some}
-use Rattle.format.proofs.Shapes.{Formed, Stands, stands, record-part}
+use Rattle.format.specs.Inner.Places.{Stands}
+use Rattle.format.proofs.Shapes.{Formed, stands, record-part}
 use Rattle.format.proofs.Records.{place-snoc, records-length, records-nth, section-formed, section-rest}
 
 pub record Header (fits : ℕ → ℕ → Bool) (l : List ℕ) : Type 0 where

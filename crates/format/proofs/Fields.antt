@@ -1,6 +1,5 @@
 -- The check's tests of a record, and the same in plain numbers (`IsRecord`), both ways. Assumes nothing.
 --     type-is, is-type          isType and IsType
---     Rising low ms             basic types, strictly rising, the first at least low
 --     members-rising, rising-members    badMember finds none in such a list, and in no other
 --     formed-is, is-formed      Formed and IsRecord
 --     field-inside              a bad field lies within its record
@@ -20,6 +19,7 @@ use Rattle.format.specs.declared.Section.the-variants.{Groups, Rules, Co
 use Rattle.format.specs.Bytes.{wordAt, words}
 use Rattle.format.specs.Refusals.{need, _orElse_}
 use Rattle.format.specs.Format.{kindIn, lengthOk, isType, isCondition, listOk, shapeOk, badMember, badType, badGroup, badAllow, badTransition, badConstraint, badField}
+use Rattle.format.specs.Inner.Places.{Rising}
 use Rattle.format.specs.Claims.{IsType, IsGroup, IsAllow, IsTransition, IsConstraint, IsRecord}
 use Rattle.format.proofs.Tests.{both, and-true, either, choose}
 use Rattle.format.proofs.Chain.{orElse-split, orElse-none, need-true, need-none}
@@ -57,10 +57,6 @@ module _ (g : ℕ) where
   hold-types at (t ∷ ts) h = orElse-none (need-none _ (h 0 (omega arith))) (hold-types (at + 2) ts (λ i k. h (suc i) (omega arith)))
 
 -- ---- members
-
-unfoldable pub Rising : ℕ → List ℕ → Type 0
-Rising low [] = Unit
-Rising low (m ∷ ms) = (low ≤ m) × (m < 1024) × Rising (suc m) ms
 
 pub members-rising : (at low : ℕ) (ms : List ℕ) → badMember at low ms ≡ none → Rising low ms
 unfolding badMember Rising

@@ -1,6 +1,4 @@
 -- What stands at the places of an accepted image, for code that reads there. Assumes nothing.
---     wordsAt l n at        n words from a place on
---     GroupAt, RuleAt, ConstraintAt   a group, a rule and a constraint at a place: where its fields lie and what they are
 --     group-at, rule-at, constraint-at   each record of an accepted image is so
 use Prim.Native.Nat.{ℕ, zero, suc, _+_, _-_, _*_, _/_, _%_, _≤_, _<_}
 use mathlib.Core.Path.{_≡_, refl, sym, subst, ap, _∙_}
@@ -18,13 +16,10 @@ use Rattle.format.specs.Policy.{recordAt, placeOf}
 use Rattle.format.specs.Check.{check}
 use Rattle.format.specs.Claims.{IsType, IsAllow, IsTransition, IsRecord}
 use Rattle.format.proofs.Bytes.{length-words, words-nth}
-use Rattle.format.proofs.Shapes.{Stands, stands-word}
-use Rattle.format.proofs.Fields.{Rising, steps-rising, formed-is}
+use Rattle.format.specs.Inner.Places.{Stands, wordsAt, GroupAt, RuleAt, ConstraintAt}
+use Rattle.format.proofs.Shapes.{stands-word}
+use Rattle.format.proofs.Fields.{steps-rising, formed-is}
 use Rattle.format.proofs.Accepted.{record-formed, record-stands}
-
-unfoldable pub wordsAt : List ℕ → ℕ → ℕ → List ℕ
-wordsAt l zero at = []
-wordsAt l (suc n) at = wordAt l at ∷ wordsAt l n (at + 2)
 
 pub words-at-length : (l : List ℕ) (n at : ℕ) → length (wordsAt l n at) ≡ n
 unfolding wordsAt
@@ -44,29 +39,6 @@ record-words l at k n r s e =
     ext-getD 0 (words (drop k r)) (wordsAt l n (at + k)) (m ∙ sym (words-at-length l n (at + k)))
     (λ i h. let j : i < n = omega arith in
     words-nth r k i h ∙ stands-word l at r (k + 2 * i) s (omega arith) ∙ ap (wordAt l) (omega arith) ∙ sym (words-at-nth l n (at + k) i j))
-
-pub record GroupAt (l : List ℕ) (at : ℕ) (r : List ℕ) : Type 0 where
-  pub here : Stands l at r
-  pub even : length r % 2 ≡ 0
-  pub members : words (drop 2 r) ≡ wordsAt l ((getD l at 0 - 2) / 2) (at + 2)
-  pub rising : Rising 0 (words (drop 2 r))
-
-pub record RuleAt (l : List ℕ) (at : ℕ) (r : List ℕ) : Type 0 where
-  pub here : Stands l at r
-  pub long : 8 ≤ length r
-  pub kind : ((getD l (at + 1) 0 ≡ 2) × (length r ≡ 11)) ⊎ (getD l (at + 1) 0 ≡ 3)
-  pub source : IsType (countOf l Groups) (wordAt l (at + 2))
-  pub dest : IsType (countOf l Groups) (wordAt l (at + 4))
-
-pub record ConstraintAt (l : List ℕ) (at : ℕ) (r : List ℕ) : Type 0 where
-  pub here : Stands l at r
-  pub long : 11 ≤ length r
-  pub first : IsType (countOf l Groups) (wordAt l (at + 6))
-  pub second : IsType (countOf l Groups) (wordAt l (at + 8))
-  pub predicate : getD l (at + 10) 0 ≤ 3
-  pub list : words (drop 11 r) ≡ wordsAt l ((getD l at 0 - 11) / 2) (at + 11)
-  pub types : (i : ℕ) → i < (getD l at 0 - 11) / 2 → IsType (countOf l Groups) (wordAt l (at + 11 + 2 * i))
-  pub odd : length r % 2 ≡ 1
 
 module _ (l : List ℕ) (e : check l ≡ none) (n : ℕ) where
   pub group-at : n < countOf l Groups → GroupAt l (placeOf l Groups n) (recordAt l (placeOf l Groups n))

@@ -1,7 +1,6 @@
 -- Laws of one record: its length by its kind, its bytes in the image, and what reading it says. Assumes nothing.
 --     Formed s g r        the record r passes the check's tests for a section, where there are g groups
 --     length-cases        the four kinds, with their lengths
---     Stands l at r       the record r lies in the image l at a place, byte by byte
 --     read-whole, whole-read   the reader finds a whole record where the record is formed, and nowhere else
 use Prim.Native.Nat.{ℕ, _+_, _-_, _%_, _≤_, _<_}
 use mathlib.Core.Path.{_≡_, refl, sym, ap, _∙_}
@@ -21,6 +20,7 @@ use Rattle.format.specs.Bytes.{wordAt}
 use Rattle.format.specs.Format.{kindIn, lengthOk, firstRecord, shapeOk, badField}
 use Rattle.format.specs.Policy.{recordAt}
 use Rattle.format.specs.Check.{readFields, readOf, readFault}
+use Rattle.format.specs.Inner.Places.{Stands}
 use Rattle.format.proofs.Tests.{both, choose, false-not-true}
 use Rattle.format.proofs.Chain.{some-not-none}
 
@@ -58,12 +58,6 @@ shape-length r e = eqb-true (length r) (getD r 0 0) (both (eqb (length r) (getD 
 pub shape-kind : (r : List ℕ) → shapeOk r ≡ true → lengthOk (getD r 1 0) (length r) ≡ true
 unfolding shapeOk
 shape-kind r e = both (eqb (length r) (getD r 0 0)) (lengthOk (getD r 1 0) (length r)) e .1
-
-pub record Stands (l : List ℕ) (at : ℕ) (r : List ℕ) : Type 0 where
-  pub size : length r ≡ getD l at 0
-  pub some : 4 ≤ length r
-  pub inside : at + length r ≤ length l
-  pub field : (i : ℕ) → i < length r → getD r i 0 ≡ getD l (at + i) 0
 
 pub stands : (l : List ℕ) (at : ℕ) → shapeOk (recordAt l at) ≡ true → Stands l at (recordAt l at)
 unfolding recordAt firstRecord

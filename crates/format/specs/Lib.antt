@@ -8,3 +8,4 @@ pub mod Answers
 pub mod Claims
 pub mod Longest
 pub mod Sample
+pub mod Inner

@@ -24,7 +24,7 @@ use Rattle.format.proofs.Records.{place-least}
 use Rattle.format.proofs.Accepted.{section-inside, record-stands, record-is, give-none, given-at}
 use Rattle.image.specs.declared.checker.Walked.{Walked}
 use Rattle.image.specs.declared.checker.Walked.the-variants.{To, Stop}
-use Rattle.image.specs.Walk.{walkedTo, walkOf, endsOf, startIn, Hops}
+use Rattle.image.specs.Inner.Walk.{walkedTo, walkOf, endsOf, startIn, Hops}
 
 walked-to : (f : Option Refusal) (at e : ℕ) → walkedTo f at ≡ To e → (f ≡ none) × (at ≡ e)
 walked-to none at e q = (refl, cc)

@@ -12,10 +12,11 @@ use Rattle.format.specs.Refusals.{refusal, _orElse_}
 use Rattle.format.specs.Format.{countOf}
 use Rattle.format.specs.Policy.{recordAt, placeAfter}
 use Rattle.format.specs.Check.{readOf, readFault, sectionFault}
-use Rattle.format.proofs.Shapes.{Stands, stands, read-whole, read-bad-field}
+use Rattle.format.specs.Inner.Places.{Stands}
+use Rattle.format.proofs.Shapes.{stands, read-whole, read-bad-field}
 use Rattle.format.proofs.Fields.{field-inside}
 use Rattle.image.specs.declared.checker.Walked.the-variants.{To, Stop}
-use Rattle.image.specs.Walk.{walkOf}
+use Rattle.image.specs.Inner.Walk.{walkOf}
 
 -- the part of a list from a place on, as a part of a slice is given
 pub part-from : (l : List ℕ) (at : ℕ) → take (length l - at) (drop at l) ≡ drop at l

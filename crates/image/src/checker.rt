@@ -13,7 +13,7 @@ ghost use lib.ListN.{length};
 ghost use lib.Dec.{eqb};
 ghost use Rattle.format.specs.Check.{headerFault, bodyFault, check};
 ghost use Rattle.format.specs.Answers.{outcome, refusalOf, sectionsOutcome, starts};
-ghost use Rattle.image.specs.Walk.{walkOf, endsOf};
+ghost use Rattle.image.specs.Inner.Walk.{walkOf, endsOf};
 ghost use Rattle.format.specs.Refusals.{refusal};
 ghost use mathlib.Core.Option.{some};
 

@@ -15,7 +15,7 @@ ghost use Rattle.format.specs.Format.{countOf};
 ghost use Rattle.format.specs.Policy.{placeAfter};
 ghost use Rattle.format.specs.Answers.{outcome, foundOutcome, extent};
 ghost use Rattle.format.specs.Give.{giveFault, Given};
-ghost use Rattle.image.specs.Walk.{startIn, Hops};
+ghost use Rattle.image.specs.Inner.Walk.{startIn, Hops};
 
 // How many records a section has.
 fn count_in(image: &[u8], section: Section) -> usize

@@ -8,9 +8,9 @@ use Rattle.format.specs.Refusals.{unlessRefused}
 use Rattle.format.specs.Answers.{gives}
 use Rattle.format.proofs.Chain.{outcome-gives, outcome-refused}
 use Rattle.extension.specs.Add.{newNumber, addFault, bufferAfter}
-use Rattle.extension.specs.Splice.{inserted}
+use Rattle.extension.specs.Inner.Splice.{inserted}
 use Rattle.extension.proofs.Adds.{buffer-inserted}
-use Rattle.extend.specs.Plans.{planOutcome, slotOf}
+use Rattle.extend.specs.Inner.Plans.{planOutcome, slotOf}
 use Rattle.extend.proofs.PlanLaws.{slot-fits}
 use borrow.Author.Needs.{needs}
 use Rattle.extend.proofs.add.Statement.{statement}

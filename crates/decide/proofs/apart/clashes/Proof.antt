@@ -5,7 +5,7 @@ use mathlib.Core.Bool.{false}
 use denote.Ref.{now}
 use lib.ListN.{getD}
 use borrow.Author.Tests.{not-true, not-false}
-use Rattle.decide.specs.Walks.{named}
+use Rattle.decide.specs.Inner.Names.{named}
 use Rattle.decide.proofs.PredicateLaws.{unwanted-dest, wanted-source}
 use Rattle.decide.proofs.NameLaws.{name-small}
 use Rattle.decide.proofs.apart.clashes.Statement.{statement}

@@ -10,8 +10,12 @@ use Rattle.format.specs.declared.Section.the-variants.{Rules}
 use Rattle.format.specs.Format.{countOf, countPlace}
 use Rattle.format.specs.Policy.{recordAt, placeOf}
 use Rattle.format.proofs.Accepted.{accepted-header, place-next}
-use Rattle.format.proofs.Places.{RuleAt, rule-at}
-use Rattle.decide.specs.Walks.{rulesIn, Kept, NamesKept, anyMarked, reachedOf, noNames}
+use Rattle.format.specs.Inner.Places.{RuleAt}
+use Rattle.format.proofs.Places.{rule-at}
+use Rattle.decide.specs.Inner.Marks.{anyMarked}
+use Rattle.decide.specs.Inner.Kept.{Kept}
+use Rattle.decide.specs.Inner.Rules.{rulesIn}
+use Rattle.decide.specs.Inner.Names.{NamesKept, reachedOf, noNames}
 use Rattle.decide.proofs.PredicateLaws.{kept-none, reaching-off, reaching-dest, live-length}
 use Rattle.decide.proofs.NameLaws.{name-small}
 use Rattle.decide.proofs.TableLaws.{reachedFrom, reached-start, reached-end, reached-near, reached-far}

@@ -3,8 +3,8 @@ use native.Mathlib.Omega.{arith}
 use Prim.Native.Nat.{suc, _+_, _-_, _*_, _≤_}
 use mathlib.Core.Path.{_≡_, refl, sym, _∙_}
 use lib.ListN.{length}
-use Rattle.format.proofs.Places.{wordsAt}
-use Rattle.decide.specs.Walks.{sameList}
+use Rattle.format.specs.Inner.Places.{wordsAt}
+use Rattle.decide.specs.Inner.Names.{sameList}
 use Rattle.decide.proofs.CompareLaws.{list-end, list-short, list-differ, list-next}
 use Rattle.decide.proofs.compare.same_members.Statement.{statement}
 use Rattle.decide.proofs.compare.same_members.Tie as tie

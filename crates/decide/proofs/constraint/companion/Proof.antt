@@ -6,7 +6,7 @@ use denote.Ref.{now}
 use Rattle.format.specs.Policy.{recordAt}
 use Rattle.format.specs.Claims.{IsType}
 use Rattle.decision.specs.Decide.{constraintOf}
-use Rattle.decide.specs.Walks.{groupsIn}
+use Rattle.decide.specs.Inner.Spans.{groupsIn}
 use Rattle.decide.proofs.ConstraintLaws.{marks-type, companion-is, first-is, second-is}
 use Rattle.decide.proofs.constraint.companion.Statement.{statement}
 use Rattle.decide.proofs.constraint.companion.Tie as tie

@@ -9,8 +9,12 @@ use Rattle.format.specs.declared.Section.the-variants.{Constraints}
 use Rattle.format.specs.Format.{countOf, countPlace}
 use Rattle.format.specs.Policy.{recordAt, placeOf}
 use Rattle.format.proofs.Accepted.{accepted-header, place-next}
-use Rattle.format.proofs.Places.{ConstraintAt, constraint-at}
-use Rattle.decide.specs.Walks.{Kept, NamesKept, fullyMarked, firstConstraint}
+use Rattle.format.specs.Inner.Places.{ConstraintAt}
+use Rattle.format.proofs.Places.{constraint-at}
+use Rattle.decide.specs.Inner.Marks.{fullyMarked}
+use Rattle.decide.specs.Inner.Kept.{Kept}
+use Rattle.decide.specs.Inner.Rules.{firstConstraint}
+use Rattle.decide.specs.Inner.Names.{NamesKept}
 use Rattle.decide.proofs.PredicateLaws.{kept-none}
 use Rattle.decide.proofs.NameLaws.{names-none}
 use Rattle.decide.proofs.ConstraintLaws.{fromConstraint, constraints-start, constraints-end, constraints-hit, constraints-next}

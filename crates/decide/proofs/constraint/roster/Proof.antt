@@ -7,7 +7,7 @@ use denote.Ref.{now}
 use Rattle.format.specs.Policy.{recordAt}
 use Rattle.format.specs.Claims.{IsType}
 use Rattle.decision.specs.Decide.{constraintOf}
-use Rattle.decide.specs.Walks.{groupsIn}
+use Rattle.decide.specs.Inner.Spans.{groupsIn}
 use Rattle.decide.proofs.MarkedLaws.{union-small}
 use Rattle.decide.proofs.ConstraintLaws.{marks-type, marks-small, roster-is, second-is, list-here, types-here}
 use Rattle.decide.proofs.constraint.roster.Statement.{statement}

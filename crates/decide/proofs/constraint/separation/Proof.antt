@@ -5,7 +5,7 @@ use denote.Ref.{now}
 use Rattle.format.specs.Policy.{recordAt}
 use Rattle.format.specs.Claims.{IsType}
 use Rattle.decision.specs.Decide.{constraintOf}
-use Rattle.decide.specs.Walks.{groupsIn}
+use Rattle.decide.specs.Inner.Spans.{groupsIn}
 use Rattle.decide.proofs.ConstraintLaws.{marks-type, separation-is, first-is, second-is}
 use Rattle.decide.proofs.constraint.separation.Statement.{statement}
 use Rattle.decide.proofs.constraint.separation.Tie as tie

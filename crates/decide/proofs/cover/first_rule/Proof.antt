@@ -12,12 +12,15 @@ use Rattle.format.specs.declared.Section.the-variants.{Rules}
 use Rattle.format.specs.Bytes.{wordAt}
 use Rattle.format.specs.Format.{countOf, countPlace}
 use Rattle.format.specs.Policy.{recordAt, placeOf}
-use Rattle.format.proofs.Fields.{Rising}
+use Rattle.format.specs.Inner.Places.{wordsAt, Rising, RuleAt}
 use Rattle.format.proofs.Accepted.{accepted-header, place-next}
-use Rattle.format.proofs.Places.{wordsAt, RuleAt, rule-at}
+use Rattle.format.proofs.Places.{rule-at}
 use Rattle.decision.specs.Sets.{setOf, within}
 use Rattle.decision.specs.Decide.{ruleOf, requestOf, covers}
-use Rattle.decide.specs.Walks.{groupsIn, tallied, fullyMarked, Kept, Skips, noSkips, firstRule}
+use Rattle.decide.specs.Inner.Spans.{groupsIn}
+use Rattle.decide.specs.Inner.Marks.{tallied, fullyMarked}
+use Rattle.decide.specs.Inner.Kept.{Kept, Skips, noSkips}
+use Rattle.decide.specs.Inner.Rules.{firstRule}
 use Rattle.decide.proofs.MarkLaws.{walk-small, walk-rest, tally-end, tally-yes, tally-no, hits-on, hits-off}
 use Rattle.decide.proofs.TypeLaws.{span-rising, span-told, set-rising}
 use Rattle.decide.proofs.SetLaws.{full-within, hits-full, hits-short}

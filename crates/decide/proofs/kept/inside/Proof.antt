@@ -2,7 +2,7 @@
 use native.Mathlib.Omega.{arith}
 use mathlib.Core.Path.{refl, sym, _∙_}
 use denote.Ref.{now}
-use Rattle.decide.specs.Walks.{fullyMarked}
+use Rattle.decide.specs.Inner.Marks.{fullyMarked}
 use Rattle.decide.proofs.TypeLaws.{few-groups, group-number, span-rising, span-told, kept-no, kept-yes, kept-more}
 use borrow.Author.Needs.{needs}
 use Rattle.decide.proofs.kept.inside.Statement.{statement}

@@ -3,10 +3,9 @@ use native.Mathlib.Omega.{arith}
 use Prim.Native.Nat.{suc, _+_, _-_, _*_, _≤_}
 use mathlib.Core.Path.{_≡_, refl, sym, _∙_}
 use lib.ListN.{length}
-use Rattle.format.proofs.Places.{wordsAt}
-use Rattle.format.proofs.Fields.{Rising}
+use Rattle.format.specs.Inner.Places.{wordsAt, Rising}
 use borrow.Author.Tests.{not-true, not-false}
-use Rattle.decide.specs.Walks.{allMarked}
+use Rattle.decide.specs.Inner.Marks.{allMarked}
 use Rattle.decide.proofs.MarkLaws.{walk-small, walk-rest, all-end, all-no, all-yes}
 use Rattle.decide.proofs.marks.all_marked.Statement.{statement}
 use Rattle.decide.proofs.marks.all_marked.Tie as tie

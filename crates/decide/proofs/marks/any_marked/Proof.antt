@@ -3,9 +3,8 @@ use native.Mathlib.Omega.{arith}
 use Prim.Native.Nat.{suc, _+_, _-_, _*_, _≤_}
 use mathlib.Core.Path.{_≡_, refl, sym, _∙_}
 use lib.ListN.{length}
-use Rattle.format.proofs.Places.{wordsAt}
-use Rattle.format.proofs.Fields.{Rising}
-use Rattle.decide.specs.Walks.{anyMarked}
+use Rattle.format.specs.Inner.Places.{wordsAt, Rising}
+use Rattle.decide.specs.Inner.Marks.{anyMarked}
 use Rattle.decide.proofs.MarkLaws.{walk-small, walk-rest, any-end, any-yes, any-no}
 use Rattle.decide.proofs.marks.any_marked.Statement.{statement}
 use Rattle.decide.proofs.marks.any_marked.Tie as tie

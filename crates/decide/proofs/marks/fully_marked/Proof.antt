@@ -3,12 +3,11 @@ use native.Mathlib.Omega.{arith}
 use Prim.Native.Nat.{suc, _+_, _-_, _*_, _≤_}
 use mathlib.Core.Path.{_≡_, ap}
 use lib.ListN.{length}
-use Rattle.format.proofs.Places.{wordsAt}
-use Rattle.format.proofs.Fields.{Rising}
+use Rattle.format.specs.Inner.Places.{wordsAt, Rising}
 use mathlib.Core.Logic.{⊎-elim}
 use lib.Dec.{eqb}
 use denote.Ref.{now}
-use Rattle.decide.specs.Walks.{tallied, fullyMarked}
+use Rattle.decide.specs.Inner.Marks.{tallied, fullyMarked}
 use Rattle.decide.proofs.MarkLaws.{walk-small, walk-rest, tally-end, tally-yes, tally-no, hits-on, hits-off}
 use Rattle.decide.proofs.marks.fully_marked.Statement.{statement}
 use Rattle.decide.proofs.marks.fully_marked.Tie as tie

@@ -3,9 +3,8 @@ use native.Mathlib.Omega.{arith}
 use Prim.Native.Nat.{suc, _+_, _-_, _*_, _≤_}
 use mathlib.Core.Path.{_≡_, refl, sym, _∙_}
 use lib.ListN.{length}
-use Rattle.format.proofs.Places.{wordsAt}
-use Rattle.format.proofs.Fields.{Rising}
-use Rattle.decide.specs.Walks.{markAll}
+use Rattle.format.specs.Inner.Places.{wordsAt, Rising}
+use Rattle.decide.specs.Inner.Marks.{markAll}
 use Rattle.decide.proofs.MarkLaws.{walk-small, walk-rest, mark-end, mark-next}
 use lib.ListN.{length-set}
 use Rattle.decide.proofs.marks.mark.Statement.{statement}

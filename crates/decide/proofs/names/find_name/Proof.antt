@@ -8,7 +8,8 @@ use lib.ListN.{getD}
 use Rattle.format.specs.declared.Section.the-variants.{Groups}
 use Rattle.format.specs.Format.{countOf}
 use Rattle.decision.specs.Sets.{setOf}
-use Rattle.decide.specs.Walks.{groupsIn, sameList, twinFrom, keyOf, nameOf}
+use Rattle.decide.specs.Inner.Spans.{groupsIn}
+use Rattle.decide.specs.Inner.Names.{sameList, twinFrom, keyOf, nameOf}
 use Rattle.decide.proofs.TypeLaws.{few-groups}
 use Rattle.decide.proofs.CompareLaws.{same-both}
 use Rattle.decide.proofs.NameLaws.{span-one, span-length, key-small, name-single, name-group, twin-hit, twin-next, twin-start, twin-itself}

@@ -8,7 +8,8 @@ use Rattle.format.specs.declared.Section.the-variants.{Groups}
 use Rattle.format.specs.Format.{countOf, countPlace}
 use Rattle.format.proofs.Accepted.{accepted-header}
 use Rattle.decision.specs.Sets.{setOf}
-use Rattle.decide.specs.Walks.{groupsIn, keyOf}
+use Rattle.decide.specs.Inner.Spans.{groupsIn}
+use Rattle.decide.specs.Inner.Names.{keyOf}
 use Rattle.decide.proofs.TypeLaws.{few-groups}
 use Rattle.decide.proofs.NameLaws.{span-length, key-small, firsts-more}
 use Rattle.decide.proofs.names.first_groups.Statement.{statement}

@@ -6,7 +6,8 @@ use denote.Ref.{now}
 use Prim.Native.Nat.{_-_, _<_}
 use Rattle.format.specs.Bytes.{wordAt}
 use Rattle.decision.specs.Sets.{setOf}
-use Rattle.decide.specs.Walks.{groupsIn, nameOf}
+use Rattle.decide.specs.Inner.Spans.{groupsIn}
+use Rattle.decide.specs.Inner.Names.{nameOf}
 use Rattle.decide.proofs.TypeLaws.{few-groups, group-number}
 use Rattle.decide.proofs.NameLaws.{name-small, name-basic, name-number, names-tell, names-more}
 use Rattle.decide.proofs.names.name.Statement.{statement}

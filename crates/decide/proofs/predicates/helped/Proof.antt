@@ -11,10 +11,14 @@ use Rattle.format.specs.declared.Section.the-variants.{Rules}
 use Rattle.format.specs.Format.{countOf, countPlace}
 use Rattle.format.specs.Policy.{recordAt, placeOf}
 use Rattle.format.proofs.Accepted.{accepted-header, place-next}
-use Rattle.format.proofs.Places.{RuleAt, rule-at}
+use Rattle.format.specs.Inner.Places.{RuleAt}
+use Rattle.format.proofs.Places.{rule-at}
 use Rattle.decision.specs.Sets.{anyOf}
 use Rattle.decision.specs.Decide.{ruleOf}
-use Rattle.decide.specs.Walks.{groupsIn, rulesIn, Kept, anyMarked, friend}
+use Rattle.decide.specs.Inner.Spans.{groupsIn}
+use Rattle.decide.specs.Inner.Marks.{anyMarked}
+use Rattle.decide.specs.Inner.Kept.{Kept}
+use Rattle.decide.specs.Inner.Rules.{rulesIn, friend}
 use Rattle.decide.proofs.PredicateLaws.{kept-none, unwanted-off, live-length, anyFrom, any-rules-start, any-rules-end, any-rules-hit, any-rules-next}
 use Rattle.decide.proofs.predicates.helped.Statement.{statement}
 use Rattle.decide.proofs.predicates.helped.Tie as tie

@@ -3,7 +3,7 @@ use native.Mathlib.Omega.{arith}
 use mathlib.Core.Path.{sym, _∙_}
 use denote.Ref.{now}
 use borrow.Author.Tests.{not-true, not-false}
-use Rattle.decide.specs.Walks.{anyMarked}
+use Rattle.decide.specs.Inner.Marks.{anyMarked}
 use Rattle.decide.proofs.PredicateLaws.{unwanted-dest, wanted-source}
 use Rattle.decide.proofs.predicates.helps.Statement.{statement}
 use Rattle.decide.proofs.predicates.helps.Tie as tie

@@ -4,7 +4,7 @@ use mathlib.Core.Path.{sym, ap, _∙_}
 use mathlib.Core.Bool.{not}
 use denote.Ref.{now}
 use borrow.Author.Tests.{not-true, not-false}
-use Rattle.decide.specs.Walks.{allMarked}
+use Rattle.decide.specs.Inner.Marks.{allMarked}
 use Rattle.decide.proofs.PredicateLaws.{unwanted-dest, wanted-source}
 use Rattle.decide.proofs.predicates.stray.Statement.{statement}
 use Rattle.decide.proofs.predicates.stray.Tie as tie

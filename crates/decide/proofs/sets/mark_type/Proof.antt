@@ -1,7 +1,7 @@
 -- `mark_type` meets its contract: a basic type is its own set, and a group is marked where it lies. Assumes nothing.
 use native.Mathlib.Omega.{arith}
 use mathlib.Core.Path.{sym, ap, _∙_}
-use Rattle.decide.specs.Walks.{markAll}
+use Rattle.decide.specs.Inner.Marks.{markAll}
 use Rattle.decide.proofs.TypeLaws.{few-groups, type-basic, type-number, type-here, type-span, span-rising}
 use Rattle.decide.proofs.MarkedLaws.{mark-basic, size-basic, span-size}
 use borrow.Author.Needs.{needs}

@@ -8,9 +8,10 @@ use Rattle.format.specs.declared.Section.the-variants.{Groups}
 use Rattle.format.specs.Bytes.{wordAt}
 use Rattle.format.specs.Format.{countOf}
 use Rattle.format.specs.Claims.{IsType}
-use Rattle.format.proofs.Places.{wordsAt}
+use Rattle.format.specs.Inner.Places.{wordsAt}
 use Rattle.decision.specs.Sets.{setOf, unionOf}
-use Rattle.decide.specs.Walks.{groupsIn, markAll}
+use Rattle.decide.specs.Inner.Spans.{groupsIn}
+use Rattle.decide.specs.Inner.Marks.{markAll}
 use Rattle.decide.proofs.MarkedLaws.{union-end, union-next, types-next}
 use Rattle.decide.proofs.sets.mark_types.Statement.{statement}
 use Rattle.decide.proofs.sets.mark_types.Tie as tie

@@ -9,7 +9,7 @@ use Rattle.format.specs.declared.Section.the-variants.{Groups}
 use Rattle.format.specs.Format.{countOf, countPlace}
 use Rattle.format.specs.Policy.{placeOf, recordAt}
 use Rattle.format.proofs.Accepted.{accepted-header, record-stands, place-next}
-use Rattle.format.proofs.Shapes.{Stands}
+use Rattle.format.specs.Inner.Places.{Stands}
 use Rattle.decide.proofs.ArrayLaws.{blank}
 use Rattle.decide.proofs.TypeLaws.{few-groups, first-place, placed-more, placed-past, places-all}
 use Rattle.decide.proofs.types.place_groups.Statement.{statement}

@@ -6,7 +6,7 @@ use Rattle.format.specs.Check.{imageIn, checkFront}
 use Rattle.format.specs.Answers.{sectionsOutcome, outcome, starts}
 use Rattle.format.proofs.Chain.{outcome-gives, outcome-refused, orElse-first, orElse-next}
 use Rattle.extension.specs.Add.{ownFault, addFault}
-use Rattle.extend.specs.Plans.{slotOf}
+use Rattle.extend.specs.Inner.Plans.{slotOf}
 use borrow.Author.Needs.{needs}
 use Rattle.extend.proofs.plan.planned.Statement.{statement}
 use Rattle.extend.proofs.plan.planned.Tie as tie

@@ -7,7 +7,7 @@ use native.Mathlib.Numerals.{add-one}
 use denote.Ref.{now}
 use lib.ListN.{length, length-set}
 use lib.Seq.{paste, paste-zero, paste-suc}
-use Rattle.extend.specs.Moves.{pasted}
+use Rattle.extend.specs.Inner.Moves.{pasted}
 use Rattle.extend.proofs.splice.copy_in.Statement.{statement}
 use Rattle.extend.proofs.splice.copy_in.Tie as tie
 

@@ -4,7 +4,7 @@ use Prim.Native.Nat.{ℕ, _≤_}
 use mathlib.Core.Path.{_≡_, refl, ap, _∙_}
 use denote.Ref.{now}
 use lib.ListN.{length, length-set}
-use Rattle.extend.specs.Moves.{movedUp}
+use Rattle.extend.specs.Inner.Moves.{movedUp}
 use Rattle.extend.proofs.MoveLaws.{up-none, up-turn}
 use Rattle.extend.proofs.splice.shift_up.Statement.{statement}
 use Rattle.extend.proofs.splice.shift_up.Tie as tie

@@ -2,7 +2,7 @@
 use native.Mathlib.Omega.{arith}
 use Prim.Native.Nat.{_/_, _%_}
 use mathlib.Core.Path.{_≡_}
-use Rattle.extension.specs.Splice.{putWordAt}
+use Rattle.extension.specs.Inner.Splice.{putWordAt}
 use borrow.Author.Needs.{needs}
 use Rattle.extend.proofs.word.put_word.Statement.{statement}
 use Rattle.extend.proofs.word.put_word.Tie as tie

@@ -6,7 +6,7 @@ use Rattle.format.specs.declared.Section.the-variants.{Groups, Rules, Constrain
 use Rattle.format.specs.Format.{countOf, countPlace}
 use Rattle.image.specs.declared.checker.Walked.{Walked}
 use Rattle.image.specs.declared.checker.Walked.the-variants.{To}
-use Rattle.image.specs.Walk.{walkOf}
+use Rattle.image.specs.Inner.Walk.{walkOf}
 use Rattle.image.proofs.BodyLaws.{walk-inside, groups-stop, rules-stop, constraints-stop, body-ends}
 use borrow.Author.Needs.{needs}
 use Rattle.image.proofs.checker.check_body.Statement.{statement}

@@ -4,7 +4,7 @@ use denote.Ref.{now}
 use lib.ListN.{length}
 use borrow.Author.Tests.{le-leb, lt-leb}
 use Rattle.format.specs.Refusals.{need}
-use Rattle.image.specs.Walk.{endsOf}
+use Rattle.image.specs.Inner.Walk.{endsOf}
 use Rattle.image.proofs.checker.check_end.Statement.{statement}
 use Rattle.image.proofs.checker.check_end.Tie as tie
 

@@ -8,7 +8,7 @@ use lib.ListN.{length, drop}
 use Rattle.format.specs.declared.Section.the-variants.{Groups}
 use Rattle.format.specs.Format.{countOf, countPlace}
 use Rattle.format.specs.Check.{readOf}
-use Rattle.image.specs.Walk.{walkOf}
+use Rattle.image.specs.Inner.Walk.{walkOf}
 use Rattle.image.proofs.WalkLaws.{part-from, whole-inside, bad-inside, walk-end, walk-whole, walk-malformed, walk-field}
 use borrow.Author.Needs.{needs}
 use Rattle.image.proofs.checker.walk.Statement.{statement}

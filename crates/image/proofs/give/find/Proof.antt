@@ -10,7 +10,7 @@ use Rattle.format.specs.Check.{check}
 use Rattle.format.specs.Answers.{sectionsOutcome, starts}
 use Rattle.format.proofs.Chain.{outcome-gives, outcome-refused}
 use Rattle.format.proofs.Accepted.{accepted-header}
-use Rattle.image.specs.Walk.{startIn}
+use Rattle.image.specs.Inner.Walk.{startIn}
 use Rattle.image.proofs.BodyLaws.{start-in, give-refused, give-past, place-byte, extent-is, hops}
 use borrow.Author.Needs.{needs}
 use Rattle.image.proofs.give.find.Statement.{statement}

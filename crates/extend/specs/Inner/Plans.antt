@@ -11,7 +11,7 @@ use Rattle.format.specs.Format.{countPlace, countOf}
 use Rattle.format.specs.Check.{imageIn}
 use Rattle.format.specs.Answers.{Outcome, refused, gives}
 use Rattle.extension.specs.Add.{sectionOf}
-use Rattle.extension.specs.Splice.{endOfSection}
+use Rattle.extension.specs.Inner.Splice.{endOfSection}
 use Rattle.extend.specs.declared.plan.Slot.{Slot}
 use Rattle.extend.specs.declared.plan.Plan.{Plan}
 use Rattle.extend.specs.declared.plan.Plan.the-variants.{Put, Refused}

@@ -1,0 +1,36 @@
+-- Sets as marks, one for each basic type.
+--     markAll ms xs         marks with those of a list
+--     anyMarked, allMarked  some element of a list is marked, and each is
+--     tallied ms xs         how many elements are marked
+--     fullyMarked ms n xs   n are
+--     Marked S ms size      marks and size of a set
+use Prim.Native.Nat.{ℕ, _+_, _<_}
+use mathlib.Core.Path.{_≡_}
+use mathlib.Core.Bool.{Bool, true, false, cond}
+use mathlib.Core.List.{List, [], _∷_}
+use lib.ListN.{length, getD, set}
+use lib.Dec.{eqb}
+use Rattle.format.specs.Inner.Places.{Rising}
+use Rattle.decision.specs.Sets.{anyOf, allOf, isIn}
+
+unfoldable pub markAll : List Bool → List ℕ → List Bool
+markAll ms [] = ms
+markAll ms (x ∷ xs) = markAll (set ms x true) xs
+
+unfoldable pub anyMarked : List Bool → List ℕ → Bool
+anyMarked ms xs = anyOf (λ x. getD ms x false) xs
+
+unfoldable pub allMarked : List Bool → List ℕ → Bool
+allMarked ms xs = allOf (λ x. getD ms x false) xs
+
+unfoldable pub tallied : List Bool → List ℕ → ℕ
+tallied ms [] = 0
+tallied ms (x ∷ xs) = cond (getD ms x false) 1 0 + tallied ms xs
+
+unfoldable pub fullyMarked : List Bool → ℕ → List ℕ → Bool
+fullyMarked ms size xs = eqb (tallied ms xs) size
+
+pub record Marked (S : List ℕ) (ms : List Bool) (size : ℕ) : Type 0 where
+  pub is : (m : ℕ) → m < 1024 → getD ms m false ≡ isIn m S
+  pub many : size ≡ length S
+  pub rising : Rising 0 S

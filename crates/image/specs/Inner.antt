@@ -1,0 +1,2 @@
+-- Definitions that only proofs, laws and the contracts of private functions use; no claim rests on them.
+pub mod Walk
