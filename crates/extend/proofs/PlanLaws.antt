@@ -2,11 +2,10 @@
 use Prim.Native.Nat.{ℕ, _+_, _-_, _≤_, _<_}
 use mathlib.Core.Path.{_≡_, refl, sym, ap, _∙_}
 use mathlib.Core.Bool.{Bool, true, false}
-use mathlib.Core.Option.{Option, none, some}
+use mathlib.Core.Option.{none, some}
 use mathlib.Core.List.{List}
 use native.Mathlib.Omega.{arith}
-use lib.ListN.{length, getD, take}
-use lib.Seq.{take-length}
+use lib.ListN.{length, getD}
 use borrow.Author.Tests.{le-ltb, lt-ltb, lt-leb}
 use Rattle.format.specs.declared.Section.{Section}
 use Rattle.format.specs.declared.Section.the-variants.{Groups, Rules, Constraints}
@@ -14,14 +13,13 @@ use Rattle.format.specs.declared.Read.the-variants.{Whole, Malformed, BadField}
 use Rattle.format.specs.declared.Starts.{Starts}
 use Rattle.format.specs.Bytes.{Bytes, wordAt}
 use Rattle.format.specs.Refusals.{refusal, _orElse_}
-use Rattle.format.specs.Format.{limitOf, countPlace, countOf, kindIn, firstRecord, shapeOk, badField}
-use Rattle.format.specs.Policy.{startOf}
-use Rattle.format.specs.Check.{readFields, readOf, check, imageIn, checkFront}
+use Rattle.format.specs.Format.{limitOf, countPlace, countOf, kindIn, firstRecord, shapeOk}
+use Rattle.format.specs.Check.{readOf, check, imageIn, checkFront}
 use Rattle.format.specs.Answers.{gives, outcome, starts}
 use Rattle.format.proofs.Chain.{orElse-split, orElse-next, orElse-first, need-none, need-some}
-use Rattle.format.proofs.Shapes.{Formed, length-least, length-cases, shape-length, shape-kind, read-whole, read-bad-field}
-use Rattle.format.proofs.Accepted.{accepted-header, accepted-body, start-inside}
-use Rattle.format.proofs.Records.{place-least}
+use Rattle.format.proofs.Shapes.{Formed, length-least, length-cases, shape-length, shape-kind, first-whole, read-whole, read-bad-field, read-malformed}
+use Rattle.format.proofs.ByCase.{limit-most, count-place-most}
+use Rattle.format.proofs.Accepted.{accepted-header, accepted-body, start-inside, start-least}
 use Rattle.format.proofs.Front.{front-accepted, front-length}
 use Rattle.format.proofs.Images.{longest-image}
 use Rattle.extension.specs.Add.{sectionOf, fieldFault, newNumber, ownFault, addFault}
@@ -56,21 +54,13 @@ module _ (b r : List ℕ) where
 
 module _ (b r : List ℕ) (s : Section) (size : getD r 0 0 ≡ length r) (kind : kindIn s (getD r 1 0) ≡ true) where
   whole-first : firstRecord r ≡ r
-  unfolding firstRecord
-  whole-first = ap (λ (n : ℕ). take n r) size ∙ take-length r
+  whole-first = first-whole r size
 
   is-section : sectionOf (getD r 1 0) ≡ s
   is-section = section-of s (getD r 1 0) kind
 
-  no-malformed : (f : Option ℕ) (n : ℕ) → readFields f n ≡ Malformed → ⊥
-  unfolding readFields
-  no-malformed none n e = (let z : _≡_ {A = ℕ} 0 1 = cc in omega arith)
-  no-malformed (some i) n e = (let z : _≡_ {A = ℕ} 0 1 = cc in omega arith)
-
   pub own-malformed : readOf s (countOf b Groups) r ≡ Malformed → ownFault b r ≡ some (refusal 10 0)
-  unfolding readOf
-  own-malformed e =
-      own-shape b r (λ h. no-malformed (badField (countOf b Groups) r) (length r) (simp (h, kind) at (rw whole-first at e)))
+  own-malformed e = own-shape b r (λ h. read-malformed s (countOf b Groups) r e (rw whole-first h) (rw whole-first kind))
 
   pub own-field : (i : ℕ) → readOf s (countOf b Groups) r ≡ BadField i → ownFault b r ≡ some (refusal 11 i)
   unfolding ownFault fieldFault
@@ -129,25 +119,10 @@ module _ (l : List ℕ) (e : check l ≡ none) where
   end-inside Constraints = omega arith
 
   end-least : (s : Section) → 9 ≤ endOfSection l s
-  unfolding endOfSection startOf
-  end-least Groups = place-least l 9 (countOf l Groups)
-  end-least Rules =
-      let a = place-least l 9 (countOf l Groups) in
-      let b = place-least l (startOf l Rules) (countOf l Rules) in
-      omega arith
+  unfolding endOfSection
+  end-least Groups = start-least l Rules
+  end-least Rules = start-least l Constraints
   end-least Constraints = accepted-header l e .long
-
-limit-most : (s : Section) → limitOf s ≤ 1024
-unfolding limitOf
-limit-most Groups = omega arith
-limit-most Rules = omega arith
-limit-most Constraints = omega arith
-
-place-most : (s : Section) → countPlace s ≤ 7
-unfolding countPlace
-place-most Groups = omega arith
-place-most Rules = omega arith
-place-most Constraints = omega arith
 
 pub slot-fits : (b r : List ℕ) → Bytes r → addFault b r ≡ none → Fits b r (slotOf b r)
 unfolding addFault slotOf
@@ -162,7 +137,7 @@ slot-fits b r bytes e =
       within = omega (arith, end-inside (imageIn b) ok s);
       room = own .room;
       size = omega (arith, longest-image (imageIn b) ok, shape-length r (own .formed .shape), bytes 0);
-      field = place-most s;
+      field = count-place-most s;
       count = omega (arith, own .few, limit-most s);
     }
 

@@ -1,13 +1,16 @@
 -- Laws of adding. Assumes nothing.
 --     section-of           the section that a formed record is of
 --     OwnPasses            what it says that none of the call's own causes applies
+--     own-refused, add-refused   a refusal's number and place, and whose it is
+--     number-few           the new record's number is below its section's limit
+--     buffer-refused       a refused call leaves the buffer
 --     with-sound           a sound policy with one formed record more is sound
 --     add-image            adding to an image with bytes behind it
 --     buffer-inserted      the buffer after adding, as the bytes are moved and written
 --     added-accepted, groups-kept   claims AddedAccepted and GroupsKept
 use Prim.Native.Nat.{ℕ, _+_, _-_, _≤_, _<_}
 use mathlib.Core.Path.{_≡_, refl, sym, subst, ap, _∙_}
-use mathlib.Core.Logic.{⊎-elim}
+use mathlib.Core.Logic.{_⊎_, inl, inr, ⊎-elim}
 use mathlib.Core.Bool.{true}
 use mathlib.Core.Option.{Option, none, some}
 use mathlib.Core.List.{List, [], _∷_, _++_, List·Memᴰ, List·Memᴰ·append-cases, List·Memᴰ·eq-of-singleton}
@@ -15,19 +18,20 @@ use native.Mathlib.Omega.{arith}
 use lib.ListN.{length, getD, drop, length-append, List·getD-append}
 use lib.Seq.{drop-append-add}
 use lib.Dec.{leb, ltb}
-use borrow.Author.Tests.{eqb-true, leb-true, ltb-true, ne-eqb, le-leb, lt-ltb}
+use borrow.Author.Tests.{leb-true, ltb-true, eq-eqb, ne-eqb, le-leb, lt-ltb}
 use Rattle.format.specs.declared.Section.{Section}
 use Rattle.format.specs.declared.Section.the-variants.{Groups, Rules, Constraints}
+use Rattle.format.specs.declared.Refusal.{Refusal}
 use Rattle.format.specs.Bytes.{Bytes, wordAt}
-use Rattle.format.specs.Refusals.{refusal, need, _orElse_, unlessRefused}
+use Rattle.format.specs.Refusals.{refusal, need, _orElse_}
 use Rattle.format.specs.Format.{limitOf, countPlace, countOf, kindIn, shapeOk, badField}
 use Rattle.format.specs.Policy.{Policy, recordsOf, imageOf, policyOf}
 use Rattle.format.specs.Check.{check, imageIn, checkFront}
-use Rattle.format.proofs.Tests.{both}
 use Rattle.format.proofs.Bytes.{bytes-append, bytes-drop}
-use Rattle.format.proofs.Chain.{orElse-split, orElse-none, need-true, need-none, some-not-none}
-use Rattle.format.proofs.Shapes.{Formed, length-cases, shape-kind}
-use Rattle.format.proofs.Fields.{formed-more}
+use Rattle.format.proofs.Chain.{orElse-split, orElse-none, need-true, need-none, some-not-none, orElse-refuses, need-refuses, unless-accepted, unless-refused}
+use Rattle.format.proofs.ByCase.{kind-groups, kind-rules, kind-constraints, groups-kind, rules-kind, constraints-kind, records-of-groups, records-of-rules, records-of-constraints}
+use Rattle.format.proofs.Shapes.{Formed, length-cases, shape-kind, shape-most}
+use Rattle.format.proofs.Fields.{formed-more, field-inside}
 use Rattle.format.proofs.Images.{Sound, policy-sound, image-of-policy, policy-of-image, image-accepted, image-bytes, image-length, image-count}
 use Rattle.format.proofs.Front.{front-accepted, front-length, front-count, front-split, front-bytes, front-of, image-in-of, front-of-length, front-of-count}
 use Rattle.extension.specs.Add.{sectionOf, withRecord, fieldFault, newNumber, ownFault, addFault, newImage, overwrite, bufferAfter}
@@ -38,20 +42,22 @@ use Rattle.extension.proofs.Splices.{before, section-end, length-with, 
 -- ---- the section of a record
 
 pub section-of : (s : Section) (k : ℕ) → kindIn s k ≡ true → sectionOf k ≡ s
-unfolding kindIn sectionOf
-section-of Groups k h = simp h
+unfolding sectionOf
+section-of Groups k h = simp (eq-eqb k 1 (groups-kind k h))
 section-of Rules k h =
-    let b = both (leb 2 k) (leb k 3) h in
-    let low = leb-true 2 k (b .0) in
-    let high = leb-true k 3 (b .1) in
-    simp (ne-eqb k 1 (omega arith), ne-eqb k 4 (omega arith))
-section-of Constraints k h = let e = eqb-true k 4 h in simp (ne-eqb k 1 (omega arith), h)
+    let b = rules-kind k h in
+    simp (ne-eqb k 1 (omega (arith, b .0)), ne-eqb k 4 (omega (arith, b .1)))
+section-of Constraints k h = let e = constraints-kind k h in simp (ne-eqb k 1 (omega arith), eq-eqb k 4 e)
 
-pub kind-of : (r : List ℕ) → shapeOk r ≡ true → kindIn (sectionOf (getD r 1 0)) (getD r 1 0) ≡ true
-unfolding kindIn sectionOf
+kind-of : (r : List ℕ) → shapeOk r ≡ true → kindIn (sectionOf (getD r 1 0)) (getD r 1 0) ≡ true
 kind-of r e =
-    length-cases (getD r 1 0) (length r) (shape-kind r e)
-    (λ k _ _ _. rw k refl) (λ k _. rw k refl) (λ k _. rw k refl) (λ k _ _ _. rw k refl)
+    let k : ℕ = getD r 1 0 in
+    length-cases k (length r) (shape-kind r e)
+    (λ h _ _ _. of Groups (kind-groups k h)) (λ h _. of Rules (kind-rules k (omega arith) (omega arith)))
+    (λ h _. of Rules (kind-rules k (omega arith) (omega arith))) (λ h _ _ _. of Constraints (kind-constraints k h))
+  where
+    of : (s : Section) → kindIn s (getD r 1 0) ≡ true → kindIn (sectionOf (getD r 1 0)) (getD r 1 0) ≡ true
+    of s h = rw (section-of s (getD r 1 0) h) h
 
 -- ---- the call's own causes
 
@@ -92,14 +98,65 @@ module _ (b r : List ℕ) where
       (orElse-none (none-field (q .formed .fields))
       (orElse-none (need-none _ (lt-ltb (countOf b s) (limitOf s) (q .few))) (need-none _ (le-leb (wordAt b 1 + length r) (length b) (q .room)))))
 
+  -- what a refusal of the call's own is
+  abbrev Own : Refusal → Type 0
+  Own f = (10 ≤ f .number) × (f .number ≤ 13) × (f .place < 130)
+
+  field-refused : shapeOk r ≡ true → (o : Option ℕ) → badField (countOf b Groups) r ≡ o → (f : Refusal) → fieldFault o ≡ some f → Own f
+  unfolding fieldFault
+  field-refused h none e f q = some-not-none (sym q)
+  field-refused h (some i) e f q =
+      let k = field-inside (countOf b Groups) r i h e in
+      let n = shape-most r h in
+      let z : refusal 11 i ≡ f = cc in
+      subst Own z (omega arith, omega arith, omega arith)
+
+  pub own-refused : (f : Refusal) → ownFault b r ≡ some f → (10 ≤ f .number) × (f .number ≤ 13) × (f .place < 130)
+  unfolding ownFault
+  own-refused =
+      let s : Section = sectionOf (getD r 1 0) in
+      orElse-refuses Own (need (shapeOk r) (refusal 10 0)) _ (need-refuses Own (shapeOk r) (refusal 10 0) (omega arith, omega arith, omega arith))
+      (λ e. orElse-refuses Own (fieldFault (badField (countOf b Groups) r)) _
+      (field-refused (need-true (shapeOk r) (refusal 10 0) e) (badField (countOf b Groups) r) refl)
+      (λ _. orElse-refuses Own (need (ltb (newNumber b r) (limitOf s)) (refusal 12 0)) (need (leb (wordAt b 1 + length r) (length b)) (refusal 13 0))
+      (need-refuses Own (ltb (newNumber b r) (limitOf s)) (refusal 12 0) (omega arith, omega arith, omega arith))
+      (λ _. need-refuses Own (leb (wordAt b 1 + length r) (length b)) (refusal 13 0) (omega arith, omega arith, omega arith))))
+
+  pub add-refused : (f : Refusal) → addFault b r ≡ some f → (checkFront b ≡ some f) ⊎ (ownFault b r ≡ some f)
+  unfolding addFault
+  add-refused =
+      orElse-refuses (λ f. (checkFront b ≡ some f) ⊎ (ownFault b r ≡ some f)) (checkFront b) (ownFault b r) (λ f e. inl e) (λ _ f e. inr e)
+
+  -- the new record's number is below its section's limit
+  pub number-few : addFault b r ≡ none → newNumber b r < limitOf (sectionOf (getD r 1 0))
+  unfolding addFault newNumber
+  number-few e = own-passes (orElse-split (checkFront b) (ownFault b r) e .1) .few
+
+  pub buffer-refused : (f : Refusal) → addFault b r ≡ some f → bufferAfter b r ≡ b
+  unfolding bufferAfter
+  buffer-refused f e = unless-refused _ _ e
+
 -- ---- a policy with one record more
 
 module _ (p : Policy) (r : List ℕ) where
   pub with-records : (s : Section) → recordsOf (withRecord s p r) s ≡ recordsOf p s ++ (r ∷ [])
-  unfolding recordsOf withRecord
-  with-records Groups = refl
-  with-records Rules = refl
-  with-records Constraints = refl
+  unfolding withRecord
+  with-records Groups = simp records-of-groups
+  with-records Rules = simp records-of-rules
+  with-records Constraints = simp records-of-constraints
+
+  -- the records of a section are those that there were, and r in its own
+  with-section : (s s′ : Section) → (recordsOf (withRecord s p r) s′ ≡ recordsOf p s′) ⊎ (s ≡ s′)
+  unfolding withRecord
+  with-section Groups Groups = inr refl
+  with-section Groups Rules = inl (simp records-of-rules)
+  with-section Groups Constraints = inl (simp records-of-constraints)
+  with-section Rules Groups = inl (simp records-of-groups)
+  with-section Rules Rules = inr refl
+  with-section Rules Constraints = inl (simp records-of-constraints)
+  with-section Constraints Groups = inl (simp records-of-groups)
+  with-section Constraints Rules = inl (simp records-of-rules)
+  with-section Constraints Constraints = inr refl
 
   with-version : (s : Section) → withRecord s p r .version ≡ p .version
   unfolding withRecord
@@ -117,28 +174,18 @@ module _ (p : Policy) (r : List ℕ) where
   with-all :
       (P : Section → List ℕ → Type 0) → ((s : Section) (x : List ℕ) → List·Memᴰ x (recordsOf p s) → P s x)
       → (s : Section) → P s r → (s′ : Section) (x : List ℕ) → List·Memᴰ x (recordsOf (withRecord s p r) s′) → P s′ x
-  unfolding recordsOf withRecord
-  with-all P h Groups q Groups x m = ⊎-elim (λ k. h Groups x k) (λ k. subst (P Groups) (sym (List·Memᴰ·eq-of-singleton k)) q) (List·Memᴰ·append-cases (p .groups) m)
-  with-all P h Groups q Rules x m = h Rules x m
-  with-all P h Groups q Constraints x m = h Constraints x m
-  with-all P h Rules q Groups x m = h Groups x m
-  with-all P h Rules q Rules x m = ⊎-elim (λ k. h Rules x k) (λ k. subst (P Rules) (sym (List·Memᴰ·eq-of-singleton k)) q) (List·Memᴰ·append-cases (p .rules) m)
-  with-all P h Rules q Constraints x m = h Constraints x m
-  with-all P h Constraints q Groups x m = h Groups x m
-  with-all P h Constraints q Rules x m = h Rules x m
-  with-all P h Constraints q Constraints x m = ⊎-elim (λ k. h Constraints x k) (λ k. subst (P Constraints) (sym (List·Memᴰ·eq-of-singleton k)) q) (List·Memᴰ·append-cases (p .constraints) m)
+  with-all P h s q s′ x m =
+      ⊎-elim (λ e. h s′ x (subst (List·Memᴰ x) e m))
+      (λ e. ⊎-elim (λ k. h s′ x k) (λ k. subst (P s′) (sym (List·Memᴰ·eq-of-singleton k)) (subst (λ z. P z r) e q))
+      (List·Memᴰ·append-cases (recordsOf p s′) (subst (List·Memᴰ x) (with-records s′) (subst (λ z. List·Memᴰ x (recordsOf (withRecord z p r) s′)) e m))))
+      (with-section s s′)
 
   with-few : (s : Section) → Sound p → length (recordsOf p s) < limitOf s → (s′ : Section) → length (recordsOf (withRecord s p r) s′) ≤ limitOf s′
-  unfolding recordsOf withRecord
-  with-few Groups w h Groups = omega (arith, length-append (p .groups) (r ∷ []))
-  with-few Groups w h Rules = w .few Rules
-  with-few Groups w h Constraints = w .few Constraints
-  with-few Rules w h Groups = w .few Groups
-  with-few Rules w h Rules = omega (arith, length-append (p .rules) (r ∷ []))
-  with-few Rules w h Constraints = w .few Constraints
-  with-few Constraints w h Groups = w .few Groups
-  with-few Constraints w h Rules = w .few Rules
-  with-few Constraints w h Constraints = omega (arith, length-append (p .constraints) (r ∷ []))
+  with-few s w h s′ =
+      ⊎-elim (λ e. rw e (w .few s′))
+      (λ e. subst (λ z. length (recordsOf (withRecord s p r) z) ≤ limitOf z) e
+      (rw (with-records s) (omega (arith, length-append (recordsOf p s) (r ∷ [])))))
+      (with-section s s′)
 
   pub with-sound : (s : Section) → Sound p → Formed s (length (p .groups)) r → Bytes r → length (recordsOf p s) < limitOf s → Sound (withRecord s p r)
   with-sound s w f b h =
@@ -161,8 +208,7 @@ module _ (p : Policy) (t : List ℕ) (s : Section) (r : List ℕ) (w : Sound p) 
   count-is s′ = front-of-count (imageOf p) t (image-accepted p w) s′ ∙ image-count p s′
 
   groups-are : countOf (imageOf p ++ t) Groups ≡ length (p .groups)
-  unfolding recordsOf
-  groups-are = count-is Groups
+  groups-are = count-is Groups ∙ ap length (records-of-groups p)
 
   size-is : wordAt (imageOf p ++ t) 1 ≡ length (imageOf p)
   size-is = front-of-length (imageOf p) t (image-accepted p w)
@@ -186,10 +232,10 @@ module _ (p : Policy) (t : List ℕ) (s : Section) (r : List ℕ) (w : Sound p) 
   new-image = rw (is-section, image-in-of (imageOf p) t (image-accepted p w), policy-of-image p w)
 
   pub add-image : bufferAfter (imageOf p ++ t) r ≡ imageOf (withRecord s p r) ++ drop (length r) t
-  unfolding bufferAfter unlessRefused overwrite
+  unfolding bufferAfter overwrite
   add-image =
-      rw (add-passes, new-image, with-length s p r)
-      (ap (λ (l : List ℕ). imageOf (withRecord s p r) ++ l) (drop-append-add (imageOf p) t (length r)))
+      unless-accepted _ _ add-passes
+      ∙ rw (new-image, with-length s p r) (ap (λ (l : List ℕ). imageOf (withRecord s p r) ++ l) (drop-append-add (imageOf p) t (length r)))
 
 -- ---- adding to any buffer that passes
 
@@ -227,8 +273,7 @@ module _ (b r : List ℕ) (by : Bytes b) (e : addFault b r ≡ none) where
   counts s′ = sym (front-count b front-none s′) ∙ ap (λ (l : List ℕ). countOf l s′) (sym image-is) ∙ image-count p s′
 
   group-counts : countOf b Groups ≡ length (p .groups)
-  unfolding recordsOf
-  group-counts = counts Groups
+  group-counts = counts Groups ∙ ap length (records-of-groups p)
 
   size : wordAt b 1 ≡ length (imageOf p)
   size = sym (front-length b front-none) ∙ ap length (sym image-is)

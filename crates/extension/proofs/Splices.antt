@@ -10,10 +10,11 @@ use lib.ListN.{length, take, drop, length-append}
 use lib.Seq.{slice, take-at, drop-at, drop-append-add}
 use Rattle.format.specs.declared.Section.{Section}
 use Rattle.format.specs.declared.Section.the-variants.{Groups, Rules, Constraints}
-use Rattle.format.specs.Bytes.{putWord}
 use Rattle.format.specs.Format.{countPlace}
 use Rattle.format.specs.Policy.{Policy, recordsOf, bodyOf, imageOf}
+use Rattle.format.proofs.ByCase.{count-place-groups, count-place-rules, count-place-constraints, records-of-groups, records-of-rules, records-of-constraints}
 use Rattle.format.proofs.Images.{Sound, image-length, start-rules, start-constraints}
+use Rattle.format.proofs.Written.{body-parts, image-nine}
 use Rattle.extension.specs.Add.{withRecord}
 use Rattle.extension.specs.Inner.Splice.{putWordAt, spliced, inserted, endOfSection}
 
@@ -33,33 +34,36 @@ flatten-snoc [] r = append-nil r
 flatten-snoc (x ∷ rs) r = ap (λ (t : List ℕ). x ++ t) (flatten-snoc rs r) ∙ sym (append-assoc x (flatten rs) r)
 
 pub body-split : (s : Section) (p : Policy) → bodyOf p ≡ before s p ++ behind s p
-unfolding bodyOf before behind
-body-split Groups p = refl
-body-split Rules p = sym (append-assoc (flatten (p .groups)) (flatten (p .rules)) (flatten (p .constraints)))
-body-split Constraints p = sym (append-nil _)
+unfolding before behind
+body-split Groups p = body-parts p
+body-split Rules p = body-parts p ∙ sym (append-assoc (flatten (p .groups)) (flatten (p .rules)) (flatten (p .constraints)))
+body-split Constraints p = body-parts p ∙ sym (append-nil _)
 
 pub body-with : (s : Section) (p : Policy) (r : List ℕ) → bodyOf (withRecord s p r) ≡ before s p ++ (r ++ behind s p)
-unfolding bodyOf before behind withRecord
+unfolding before behind withRecord
 body-with Groups p r =
-    ap (λ (t : List ℕ). t ++ (flatten (p .rules) ++ flatten (p .constraints))) (flatten-snoc (p .groups) r)
+    body-parts (withRecord Groups p r)
+    ∙ ap (λ (t : List ℕ). t ++ (flatten (p .rules) ++ flatten (p .constraints))) (flatten-snoc (p .groups) r)
     ∙ append-assoc (flatten (p .groups)) r _
 body-with Rules p r =
-    ap (λ (t : List ℕ). flatten (p .groups) ++ (t ++ flatten (p .constraints))) (flatten-snoc (p .rules) r)
+    body-parts (withRecord Rules p r)
+    ∙ ap (λ (t : List ℕ). flatten (p .groups) ++ (t ++ flatten (p .constraints))) (flatten-snoc (p .rules) r)
     ∙ ap (λ (t : List ℕ). flatten (p .groups) ++ t) (append-assoc (flatten (p .rules)) r (flatten (p .constraints)))
     ∙ sym (append-assoc (flatten (p .groups)) (flatten (p .rules)) _)
 body-with Constraints p r =
     let g = flatten (p .groups) in
     let k = flatten (p .constraints) in
-    ap (λ (t : List ℕ). g ++ (flatten (p .rules) ++ t)) (flatten-snoc (p .constraints) r)
+    body-parts (withRecord Constraints p r)
+    ∙ ap (λ (t : List ℕ). g ++ (flatten (p .rules) ++ t)) (flatten-snoc (p .constraints) r)
     ∙ ap (λ (t : List ℕ). g ++ t) (sym (append-assoc (flatten (p .rules)) k r))
     ∙ sym (append-assoc g (flatten (p .rules) ++ k) r)
     ∙ ap (λ (t : List ℕ). (g ++ (flatten (p .rules) ++ k)) ++ t) (sym (append-nil r))
 
 pub section-end : (s : Section) (p : Policy) → Sound p → endOfSection (imageOf p) s ≡ 9 + length (before s p)
-unfolding endOfSection before bodyOf
+unfolding endOfSection before
 section-end Groups p w = start-rules p w
 section-end Rules p w = start-constraints p w ∙ omega (arith, length-append (flatten (p .groups)) (flatten (p .rules)))
-section-end Constraints p w = image-length p
+section-end Constraints p w = image-length p ∙ ap (λ (l : List ℕ). 9 + length l) (body-parts p)
 
 -- the nine bytes of a header
 header : ℕ → ℕ → ℕ → ℕ → ℕ → List ℕ
@@ -69,8 +73,8 @@ abbrev headerFor : Policy → List ℕ
 headerFor p = header (p .version) (9 + length (bodyOf p)) (length (p .groups)) (length (p .rules)) (length (p .constraints))
 
 image-header : (p : Policy) → imageOf p ≡ headerFor p ++ bodyOf p
-unfolding imageOf putWord header
-image-header p = refl
+unfolding header
+image-header p = image-nine p
 
 module _ (v n g r c : ℕ) where
   header-nine : length (header v n g r c) ≡ 9
@@ -113,16 +117,19 @@ module _ (p : Policy) (r t : List ℕ) (n : ℕ) where
       (s : Section)
       → putWordAt (header (p .version) n (length (p .groups)) (length (p .rules)) (length (p .constraints)) ++ t) (countPlace s) (length (recordsOf p s) + 1)
       ≡ header (withRecord s p r .version) n (length (withRecord s p r .groups)) (length (withRecord s p r .rules)) (length (withRecord s p r .constraints)) ++ t
-  unfolding countPlace recordsOf withRecord
+  unfolding withRecord
   grown-count Groups =
-      grown-groups (p .version) n (length (p .groups)) (length (p .rules)) (length (p .constraints)) (length (p .groups) + 1) t
-      ∙ ap (λ (k : ℕ). header (p .version) n k (length (p .rules)) (length (p .constraints)) ++ t) (sym (length-append (p .groups) (r ∷ [])))
+      rw (count-place-groups, records-of-groups)
+      (grown-groups (p .version) n (length (p .groups)) (length (p .rules)) (length (p .constraints)) (length (p .groups) + 1) t
+      ∙ ap (λ (k : ℕ). header (p .version) n k (length (p .rules)) (length (p .constraints)) ++ t) (sym (length-append (p .groups) (r ∷ []))))
   grown-count Rules =
-      grown-rules (p .version) n (length (p .groups)) (length (p .rules)) (length (p .constraints)) (length (p .rules) + 1) t
-      ∙ ap (λ (k : ℕ). header (p .version) n (length (p .groups)) k (length (p .constraints)) ++ t) (sym (length-append (p .rules) (r ∷ [])))
+      rw (count-place-rules, records-of-rules)
+      (grown-rules (p .version) n (length (p .groups)) (length (p .rules)) (length (p .constraints)) (length (p .rules) + 1) t
+      ∙ ap (λ (k : ℕ). header (p .version) n (length (p .groups)) k (length (p .constraints)) ++ t) (sym (length-append (p .rules) (r ∷ []))))
   grown-count Constraints =
-      grown-constraints (p .version) n (length (p .groups)) (length (p .rules)) (length (p .constraints)) (length (p .constraints) + 1) t
-      ∙ ap (λ (k : ℕ). header (p .version) n (length (p .groups)) (length (p .rules)) k ++ t) (sym (length-append (p .constraints) (r ∷ [])))
+      rw (count-place-constraints, records-of-constraints)
+      (grown-constraints (p .version) n (length (p .groups)) (length (p .rules)) (length (p .constraints)) (length (p .constraints) + 1) t
+      ∙ ap (λ (k : ℕ). header (p .version) n (length (p .groups)) (length (p .rules)) k ++ t) (sym (length-append (p .constraints) (r ∷ []))))
 
 module _ (s : Section) (p : Policy) (r t : List ℕ) where
   x : List ℕ

@@ -3,20 +3,21 @@
 --     round-trip, round-trip-exact   claims RoundTrip and RoundTripExact
 use Prim.Native.Nat.{ℕ, _+_, _≤_, _<_}
 use mathlib.Core.Path.{_≡_, refl, sym, subst, ap, ap₂, _∙_}
-use mathlib.Core.List.{List, [], _∷_, _++_, flatten, append-assoc, append-nil, List·Memᴰ, List·Memᴰ·head, List·Memᴰ·tail, List·Memᴰ·not-nil}
+use mathlib.Core.List.{List, [], _∷_, _++_, flatten, append-assoc, append-nil, List·Memᴰ, List·Memᴰ·head, List·Memᴰ·tail}
 use native.Mathlib.Omega.{arith}
 use lib.ListN.{length, drop, length-append, length-drop}
 use lib.Seq.{drop-drop, drop-append-add, drop-length}
-use borrow.Author.Tests.{eqb-true}
 use Rattle.format.specs.declared.Section.{Section}
 use Rattle.format.specs.declared.Section.the-variants.{Groups, Rules, Constraints}
-use Rattle.format.specs.Bytes.{Bytes, putWord}
-use Rattle.format.specs.Format.{knownVersion, limitOf}
+use Rattle.format.specs.Bytes.{Bytes}
+use Rattle.format.specs.Format.{limitOf}
 use Rattle.format.specs.Policy.{Policy, recordsOf, bodyOf, imageOf, policyOf}
 use Rattle.format.specs.Sample.{empty}
+use Rattle.format.proofs.ByCase.{records-of-groups, records-of-rules, records-of-constraints, known-version}
 use Rattle.format.proofs.Shapes.{Formed}
 use Rattle.format.proofs.Fields.{formed-more, group-any}
 use Rattle.format.proofs.Images.{Sound, policy-sound, image-of-policy, image-length}
+use Rattle.format.proofs.Written.{body-parts, image-empty, length-empty, sound-empty}
 use Rattle.extension.specs.Add.{withRecord, bufferAfter, overwrite}
 use Rattle.extension.specs.Claims.{addAll, allRecords, RoundTrip, RoundTripExact}
 use Rattle.extension.proofs.Adds.{with-records, with-groups, with-sound, add-image}
@@ -86,46 +87,12 @@ module _ (v : ℕ) where
   fill-constraints gs rs cs (x ∷ xs) =
       fill-constraints gs rs (cs ++ (x ∷ [])) xs ∙ ap (λ (l : List (List ℕ)). policyFor v gs rs l) (append-assoc cs (x ∷ []) xs)
 
-emptyPolicy : Policy
+abbrev emptyPolicy : Policy
 emptyPolicy = policyFor 1 [] [] []
-
-empty-image : imageOf emptyPolicy ≡ empty
-unfolding emptyPolicy imageOf bodyOf putWord empty flatten
-empty-image = refl
-
-empty-length : length empty ≡ 9
-unfolding empty
-empty-length = refl
 
 module _ (q : Policy) (w : Sound q) (t : List ℕ) (room : length (bodyOf q) ≤ length t) where
   version-one : q .version ≡ 1
-  unfolding knownVersion
-  version-one = eqb-true (q .version) 1 (w .version)
-
-  empty-sound : Sound emptyPolicy
-  unfolding emptyPolicy knownVersion recordsOf
-  empty-sound =
-      record {
-        version = refl;
-        few = λ s. few s;
-        formed = λ s r m. formed s r m;
-        bytes = λ s r m. bytes s r m;
-      }
-    where
-      few : (s : Section) → length (recordsOf emptyPolicy s) ≤ limitOf s
-      few Groups = omega arith
-      few Rules = omega arith
-      few Constraints = omega arith
-
-      formed : (s : Section) (r : List ℕ) → List·Memᴰ r (recordsOf emptyPolicy s) → Formed s 0 r
-      formed Groups r m = absurd (List·Memᴰ·not-nil m)
-      formed Rules r m = absurd (List·Memᴰ·not-nil m)
-      formed Constraints r m = absurd (List·Memᴰ·not-nil m)
-
-      bytes : (s : Section) (r : List ℕ) → List·Memᴰ r (recordsOf emptyPolicy s) → Bytes r
-      bytes Groups r m = absurd (List·Memᴰ·not-nil m)
-      bytes Rules r m = absurd (List·Memᴰ·not-nil m)
-      bytes Constraints r m = absurd (List·Memᴰ·not-nil m)
+  version-one = known-version (q .version) (w .version)
 
   p₁ : Policy
   p₁ = policyFor 1 (q .groups) [] []
@@ -140,39 +107,47 @@ module _ (q : Policy) (w : Sound q) (t : List ℕ) (room : length (bodyOf q) ≤
   t₂ = drop (length (flatten (q .rules))) t₁
 
   body-length : length (bodyOf q) ≡ length (flatten (q .groups)) + (length (flatten (q .rules)) + length (flatten (q .constraints)))
-  unfolding bodyOf
   body-length =
-      length-append (flatten (q .groups)) (flatten (q .rules) ++ flatten (q .constraints))
+      ap length (body-parts q)
+      ∙ length-append (flatten (q .groups)) (flatten (q .rules) ++ flatten (q .constraints))
       ∙ ap (λ (n : ℕ). length (flatten (q .groups)) + n) (length-append (flatten (q .rules)) (flatten (q .constraints)))
 
+  in-groups : (r : List ℕ) → List·Memᴰ r (q .groups) → List·Memᴰ r (recordsOf q Groups)
+  in-groups r m = rw (records-of-groups q) m
+
+  in-rules : (r : List ℕ) → List·Memᴰ r (q .rules) → List·Memᴰ r (recordsOf q Rules)
+  in-rules r m = rw (records-of-rules q) m
+
+  in-constraints : (r : List ℕ) → List·Memᴰ r (q .constraints) → List·Memᴰ r (recordsOf q Constraints)
+  in-constraints r m = rw (records-of-constraints q) m
+
   groups-added : Section-added Groups emptyPolicy t (q .groups)
-  unfolding emptyPolicy recordsOf
   groups-added =
-      add-section Groups emptyPolicy t 0 (q .groups) empty-sound (omega arith)
-      (λ r m. group-any (length (q .groups)) 0 r (w .formed Groups r m)) (w .bytes Groups)
-      (omega (arith, w .few Groups)) (omega (arith, body-length))
+      add-section Groups emptyPolicy t 0 (q .groups) sound-empty (omega arith)
+      (λ r m. group-any (length (q .groups)) 0 r (w .formed Groups r (in-groups r m))) (λ r m. w .bytes Groups r (in-groups r m))
+      (omega (arith, w .few Groups, ap length (records-of-groups q), ap length (records-of-groups emptyPolicy))) (omega (arith, body-length))
 
   groups-full : withAll Groups emptyPolicy (q .groups) ≡ p₁
-  unfolding emptyPolicy p₁
+  unfolding p₁
   groups-full = fill-groups 1 [] [] [] (q .groups)
 
   rules-added : Section-added Rules p₁ t₁ (q .rules)
-  unfolding p₁ recordsOf t₁
+  unfolding p₁ t₁
   rules-added =
       add-section Rules p₁ t₁ (length (q .groups)) (q .rules) (subst Sound groups-full (groups-added .sound)) (omega arith)
-      (w .formed Rules) (w .bytes Rules)
-      (omega (arith, w .few Rules)) (omega (arith, body-length, length-drop (length (flatten (q .groups))) t))
+      (λ r m. w .formed Rules r (in-rules r m)) (λ r m. w .bytes Rules r (in-rules r m))
+      (omega (arith, w .few Rules, ap length (records-of-rules q), ap length (records-of-rules p₁))) (omega (arith, body-length, length-drop (length (flatten (q .groups))) t))
 
   rules-full : withAll Rules p₁ (q .rules) ≡ p₂
   unfolding p₁ p₂
   rules-full = fill-rules 1 (q .groups) [] [] (q .rules)
 
   constraints-added : Section-added Constraints p₂ t₂ (q .constraints)
-  unfolding p₂ recordsOf t₁ t₂
+  unfolding p₂ t₁ t₂
   constraints-added =
       add-section Constraints p₂ t₂ (length (q .groups)) (q .constraints) (subst Sound rules-full (rules-added .sound)) (omega arith)
-      (w .formed Constraints) (w .bytes Constraints)
-      (omega (arith, w .few Constraints))
+      (λ r m. w .formed Constraints r (in-constraints r m)) (λ r m. w .bytes Constraints r (in-constraints r m))
+      (omega (arith, w .few Constraints, ap length (records-of-constraints q), ap length (records-of-constraints p₂)))
       (omega (arith, body-length, length-drop (length (flatten (q .groups))) t, length-drop (length (flatten (q .rules))) t₁))
 
   constraints-full : withAll Constraints p₂ (q .constraints) ≡ q
@@ -192,7 +167,7 @@ module _ (q : Policy) (w : Sound q) (t : List ℕ) (room : length (bodyOf q) ≤
   all-added =
       add-append (empty ++ t) (q .groups) (q .rules ++ q .constraints)
       ∙ ap (λ (b : List ℕ). addAll b (q .rules ++ q .constraints))
-      (ap (λ (e : List ℕ). addAll (e ++ t) (q .groups)) (sym empty-image) ∙ groups-added .buffer ∙ ap (λ (p : Policy). imageOf p ++ t₁) groups-full)
+      (ap (λ (e : List ℕ). addAll (e ++ t) (q .groups)) (sym image-empty) ∙ groups-added .buffer ∙ ap (λ (p : Policy). imageOf p ++ t₁) groups-full)
       ∙ add-append (imageOf p₁ ++ t₁) (q .rules) (q .constraints)
       ∙ ap (λ (b : List ℕ). addAll b (q .constraints)) (rules-added .buffer ∙ ap (λ (p : Policy). imageOf p ++ t₂) rules-full)
       ∙ constraints-added .buffer
@@ -204,9 +179,9 @@ round-trip l t b e room =
     let q : Policy = policyOf l in
     let is : imageOf q ≡ l = image-of-policy l b e in
     let n : length l ≡ 9 + length (bodyOf q) = ap length (sym is) ∙ image-length q in
-    let k : length (bodyOf q) ≤ length t = omega (arith, n, length-append empty t, empty-length) in
+    let k : length (bodyOf q) ≤ length t = omega (arith, n, length-append empty t, length-empty) in
     all-added q (policy-sound l b e) t k
-    ∙ ap₂ _++_ is (sym (ap (λ (m : ℕ). drop m (empty ++ t)) (n ∙ ap (λ (m : ℕ). m + length (bodyOf q)) (sym empty-length)) ∙ drop-append-add empty t (length (bodyOf q))))
+    ∙ ap₂ _++_ is (sym (ap (λ (m : ℕ). drop m (empty ++ t)) (n ∙ ap (λ (m : ℕ). m + length (bodyOf q)) (sym length-empty)) ∙ drop-append-add empty t (length (bodyOf q))))
 
 pub round-trip-exact : RoundTripExact
 unfolding overwrite

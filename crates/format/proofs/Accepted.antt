@@ -5,7 +5,9 @@
 --     accepted-end        the last record ends where the image does
 --     record-formed       each record of a section is formed
 --     record-stands       and lies in the image, at its place
---     place-next          the next record's place
+--     place-first, place-next   the first record's place, and the next
+--     start-groups, start-least   the groups start at 9, and no section before
+--     policy-groups, policy-rules, policy-constraints   the records of an image's policy
 --     records-count       the section of the policy has as many records as the header counts
 --     records-given, all-given, none-given, empty-tells   claims RecordsGiven, AllGiven, NoneGiven, EmptyTells
 use Prim.Native.Nat.{ℕ, zero, suc, _+_, _-_, _≤_, _<_}
@@ -33,7 +35,7 @@ use Rattle.format.proofs.Tests.{both, and-true}
 use Rattle.format.proofs.Chain.{orElse-split, orElse-none, orElse-next, need-true, need-none, need-some}
 use Rattle.format.specs.Inner.Places.{Stands}
 use Rattle.format.proofs.Shapes.{Formed, stands, record-part}
-use Rattle.format.proofs.Records.{place-snoc, records-length, records-nth, section-formed, section-rest}
+use Rattle.format.proofs.Records.{place-snoc, place-least, records-length, records-nth, section-formed, section-rest}
 
 pub record Header (fits : ℕ → ℕ → Bool) (l : List ℕ) : Type 0 where
   pub long : 9 ≤ length l
@@ -141,6 +143,23 @@ module _ (l : List ℕ) (e : check l ≡ none) where
     pub record-stands : Stands l (placeOf l s n) (recordAt l (placeOf l s n))
     record-stands = stands l (placeOf l s n) (record-formed .shape)
 
+pub start-groups : (l : List ℕ) → startOf l Groups ≡ 9
+unfolding startOf
+start-groups l = refl
+
+pub start-least : (l : List ℕ) (s : Section) → 9 ≤ startOf l s
+unfolding startOf
+start-least l Groups = omega arith
+start-least l Rules = place-least l 9 (countOf l Groups)
+start-least l Constraints =
+    let a = place-least l 9 (countOf l Groups) in
+    let b = place-least l (startOf l Rules) (countOf l Rules) in
+    omega arith
+
+pub place-first : (l : List ℕ) (s : Section) → placeOf l s 0 ≡ startOf l s
+unfolding placeOf placeAfter
+place-first l s = refl
+
 pub place-next : (l : List ℕ) (s : Section) (n : ℕ) → placeOf l s (n + 1) ≡ placeOf l s n + getD l (placeOf l s n) 0
 unfolding placeOf
 place-next l s n = rw add-one (place-snoc l (startOf l s) n)
@@ -150,6 +169,19 @@ unfolding recordsOf policyOf
 policy-records l Groups = refl
 policy-records l Rules = refl
 policy-records l Constraints = refl
+
+module _ (l : List ℕ) where
+  pub policy-groups : policyOf l .groups ≡ recordsAt l (startOf l Groups) (countOf l Groups)
+  unfolding policyOf
+  policy-groups = refl
+
+  pub policy-rules : policyOf l .rules ≡ recordsAt l (startOf l Rules) (countOf l Rules)
+  unfolding policyOf
+  policy-rules = refl
+
+  pub policy-constraints : policyOf l .constraints ≡ recordsAt l (startOf l Constraints) (countOf l Constraints)
+  unfolding policyOf
+  policy-constraints = refl
 
 pub record-nth : (l : List ℕ) (s : Section) (n : ℕ) → n < countOf l s → getD (recordsOf (policyOf l) s) n [] ≡ recordAt l (placeOf l s n)
 unfolding placeOf

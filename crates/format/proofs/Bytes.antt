@@ -65,6 +65,13 @@ word-bytes l b at t =
 pub word-back : (n : ℕ) → n / 256 * 256 + n % 256 ≡ n
 word-back n = omega arith
 
+pub word-at : (l : List ℕ) (at : ℕ) → wordAt l at ≡ getD l at 0 * 256 + getD l (at + 1) 0
+unfolding wordAt
+word-at l at = refl
+
+pub word-small : (l : List ℕ) → Bytes l → (at : ℕ) → wordAt l at < 65536
+word-small l b at = omega (arith, word-at l at, b at, b (at + 1))
+
 -- a word of a part of a list
 pub word-drop : (n : ℕ) (l : List ℕ) (i : ℕ) → wordAt (drop n l) i ≡ wordAt l (n + i)
 unfolding wordAt

@@ -1,11 +1,16 @@
--- Laws of the refusals' chain: none where each link has none. Assumes nothing.
+-- Laws of the refusals' chain: none where each link has none, and a refusal is that of a link. Assumes nothing.
+--     orElse-split, orElse-none, need-true, need-none   nothing is refused
+--     orElse-next, orElse-first, need-some              what is refused, link by link
+--     orElse-refuses, need-refuses                      what holds of each link's refusal holds of the chain's
+--     unless-accepted, unless-refused                   `unlessRefused`
+--     outcome-gives, outcome-refused                    `outcome`
 use Prim.Native.Nat.{ℕ}
-use mathlib.Core.Path.{_≡_, refl}
+use mathlib.Core.Path.{_≡_, refl, sym, subst}
 use mathlib.Core.Bool.{Bool, true, false}
 use mathlib.Core.Option.{Option, none, some}
 use native.Mathlib.Omega.{arith}
 use Rattle.format.specs.declared.Refusal.{Refusal}
-use Rattle.format.specs.Refusals.{need, _orElse_}
+use Rattle.format.specs.Refusals.{need, _orElse_, unlessRefused}
 use Rattle.format.specs.Answers.{refused, gives, outcome}
 
 module _ {A : Type 0} where
@@ -41,6 +46,25 @@ module _ {A : Type 0} where
   pub need-some : {t : Bool} (x : A) → t ≡ false → need t x ≡ some x
   unfolding need
   need-some x h = rw h
+
+  pub orElse-refuses :
+      (P : A → Type 0) (a b : Option A) → ((x : A) → a ≡ some x → P x) → (a ≡ none → (x : A) → b ≡ some x → P x) → (x : A) → a orElse b ≡ some x → P x
+  unfolding _orElse_
+  orElse-refuses P none b h k x e = k refl x e
+  orElse-refuses P (some a) b h k x e = h x e
+
+  pub need-refuses : (P : A → Type 0) (t : Bool) (a : A) → P a → (x : A) → need t a ≡ some x → P x
+  unfolding need
+  need-refuses P true a h x e = some-not-none (sym e)
+  need-refuses P false a h x e = let z : a ≡ x = cc in subst P z h
+
+  pub unless-accepted : {f : Option Refusal} (a b : A) → f ≡ none → unlessRefused f a b ≡ a
+  unfolding unlessRefused
+  unless-accepted a b e = rw e
+
+  pub unless-refused : {f : Option Refusal} {x : Refusal} (a b : A) → f ≡ some x → unlessRefused f a b ≡ b
+  unfolding unlessRefused
+  unless-refused a b e = rw e
 
 module _ {A : Type 0} where
   pub outcome-gives : (f : Option Refusal) (a : A) {b : A} → gives b ≡ outcome f a → (f ≡ none) × (b ≡ a)

@@ -1,12 +1,14 @@
 -- The check's tests of a record, and the same in plain numbers (`IsRecord`), both ways. Assumes nothing.
 --     type-is, is-type          isType and IsType
+--     rising-nil, rising-cons, rising-parts   a rising list, by its first element
 --     members-rising, rising-members    badMember finds none in such a list, and in no other
 --     formed-is, is-formed      Formed and IsRecord
+--     record-rule, record-constraint    IsRecord, of a rule and of a constraint
 --     field-inside              a bad field lies within its record
 --     formed-more               a record stays one where there are more groups
 use Prim.Native.Nat.{ℕ, zero, suc, _+_, _-_, _*_, _/_, _%_, _≤_, _<_}
 use mathlib.Core.Path.{_≡_, refl, sym, ap, _∙_}
-use mathlib.Core.Logic.{inl, inr}
+use mathlib.Core.Logic.{_⊎_, inl, inr}
 use mathlib.Core.Bool.{Bool, true, false, _&&_, cond}
 use mathlib.Core.Option.{Option, none, some}
 use mathlib.Core.List.{List, [], _∷_}
@@ -57,6 +59,19 @@ module _ (g : ℕ) where
   hold-types at (t ∷ ts) h = orElse-none (need-none _ (h 0 (omega arith))) (hold-types (at + 2) ts (λ i k. h (suc i) (omega arith)))
 
 -- ---- members
+
+pub rising-nil : (low : ℕ) → Rising low []
+unfolding Rising
+rising-nil low = tt
+
+module _ (low m : ℕ) (ms : List ℕ) where
+  pub rising-parts : Rising low (m ∷ ms) → (low ≤ m) × (m < 1024) × Rising (suc m) ms
+  unfolding Rising
+  rising-parts r = r
+
+  pub rising-cons : low ≤ m → m < 1024 → Rising (suc m) ms → Rising low (m ∷ ms)
+  unfolding Rising
+  rising-cons h k r = (h, k, r)
 
 pub members-rising : (at low : ℕ) (ms : List ℕ) → badMember at low ms ≡ none → Rising low ms
 unfolding badMember Rising
@@ -306,6 +321,15 @@ module _ (g : ℕ) (r : List ℕ) where
         kind = eq-eqb (getD r 1 0) 4 (f .kind);
         fields = field-constraint g r (f .kind) ∙ is-constraint g r (q .0) f;
       }
+
+module _ (g : ℕ) (r : List ℕ) where
+  pub record-rule : IsRecord Rules g r → IsAllow g r ⊎ IsTransition g r
+  unfolding IsRecord
+  record-rule f = f
+
+  pub record-constraint : IsRecord Constraints g r → (n : ℕ) × IsConstraint g r n
+  unfolding IsRecord
+  record-constraint f = f
 
 -- ---- a bad field's place lies within its record
 

@@ -1,13 +1,16 @@
 pub mod Tests
 pub mod Chain
 pub mod Bytes
+pub mod ByCase
 pub mod Shapes
 pub mod Records
 pub mod Accepted
 pub mod Front
 pub mod Fields
 pub mod Images
+pub mod Written
 pub mod References
 pub mod Sample
 pub mod Places
 pub mod Longest
+pub mod Bounds

@@ -1,6 +1,7 @@
 -- What stands at the places of an accepted image, for code that reads there. Assumes nothing.
+--     words-at-none, words-at-next, words-at-length, words-at-nth   words from a place on
 --     group-at, rule-at, constraint-at   each record of an accepted image is so
-use Prim.Native.Nat.{ℕ, zero, suc, _+_, _-_, _*_, _/_, _%_, _≤_, _<_}
+use Prim.Native.Nat.{ℕ, zero, suc, _+_, _-_, _*_, _/_, _<_}
 use mathlib.Core.Path.{_≡_, refl, sym, subst, ap, _∙_}
 use mathlib.Core.Logic.{_⊎_, inl, inr}
 use mathlib.Core.Option.{none}
@@ -20,6 +21,15 @@ use Rattle.format.specs.Inner.Places.{Stands, wordsAt, GroupAt, RuleAt, 
 use Rattle.format.proofs.Shapes.{stands-word}
 use Rattle.format.proofs.Fields.{steps-rising, formed-is}
 use Rattle.format.proofs.Accepted.{record-formed, record-stands}
+
+module _ (l : List ℕ) (n at : ℕ) where
+  pub words-at-none : n ≡ 0 → wordsAt l n at ≡ []
+  unfolding wordsAt
+  words-at-none e = rw e
+
+  pub words-at-next : (k : ℕ) → n ≡ suc k → wordsAt l n at ≡ wordAt l at ∷ wordsAt l k (at + 2)
+  unfolding wordsAt
+  words-at-next k e = rw e
 
 pub words-at-length : (l : List ℕ) (n at : ℕ) → length (wordsAt l n at) ≡ n
 unfolding wordsAt

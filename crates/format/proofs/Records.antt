@@ -1,5 +1,5 @@
 -- Laws of records one after the other, from a place of an image on. Assumes nothing.
---     place-snoc, records-length, records-nth, records-mem, records-flatten   of `placeAfter` and `recordsAt`
+--     records-none, records-next, place-snoc, records-length, records-nth, records-mem, records-flatten   of `placeAfter` and `recordsAt`
 --     section-formed        a section without a refusal has each of its records formed
 --     Runs l at rs e        the records rs lie in l from a place on, and end at e
 use Prim.Native.Nat.{ℕ, zero, suc, _+_, _-_, _≤_, _<_}
@@ -20,6 +20,15 @@ use Rattle.format.specs.Policy.{recordAt, placeAfter, recordsAt}
 use Rattle.format.specs.Check.{readOf, readFault, sectionFault}
 use Rattle.format.proofs.Chain.{orElse-split, orElse-none}
 use Rattle.format.proofs.Shapes.{Formed, shape-length, shape-kind, length-least, read-whole, whole-read, read-fault-none}
+
+module _ (l : List ℕ) (at n : ℕ) where
+  pub records-none : n ≡ 0 → recordsAt l at n ≡ []
+  unfolding recordsAt
+  records-none e = rw e
+
+  pub records-next : (k : ℕ) → n ≡ suc k → recordsAt l at n ≡ recordAt l at ∷ recordsAt l (at + getD l at 0) k
+  unfolding recordsAt
+  records-next k e = rw e
 
 pub place-snoc : (l : List ℕ) (at n : ℕ) → placeAfter l at (suc n) ≡ placeAfter l at n + getD l (placeAfter l at n) 0
 unfolding placeAfter

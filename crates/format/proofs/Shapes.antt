@@ -1,7 +1,10 @@
 -- Laws of one record: its length by its kind, its bytes in the image, and what reading it says. Assumes nothing.
 --     Formed s g r        the record r passes the check's tests for a section, where there are g groups
 --     length-cases        the four kinds, with their lengths
+--     shape-most          no record is longer than 130 bytes
+--     first-whole         a record whose length byte is its length is the one that it starts with
 --     read-whole, whole-read   the reader finds a whole record where the record is formed, and nowhere else
+--     read-malformed, read-bad-field   what the other answers say
 use Prim.Native.Nat.{ℕ, _+_, _-_, _%_, _≤_, _<_}
 use mathlib.Core.Path.{_≡_, refl, sym, ap, _∙_}
 use mathlib.Core.Bool.{Bool, true, false, _&&_, cond}
@@ -10,7 +13,7 @@ use mathlib.Core.List.{List}
 use native.Mathlib.Omega.{arith}
 use native.Mathlib.Nat.{add-zero, add-assoc}
 use lib.ListN.{length, getD, take, drop, length-take, length-drop}
-use lib.Seq.{getD-take, getD-drop}
+use lib.Seq.{getD-take, getD-drop, take-length}
 use lib.Dec.{eqb, leb}
 use borrow.Author.Tests.{eqb-true, leb-true}
 use Rattle.format.specs.declared.Section.{Section}
@@ -58,6 +61,14 @@ shape-length r e = eqb-true (length r) (getD r 0 0) (both (eqb (length r) (getD 
 pub shape-kind : (r : List ℕ) → shapeOk r ≡ true → lengthOk (getD r 1 0) (length r) ≡ true
 unfolding shapeOk
 shape-kind r e = both (eqb (length r) (getD r 0 0)) (lengthOk (getD r 1 0) (length r)) e .1
+
+pub shape-most : (r : List ℕ) → shapeOk r ≡ true → length r ≤ 130
+shape-most r e =
+    length-cases (getD r 1 0) (length r) (shape-kind r e) (λ _ _ h _. h) (λ _ h. omega arith) (λ _ h. omega arith) (λ _ _ h _. omega arith)
+
+pub first-whole : (r : List ℕ) → getD r 0 0 ≡ length r → firstRecord r ≡ r
+unfolding firstRecord
+first-whole r e = ap (λ (n : ℕ). take n r) e ∙ take-length r
 
 pub stands : (l : List ℕ) (at : ℕ) → shapeOk (recordAt l at) ≡ true → Stands l at (recordAt l at)
 unfolding recordAt firstRecord
@@ -134,3 +145,13 @@ read-bad-field s g i part e = go (shapeOk r && kindIn s (getD r 1 0)) refl e
         → (shapeOk r ≡ true) × (badField g r ≡ some i)
     go true h q = (both (shapeOk r) (kindIn s (getD r 1 0)) h .0, fields-bad (badField g r) (length r) i q)
     go false h q = let z : _≡_ {A = ℕ} 0 1 = cc in absurd (omega arith)
+
+fields-formed : (f : Option ℕ) (n : ℕ) → readFields f n ≡ Malformed → ⊥
+unfolding readFields
+fields-formed none n e = (let z : _≡_ {A = ℕ} 0 1 = cc in omega arith)
+fields-formed (some i) n e = (let z : _≡_ {A = ℕ} 0 1 = cc in omega arith)
+
+pub read-malformed :
+    (s : Section) (g : ℕ) (part : List ℕ) → readOf s g part ≡ Malformed → shapeOk (firstRecord part) ≡ true → kindIn s (getD (firstRecord part) 1 0) ≡ true → ⊥
+unfolding readOf
+read-malformed s g part e h k = fields-formed (badField g (firstRecord part)) (length (firstRecord part)) (simp (h, k) at e)

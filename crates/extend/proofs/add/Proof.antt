@@ -4,12 +4,11 @@ use mathlib.Core.Path.{_≡_, sym, ap, _∙_}
 use mathlib.Core.Option.{none, some}
 use denote.Ref.{now}
 use Rattle.format.specs.Bytes.{Bytes}
-use Rattle.format.specs.Refusals.{unlessRefused}
 use Rattle.format.specs.Answers.{gives}
 use Rattle.format.proofs.Chain.{outcome-gives, outcome-refused}
-use Rattle.extension.specs.Add.{newNumber, addFault, bufferAfter}
+use Rattle.extension.specs.Add.{newNumber, addFault}
 use Rattle.extension.specs.Inner.Splice.{inserted}
-use Rattle.extension.proofs.Adds.{buffer-inserted}
+use Rattle.extension.proofs.Adds.{buffer-refused, buffer-inserted}
 use Rattle.extend.specs.Inner.Plans.{planOutcome, slotOf}
 use Rattle.extend.proofs.PlanLaws.{slot-fits}
 use borrow.Author.Needs.{needs}
@@ -36,10 +35,9 @@ same-length : tie.Need-same-length
 same-length c = search needs
 
 returns : tie.Need-returns
-unfolding bufferAfter unlessRefused
 returns c = let f : addFault (now (c .before .before .before .before .before .before .before .args .buffer)) (now (c .before .before .before .before .before .before .before .args .part)) ≡ some (c .before .f .given .0 .0) =
     outcome-refused _ _ (sym (ap planOutcome (c .before .f .given .1)) ∙ c .before .before .before .planned .ensures) in
-    record { answer = rw f; buffer = rw f }
+    record { answer = rw f; buffer = sym (buffer-refused _ _ _ f) }
 
 same-length-2 : tie.Need-same-length-2
 same-length-2 c = search needs

@@ -1,5 +1,5 @@
 -- `limit_of` meets its contract. Assumes nothing.
-use Rattle.format.specs.Format.{limitOf}
+use Rattle.format.proofs.ByCase.{limit-groups, limit-rules, limit-constraints}
 use borrow.Author.Needs.{needs}
 use Rattle.extend.proofs.plan.limit_of.Statement.{statement}
 use Rattle.extend.proofs.plan.limit_of.Tie as tie
@@ -14,16 +14,13 @@ enum-told-3 : tie.Need-enum-told-3
 enum-told-3 c = search needs
 
 returns : tie.Need-returns
-unfolding limitOf
-returns c = simp (c .enum-told .given .1)
+returns c = simp (c .enum-told .given .1, limit-groups)
 
 returns-2 : tie.Need-returns-2
-unfolding limitOf
-returns-2 c = simp (c .enum-told2 .given .1)
+returns-2 c = simp (c .enum-told2 .given .1, limit-rules)
 
 returns-3 : tie.Need-returns-3
-unfolding limitOf
-returns-3 c = simp (c .enum-told3 .given .1)
+returns-3 c = simp (c .enum-told3 .given .1, limit-constraints)
 
 pub limit-of-spec : {M : Type 1} → statement M
 limit-of-spec = tie.close (tie.spec enum-told enum-told-2 enum-told-3 returns returns-2 returns-3)

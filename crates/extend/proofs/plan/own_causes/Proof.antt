@@ -5,11 +5,10 @@ use mathlib.Core.Bool.{true}
 use mathlib.Core.Logic.{⊎-elim}
 use denote.Ref.{now}
 use lib.ListN.{length, getD}
-use borrow.Author.Tests.{eq-eqb, le-leb}
 use Rattle.format.specs.declared.Section.the-variants.{Groups, Rules, Constraints}
 use Rattle.format.specs.Format.{kindIn}
 use Rattle.format.specs.Answers.{outcome}
-use Rattle.format.proofs.Tests.{and-true}
+use Rattle.format.proofs.ByCase.{kind-groups, kind-rules, kind-constraints}
 use Rattle.format.proofs.Front.{front-header}
 use Rattle.extension.specs.Add.{ownFault}
 use Rattle.extend.proofs.PlanLaws.{own-tiny, own-length, own-kind, slot-is, end-groups, end-rules, end-constraints}
@@ -22,16 +21,13 @@ whole : (d : tie.Else2) → getD (now (d .before .before .before .before .before
 whole d = omega (arith, d .before .wide .ensures .0, d .if2 .left)
 
 kind-group : (d : tie.At-match-keys1) → kindIn Groups (getD (now (d .before .before .before .before .before .before .before .before .args .part)) 1 0) ≡ true
-unfolding kindIn
-kind-group d = eq-eqb (getD (now (d .before .before .before .before .before .before .before .before .args .part)) 1 0) 1 (d .match .keys1)
+kind-group d = kind-groups (getD (now (d .before .before .before .before .before .before .before .before .args .part)) 1 0) (d .match .keys1)
 
 kind-constraint : (d : tie.At-match-keys2) → kindIn Constraints (getD (now (d .before .before .before .before .before .before .before .before .args .part)) 1 0) ≡ true
-unfolding kindIn
-kind-constraint d = eq-eqb (getD (now (d .before .before .before .before .before .before .before .before .args .part)) 1 0) 4 (d .match .keys2)
+kind-constraint d = kind-constraints (getD (now (d .before .before .before .before .before .before .before .before .args .part)) 1 0) (d .match .keys2)
 
 kind-rule : (d : tie.Then4) → kindIn Rules (getD (now (d .before .before .before .before .before .before .before .before .before .before .args .part)) 1 0) ≡ true
-unfolding kindIn
-kind-rule d = and-true (le-leb 2 (getD (now (d .before .before .before .before .before .before .before .before .before .before .args .part)) 1 0) (omega arith)) (le-leb (getD (now (d .before .before .before .before .before .before .before .before .before .before .args .part)) 1 0) 3 (omega arith))
+kind-rule d = kind-rules _ (omega arith) (omega arith)
 
 refused-requires : tie.Need-refused-requires
 refused-requires c κs = search needs

@@ -8,8 +8,9 @@ use Rattle.format.specs.declared.Section.the-variants.{Groups}
 use Rattle.format.specs.declared.Read.{Read}
 use Rattle.format.specs.declared.Read.the-variants.{Whole}
 use Rattle.format.specs.Bytes.{wordAt}
-use Rattle.format.specs.Format.{limitOf, countPlace, countOf}
+use Rattle.format.specs.Format.{limitOf, countOf}
 use Rattle.format.specs.Check.{readOf}
+use Rattle.format.proofs.ByCase.{count-at, count-groups}
 use Rattle.format.proofs.Front.{front-header, front-fits}
 use Rattle.extend.proofs.PlanLaws.{own-malformed, own-field, own-full, own-short, own-none, slot-made}
 use borrow.Author.Needs.{needs}
@@ -20,8 +21,7 @@ use Rattle.extend.proofs.plan.room.Tie as tie
 read :
     (d : tie.After-read-record) (w : Read) → d .read-record .result ≡ w
     → readOf (d .before .before .before .before .args .section) (countOf (now (d .before .before .before .before .args .buffer)) Groups) (now (d .before .before .before .before .args .part)) ≡ w
-unfolding countOf countPlace
-read d w e = ap (λ g. readOf (d .before .before .before .before .args .section) g (now (d .before .before .before .before .args .part))) (sym (d .before .word-at .ensures .0)) ∙ sym (d .read-record .ensures) ∙ e
+read d w e = ap (λ g. readOf (d .before .before .before .before .args .section) g (now (d .before .before .before .before .args .part))) (count-groups _ ∙ sym (d .before .word-at .ensures .0)) ∙ sym (d .read-record .ensures) ∙ e
 
 long : (d : tie.After-read-record) → 9 ≤ length (now (d .before .before .before .before .args .buffer))
 long d = front-header _ (d .before .before .before .before .pre .0) .long
@@ -31,8 +31,7 @@ whole d = read (d .before .before) _ (d .enum-told2 .given .1)
 
 -- the section's count
 counted : (d : tie.After-word-at2) → d .word-at2 .result ≡ countOf (now (d .before .before .before .before .before .before .before .before .args .buffer)) (d .before .before .before .before .before .before .before .before .args .section)
-unfolding countOf
-counted d = d .word-at2 .ensures .0 ∙ ap (wordAt (now (d .before .before .before .before .before .before .before .before .args .buffer))) (d .before .count-place .ensures .0)
+counted d = d .word-at2 .ensures .0 ∙ ap (wordAt (now (d .before .before .before .before .before .before .before .before .args .buffer))) (d .before .count-place .ensures .0) ∙ sym (count-at _ _)
 
 few : (d : tie.Else1) → countOf (now (d .before .before .before .before .before .before .before .before .before .before .args .buffer)) (d .before .before .before .before .before .before .before .before .before .before .args .section) < limitOf (d .before .before .before .before .before .before .before .before .before .before .args .section)
 few d = omega (arith, counted (d .before .before), d .before .limit-of .ensures)
