@@ -5,3 +5,4 @@ pub mod Order
 pub mod Growth
 pub mod Filled
 pub mod Tepla
+pub mod Answers

@@ -14,6 +14,7 @@ use mathlib.Core.List.{List, [], _∷_, _++_, map, List·Memᴰ}
 use lib.ListN.{length, getD, drop, length-drop}
 use lib.Dec.{eqb}
 use borrow.Author.Tests.{eqb-false, lt-ltb, le-ltb, eq-eqb}
+use Rattle.format.specs.declared.Section.{Section}
 use Rattle.format.specs.declared.Section.the-variants.{Groups, Rules, Constraints}
 use Rattle.format.specs.Bytes.{wordAt, words}
 use Rattle.format.specs.Refusals.{refusal, need, _orElse_}
@@ -25,7 +26,8 @@ use Rattle.format.specs.Claims.{IsType, IsConstraint, IsRecord}
 use Rattle.format.proofs.Chain.{orElse-split, orElse-none, need-true, need-none, outcome-gives}
 use Rattle.format.proofs.Bytes.{length-words, words-nth}
 use Rattle.format.proofs.Shapes.{Formed}
-use Rattle.format.proofs.Fields.{type-is, formed-is}
+use Rattle.format.proofs.ByCase.{records-of-rules, records-of-constraints}
+use Rattle.format.proofs.Fields.{type-is, formed-is, record-rule, record-constraint}
 use Rattle.format.proofs.Images.{policy-formed, group-count}
 use Rattle.decision.specs.declared.Query.{Query}
 use Rattle.decision.specs.Sets.{anyOf, isIn, setOf, unionOf, within}
@@ -163,17 +165,17 @@ pub record Typed (p : Policy) : Type 0 where
   pub constraints : (r : List ℕ) → List·Memᴰ r (p .constraints) → IsRecord Constraints (length (p .groups)) r
 
 pub accepted-typed : (l : List ℕ) → check l ≡ none → Typed (policyOf l)
-unfolding recordsOf
 accepted-typed l e =
     record {
-      rules = λ r m. formed-is _ r Rules (subst (λ (g : ℕ). Formed Rules g r) (sym (group-count l)) (policy-formed l e Rules r m));
-      constraints = λ r m. formed-is _ r Constraints (subst (λ (g : ℕ). Formed Constraints g r) (sym (group-count l)) (policy-formed l e Constraints r m));
+      rules = λ r m. typed Rules r (rw (records-of-rules (policyOf l)) m);
+      constraints = λ r m. typed Constraints r (rw (records-of-constraints (policyOf l)) m);
     }
+  where
+    typed : (s : Section) (r : List ℕ) → List·Memᴰ r (recordsOf (policyOf l) s) → IsRecord s (length (policyOf l .groups)) r
+    typed s r m = formed-is _ r s (subst (λ (g : ℕ). Formed s g r) (sym (group-count l)) (policy-formed l e s r m))
 
 rule-types : (g : ℕ) (r : List ℕ) → IsRecord Rules g r → IsType g (wordAt r 2) × IsType g (wordAt r 4)
-unfolding IsRecord
-rule-types g r (inl f) = (f .source, f .dest)
-rule-types g r (inr f) = (f .source, f .dest)
+rule-types g r q = ⊎-elim (λ f. (f .source, f .dest)) (λ f. (f .source, f .dest)) (record-rule g r q)
 
 list-types : (g : ℕ) (r : List ℕ) (n : ℕ) → IsConstraint g r n → (i : ℕ) → i < length (words (drop 11 r)) → IsType g (getD (words (drop 11 r)) i 0)
 list-types g r n f i h =
@@ -188,8 +190,7 @@ module _ (p₁ p₂ : Policy) (q₁ q₂ : Query) (typed : Typed p₁) (e : Exte
       rw (set-kept (p₁ .groups) (p₂ .groups) (e .policy .groups) (wordAt r 2) (t .0), set-kept (p₁ .groups) (p₂ .groups) (e .policy .groups) (wordAt r 4) (t .1))
 
   constraint-is : (c : List ℕ) → List·Memᴰ c (p₁ .constraints) → (n : ℕ) × IsConstraint (length (p₁ .groups)) c n
-  unfolding IsRecord
-  constraint-is c m = typed .constraints c m
+  constraint-is c m = record-constraint _ c (typed .constraints c m)
 
   constraint-kept : (c : List ℕ) → List·Memᴰ c (p₁ .constraints) → constraintOf (p₁ .groups) c ≡ constraintOf (p₂ .groups) c
   unfolding constraintOf
