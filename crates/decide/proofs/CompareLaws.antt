@@ -8,15 +8,19 @@ use lib.Dec.{eqb, ltb}
 use borrow.Author.Tests.{eq-eqb, ne-eqb, eqb-true, eqb-false, ltb-true, ltb-false}
 use Rattle.format.specs.Bytes.{wordAt}
 use Rattle.format.specs.Inner.Places.{wordsAt, Rising}
+use Rattle.format.proofs.Fields.{rising-cons, rising-parts}
+use Rattle.format.proofs.Places.{words-at-none, words-at-next}
 use Rattle.decision.specs.Sets.{anyOf, allOf, isIn, within, sameSet}
 use Rattle.decide.specs.Inner.Names.{sameList}
 use Rattle.decide.proofs.SetLaws.{below-out}
 
 -- what lies above x is in x ∷ ys where it is in ys
 within-tail : (x : ℕ) (xs ys : List ℕ) (k : ℕ) → x < k → Rising k xs → within xs (x ∷ ys) ≡ within xs ys
-unfolding Rising within allOf isIn anyOf
+unfolding within allOf isIn anyOf
 within-tail x [] ys k h r = refl
-within-tail x (z ∷ xs) ys k h r = simp (ne-eqb z x (omega (arith, r .0)), within-tail x xs ys (suc z) (omega (arith, r .0)) (r .2))
+within-tail x (z ∷ xs) ys k h r =
+    let q = rising-parts k z xs r in
+    simp (ne-eqb z x (omega (arith, q .0)), within-tail x xs ys (suc z) (omega (arith, q .0)) (q .2))
 
 within-head : (x : ℕ) (xs ys : List ℕ) → within (x ∷ xs) ys ≡ isIn x ys && within xs ys
 unfolding within allOf
@@ -44,12 +48,10 @@ unfolding sameSet
 same-right y S ys e = rw (within-head y ys S, e) (and-false (within S (y ∷ ys)))
 
 rising-head : (low m : ℕ) (ms : List ℕ) → Rising low (m ∷ ms) → Rising m (m ∷ ms)
-unfolding Rising
-rising-head low m ms r = (omega arith, r .1, r .2)
+rising-head low m ms r = let q = rising-parts low m ms r in rising-cons m m ms (omega arith) (q .1) (q .2)
 
 rising-tail : (low m : ℕ) (ms : List ℕ) → Rising low (m ∷ ms) → Rising (suc m) ms
-unfolding Rising
-rising-tail low m ms r = r .2
+rising-tail low m ms r = rising-parts low m ms r .2
 
 list-cons : (x y : ℕ) (xs ys : List ℕ) → sameList (x ∷ xs) (y ∷ ys) ≡ cond (eqb x y) (sameList xs ys) false
 unfolding sameList
@@ -94,26 +96,26 @@ same-is (x ∷ xs) (y ∷ ys) i j r s = go (same-is xs ys (suc x) (suc y) (risin
 -- the lists in two parts of an image, so many from a place on
 module _ (l : List ℕ) (n i m j : ℕ) where
   pub list-end : n ≡ 0 → sameList (wordsAt l n i) (wordsAt l m j) ≡ eqb m 0
-  unfolding sameList wordsAt
-  list-end e = rw e (go m)
+  unfolding sameList
+  list-end e = rw (words-at-none l n i e) (go m)
     where
       go : (m : ℕ) → sameList [] (wordsAt l m j) ≡ eqb m 0
-      go zero = refl
-      go (suc m) = sym (ne-eqb (suc m) 0 (omega arith))
+      go zero = rw (words-at-none l 0 j refl)
+      go (suc m) = rw (words-at-next l (suc m) j m refl) (sym (ne-eqb (suc m) 0 (omega arith)))
 
   module _ (p : ℕ) (more : n ≡ suc p) where
     pub list-short : m ≡ 0 → sameList (wordsAt l n i) (wordsAt l m j) ≡ false
-    unfolding sameList wordsAt
-    list-short e = rw (more, e) refl
+    unfolding sameList
+    list-short e = rw (words-at-next l n i p more, words-at-none l m j e)
 
     module _ (q : ℕ) (also : m ≡ suc q) (a b : ℕ) (first : a ≡ wordAt l i) (second : b ≡ wordAt l j) where
       pub list-differ : (a ≡ b → ⊥) → sameList (wordsAt l n i) (wordsAt l m j) ≡ false
-      unfolding sameList wordsAt
-      list-differ h = rw (more, also) (simp (ne-eqb (wordAt l i) (wordAt l j) (λ e. h (first ∙ e ∙ sym second))))
+      unfolding sameList
+      list-differ h = rw (words-at-next l n i p more, words-at-next l m j q also) (simp (ne-eqb (wordAt l i) (wordAt l j) (λ e. h (first ∙ e ∙ sym second))))
 
       pub list-next : a ≡ b → sameList (wordsAt l n i) (wordsAt l m j) ≡ sameList (wordsAt l p (i + 2)) (wordsAt l q (j + 2))
-      unfolding sameList wordsAt
-      list-next h = rw (more, also) (simp (eq-eqb (wordAt l i) (wordAt l j) (sym first ∙ h ∙ second)))
+      unfolding sameList
+      list-next h = rw (words-at-next l n i p more, words-at-next l m j q also) (simp (eq-eqb (wordAt l i) (wordAt l j) (sym first ∙ h ∙ second)))
 
 pub same-both : (S S' T T' : List ℕ) → S' ≡ S → T' ≡ T → sameList S T ≡ sameList S' T'
 same-both S S' T T' e f = sym (ap (λ x. sameList x T') e ∙ ap (sameList S) f)

@@ -11,11 +11,13 @@ use borrow.Author.Tests.{eq-eqb, ne-eqb}
 use Rattle.format.specs.declared.Section.the-variants.{Groups, Constraints}
 use Rattle.format.specs.Bytes.{wordAt}
 use Rattle.format.specs.Format.{countOf}
-use Rattle.format.specs.Policy.{policyOf, recordAt, recordsAt, startOf, placeOf, placeAfter}
+use Rattle.format.specs.Policy.{recordAt, recordsAt, startOf, placeOf}
 use Rattle.format.specs.Check.{check}
 use Rattle.format.specs.Claims.{IsType}
 use Rattle.format.proofs.Shapes.{stands-word}
 use Rattle.format.specs.Inner.Places.{wordsAt, ConstraintAt}
+use Rattle.format.proofs.Accepted.{place-first, policy-constraints}
+use Rattle.format.proofs.Records.{records-none, records-next}
 use Rattle.decision.specs.Sets.{anyOf, allOf, isIn, setOf, unionOf, within, touches, sameSet}
 use Rattle.decision.specs.Decide.{Rule, Constraint, constraintOf, Request, requestOf, firstAt, live, reaches, separationBroken, rosterBroken, companionBroken, broken, fails}
 use Rattle.decide.specs.Inner.Spans.{groupsIn}
@@ -194,21 +196,21 @@ fromConstraint l q k n at = foundOf (firstAt (fails (rulesIn l) (requestOf (grou
 
 pub constraints-start : (l : List ℕ) (q : Query) (from count : ℕ) → from ≡ startOf l Constraints → count ≡ countOf l Constraints
     → (from ≡ placeOf l Constraints 0) × (firstConstraint l q ≡ fromConstraint l q (count - 0) 0 from)
-unfolding firstConstraint fromConstraint placeOf placeAfter policyOf
+unfolding firstConstraint fromConstraint
 constraints-start l q from count e h =
     let z : count - 0 ≡ countOf l Constraints = omega arith in
-    (e, rw (z, e))
+    (e ∙ sym (place-first l Constraints), rw (z, e, policy-constraints l))
 
 module _ (l : List ℕ) (q : Query) (k n at : ℕ) where
   pub constraints-end : k ≡ 0 → fromConstraint l q k n at ≡ Nothing
-  unfolding fromConstraint foundOf firstAt recordsAt
-  constraints-end e = rw e
+  unfolding fromConstraint foundOf firstAt
+  constraints-end e = rw (records-none l at k e)
 
   pub constraints-hit : (j : ℕ) → k ≡ suc j → fails (rulesIn l) (requestOf (groupsIn l) q) (constraintOf (groupsIn l) (recordAt l at)) ≡ true → fromConstraint l q k n at ≡ At n
-  unfolding fromConstraint foundOf firstAt recordsAt
-  constraints-hit j e y = rw e (simp y)
+  unfolding fromConstraint foundOf firstAt
+  constraints-hit j e y = rw (records-next l at k j e) (simp y)
 
   pub constraints-next : (j : ℕ) → k ≡ suc j → fails (rulesIn l) (requestOf (groupsIn l) q) (constraintOf (groupsIn l) (recordAt l at)) ≡ false
       → fromConstraint l q k n at ≡ fromConstraint l q j (n + 1) (at + getD l at 0)
-  unfolding fromConstraint foundOf firstAt recordsAt
-  constraints-next j e y = rw (e, add-one) (simp y)
+  unfolding fromConstraint foundOf firstAt
+  constraints-next j e y = rw (records-next l at k j e, add-one) (simp y)

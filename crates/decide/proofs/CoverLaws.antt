@@ -13,12 +13,14 @@ use borrow.Author.Tests.{lt-ltb, le-ltb, eq-eqb, ne-eqb, ltb-false}
 use Rattle.format.specs.declared.Section.the-variants.{Groups, Rules}
 use Rattle.format.specs.Bytes.{wordAt}
 use Rattle.format.specs.Format.{countOf}
-use Rattle.format.specs.Policy.{policyOf, recordAt, recordsAt, startOf, placeOf, placeAfter}
+use Rattle.format.specs.Policy.{recordAt, recordsAt, startOf, placeOf}
 use Rattle.format.specs.Check.{check}
 use Rattle.format.specs.Claims.{IsType}
 use Rattle.format.proofs.Tests.{false-not-true}
 use Rattle.format.proofs.Shapes.{stands-word}
 use Rattle.format.specs.Inner.Places.{RuleAt}
+use Rattle.format.proofs.Accepted.{place-first, policy-rules}
+use Rattle.format.proofs.Records.{records-none, records-next}
 use Rattle.decision.specs.declared.Query.{Query}
 use Rattle.decision.specs.Sets.{allOf, setOf, within}
 use Rattle.decision.specs.Decide.{Rule, ruleOf, Request, requestOf, live, tests, covers, firstAt}
@@ -140,24 +142,24 @@ fromRule l q k n at = foundOf (firstAt (covers (requestOf (groupsIn l) q)) n (ma
 
 pub rules-start : (l : List ℕ) (q : Query) (from count : ℕ) → from ≡ startOf l Rules → count ≡ countOf l Rules
     → (from ≡ placeOf l Rules 0) × (firstRule l q ≡ fromRule l q (count - 0) 0 from)
-unfolding firstRule fromRule placeOf placeAfter policyOf
+unfolding firstRule fromRule
 rules-start l q from count e h =
     let z : count - 0 ≡ countOf l Rules = omega arith in
-    (e, rw (z, e))
+    (e ∙ sym (place-first l Rules), rw (z, e, policy-rules l))
 
 module _ (l : List ℕ) (q : Query) (k n at : ℕ) where
   pub rules-end : k ≡ 0 → fromRule l q k n at ≡ Nothing
-  unfolding fromRule foundOf firstAt recordsAt
-  rules-end e = rw e
+  unfolding fromRule foundOf firstAt
+  rules-end e = rw (records-none l at k e)
 
   pub rules-hit : 0 < k → covers (requestOf (groupsIn l) q) (ruleOf (groupsIn l) (recordAt l at)) ≡ true → fromRule l q k n at ≡ At n
-  unfolding fromRule foundOf firstAt recordsAt
-  rules-hit h y = let e : k ≡ suc (k - 1) = omega arith in rw e (simp y)
+  unfolding fromRule foundOf firstAt
+  rules-hit h y = let e : k ≡ suc (k - 1) = omega arith in rw (records-next l at k (k - 1) e) (simp y)
 
   pub rules-next : (j : ℕ) → k ≡ suc j → covers (requestOf (groupsIn l) q) (ruleOf (groupsIn l) (recordAt l at)) ≡ false
       → fromRule l q k n at ≡ fromRule l q j (n + 1) (at + getD l at 0)
-  unfolding fromRule foundOf firstAt recordsAt
-  rules-next j e y = rw (e, add-one) (simp y)
+  unfolding fromRule foundOf firstAt
+  rules-next j e y = rw (records-next l at k j e, add-one) (simp y)
 
 -- ---- groups that were passed over
 

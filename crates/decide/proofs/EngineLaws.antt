@@ -7,7 +7,7 @@ use mathlib.Core.List.{List}
 use lib.ListN.{length, getD, replicate}
 use Rattle.format.specs.declared.Section.the-variants.{Groups}
 use Rattle.format.specs.declared.Refusal.{Refusal}
-use Rattle.format.specs.Refusals.{refusal, need, _orElse_}
+use Rattle.format.specs.Refusals.{refusal}
 use Rattle.format.specs.Format.{countOf, isType}
 use Rattle.format.specs.Policy.{policyOf}
 use Rattle.format.specs.Check.{check}
@@ -15,7 +15,7 @@ use Rattle.format.specs.Claims.{IsType}
 use Rattle.format.specs.Answers.{refused, gives, outcome, sectionsOutcome, starts}
 use Rattle.decision.specs.declared.Query.{Query}
 use Rattle.decision.specs.Sets.{setOf}
-use Rattle.decision.specs.Decide as tepla
+use Rattle.decision.specs.Decide as deciding
 use Rattle.decide.specs.declared.cover.Found.{Found}
 use Rattle.decide.specs.declared.cover.Found.the-variants.{At, Nothing}
 use Rattle.decide.specs.Ready.{placeIn, unless, groupPlace, Prepares, Ready}
@@ -25,7 +25,7 @@ use Rattle.decide.specs.Inner.Rules.{rulesIn, foundOf, firstRule, firstC
 use Rattle.decide.specs.declared.engine.Prepared.{Prepared}
 use Rattle.format.specs.declared.Starts.{Starts}
 use Rattle.format.specs.declared.Sections.the-variants as sections
-use Rattle.format.proofs.Chain.{outcome-gives}
+use Rattle.format.proofs.Chain.{orElse-next, orElse-first, need-none, need-some, outcome-gives}
 use Rattle.decide.proofs.ArrayLaws.{blank}
 use Rattle.decide.proofs.TypeLaws.{set-rising, places-placed}
 use Rattle.decide.proofs.MarkedLaws.{marked-of}
@@ -39,49 +39,49 @@ unfolding foundOf
 found-back none = refl
 found-back (some n) = refl
 
-both : (o o' p p' : Option ℕ) → o ≡ o' → p ≡ p' → tepla.decisionOf o p ≡ tepla.decisionOf o' p'
+both : (o o' p p' : Option ℕ) → o ≡ o' → p ≡ p' → deciding.decisionOf o p ≡ deciding.decisionOf o' p'
 both o o' p p' e f = rw (e, f) refl
 
 -- the decision is that of the lowest covering rule and the lowest failing constraint
-pub engine-is : (l : List ℕ) (q : Query) → tepla.decide (policyOf l) q ≡ tepla.decisionOf (optionOf (firstRule l q)) (optionOf (firstConstraint l q))
-unfolding tepla.decide tepla.judge firstRule firstConstraint rulesIn
+pub engine-is : (l : List ℕ) (q : Query) → deciding.decide (policyOf l) q ≡ deciding.decisionOf (optionOf (firstRule l q)) (optionOf (firstConstraint l q))
+unfolding deciding.decide deciding.judge firstRule firstConstraint rulesIn
 engine-is l q = both _ _ _ _ (sym (found-back _)) (sym (found-back _))
 
 module _ (l : List ℕ) (q : Query) where
-  pub engine-none : Nothing ≡ firstRule l q → tepla.decide (policyOf l) q ≡ tepla.notPermitted
-  unfolding tepla.decisionOf
-  engine-none e = engine-is l q ∙ ap (λ f. tepla.decisionOf (optionOf f) (optionOf (firstConstraint l q))) (sym e)
+  pub engine-none : Nothing ≡ firstRule l q → deciding.decide (policyOf l) q ≡ deciding.notPermitted
+  unfolding deciding.decisionOf
+  engine-none e = engine-is l q ∙ ap (λ f. deciding.decisionOf (optionOf f) (optionOf (firstConstraint l q))) (sym e)
 
-  pub engine-permitted : (r : ℕ) → At r ≡ firstRule l q → Nothing ≡ firstConstraint l q → tepla.decide (policyOf l) q ≡ tepla.permitted r
-  unfolding tepla.decisionOf
-  engine-permitted r e f = engine-is l q ∙ ap (λ f. tepla.decisionOf (optionOf f) (optionOf (firstConstraint l q))) (sym e) ∙ ap (λ f. tepla.decisionOf (some r) (optionOf f)) (sym f)
+  pub engine-permitted : (r : ℕ) → At r ≡ firstRule l q → Nothing ≡ firstConstraint l q → deciding.decide (policyOf l) q ≡ deciding.permitted r
+  unfolding deciding.decisionOf
+  engine-permitted r e f = engine-is l q ∙ ap (λ f. deciding.decisionOf (optionOf f) (optionOf (firstConstraint l q))) (sym e) ∙ ap (λ f. deciding.decisionOf (some r) (optionOf f)) (sym f)
 
-  pub engine-unknown : (r c : ℕ) → At r ≡ firstRule l q → At c ≡ firstConstraint l q → tepla.decide (policyOf l) q ≡ tepla.unknown r c
-  unfolding tepla.decisionOf
-  engine-unknown r c e f = engine-is l q ∙ ap (λ f. tepla.decisionOf (optionOf f) (optionOf (firstConstraint l q))) (sym e) ∙ ap (λ f. tepla.decisionOf (some r) (optionOf f)) (sym f)
+  pub engine-unknown : (r c : ℕ) → At r ≡ firstRule l q → At c ≡ firstConstraint l q → deciding.decide (policyOf l) q ≡ deciding.unknown r c
+  unfolding deciding.decisionOf
+  engine-unknown r c e f = engine-is l q ∙ ap (λ f. deciding.decisionOf (optionOf f) (optionOf (firstConstraint l q))) (sym e) ∙ ap (λ f. deciding.decisionOf (some r) (optionOf f)) (sym f)
 
   -- ---- the answer
 
-  pub answer-refused : (f : Refusal) → check l ≡ some f → tepla.answer l q ≡ refused f
-  unfolding tepla.answer tepla.answerFault _orElse_
-  answer-refused f e = rw e refl
+  pub answer-refused : (f : Refusal) → check l ≡ some f → deciding.answer l q ≡ refused f
+  unfolding deciding.answer deciding.answerFault
+  answer-refused f e = ap (λ x. outcome x (deciding.decide (policyOf l) q)) (orElse-first _ e)
 
-  pub answer-accepted : check l ≡ none → tepla.answer l q ≡ outcome (tepla.queryFault (countOf l Groups) q) (tepla.decide (policyOf l) q)
-  unfolding tepla.answer tepla.answerFault _orElse_
-  answer-accepted e = rw e refl
+  pub answer-accepted : check l ≡ none → deciding.answer l q ≡ outcome (deciding.queryFault (countOf l Groups) q) (deciding.decide (policyOf l) q)
+  unfolding deciding.answer deciding.answerFault
+  answer-accepted e = ap (λ x. outcome x (deciding.decide (policyOf l) q)) (orElse-next _ e)
 
 module _ (g : ℕ) (q : Query) where
-  pub query-source : isType g (q .source) ≡ false → tepla.queryFault g q ≡ some (refusal 8 0)
-  unfolding tepla.queryFault need _orElse_
-  query-source e = rw e refl
+  pub query-source : isType g (q .source) ≡ false → deciding.queryFault g q ≡ some (refusal 8 0)
+  unfolding deciding.queryFault
+  query-source e = orElse-first _ (need-some _ e)
 
-  pub query-dest : isType g (q .source) ≡ true → isType g (q .dest) ≡ false → tepla.queryFault g q ≡ some (refusal 9 0)
-  unfolding tepla.queryFault need _orElse_
-  query-dest e f = rw (e, f) refl
+  pub query-dest : isType g (q .source) ≡ true → isType g (q .dest) ≡ false → deciding.queryFault g q ≡ some (refusal 9 0)
+  unfolding deciding.queryFault
+  query-dest e f = orElse-next _ (need-none _ e) ∙ need-some _ f
 
-  pub query-valid : isType g (q .source) ≡ true → isType g (q .dest) ≡ true → tepla.queryFault g q ≡ none
-  unfolding tepla.queryFault need _orElse_
-  query-valid e f = rw (e, f) refl
+  pub query-valid : isType g (q .source) ≡ true → isType g (q .dest) ≡ true → deciding.queryFault g q ≡ none
+  unfolding deciding.queryFault
+  query-valid e f = orElse-next _ (need-none _ e) ∙ need-none _ f
 
 pub type-told : (g h t w : ℕ) (b : Bool) → b ≡ isType g t → g ≡ h → t ≡ w → isType h w ≡ b
 type-told g h t w b e f k = sym (e ∙ ap (λ x. isType x t) f ∙ ap (isType h) k)

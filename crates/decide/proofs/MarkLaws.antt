@@ -7,69 +7,71 @@ use native.Mathlib.Omega.{arith}
 use lib.ListN.{getD, set}
 use Rattle.format.specs.Bytes.{wordAt}
 use Rattle.format.specs.Inner.Places.{wordsAt, Rising}
+use Rattle.format.proofs.Fields.{rising-nil, rising-cons, rising-parts}
+use Rattle.format.proofs.Places.{words-at-none, words-at-next}
 use Rattle.decision.specs.Sets.{anyOf, allOf}
 use Rattle.decide.specs.Inner.Marks.{markAll, anyMarked, allMarked, tallied}
 
 -- a rising list is rising from a lower bound too
 pub rising-lower : (low k : ℕ) (ms : List ℕ) → k ≤ low → Rising low ms → Rising k ms
-unfolding Rising
-rising-lower low k [] h r = tt
-rising-lower low k (m ∷ ms) h r = (omega (arith, r .0), r .1, r .2)
+rising-lower low k [] h r = rising-nil k
+rising-lower low k (m ∷ ms) h r = let q = rising-parts low m ms r in rising-cons k m ms (omega (arith, q .0)) (q .1) (q .2)
 
 module _ (l : List ℕ) (at n k : ℕ) (next : n ≡ suc k) (r : Rising 0 (wordsAt l n at)) where
+  walk-parts : (0 ≤ wordAt l at) × (wordAt l at < 1024) × Rising (suc (wordAt l at)) (wordsAt l k (at + 2))
+  walk-parts = rising-parts 0 (wordAt l at) (wordsAt l k (at + 2)) (rw (words-at-next l n at k next) at r)
+
   pub walk-small : wordAt l at < 1024
-  unfolding wordsAt Rising
-  walk-small = (rw next at r) .1
+  walk-small = walk-parts .1
 
   pub walk-rest : Rising 0 (wordsAt l k (at + 2))
-  unfolding wordsAt Rising
-  walk-rest = rising-lower (suc (wordAt l at)) 0 (wordsAt l k (at + 2)) (omega arith) ((rw next at r) .2)
+  walk-rest = rising-lower (suc (wordAt l at)) 0 (wordsAt l k (at + 2)) (omega arith) (walk-parts .2)
 
 module _ (ms : List Bool) (l : List ℕ) (at n : ℕ) where
   pub mark-end : n ≡ 0 → markAll ms (wordsAt l n at) ≡ ms
-  unfolding markAll wordsAt
-  mark-end e = rw e
+  unfolding markAll
+  mark-end e = rw (words-at-none l n at e)
 
   pub any-end : n ≡ 0 → anyMarked ms (wordsAt l n at) ≡ false
-  unfolding anyMarked anyOf wordsAt
-  any-end e = rw e
+  unfolding anyMarked anyOf
+  any-end e = rw (words-at-none l n at e)
 
   pub all-end : n ≡ 0 → allMarked ms (wordsAt l n at) ≡ true
-  unfolding allMarked allOf wordsAt
-  all-end e = rw e
+  unfolding allMarked allOf
+  all-end e = rw (words-at-none l n at e)
 
   pub tally-end : n ≡ 0 → tallied ms (wordsAt l n at) ≡ 0
-  unfolding tallied wordsAt
-  tally-end e = rw e
+  unfolding tallied
+  tally-end e = rw (words-at-none l n at e)
 
   module _ (k : ℕ) (more : n ≡ suc k) (t : ℕ) (is : t ≡ wordAt l at) where
     pub mark-next : markAll ms (wordsAt l n at) ≡ markAll (set ms t true) (wordsAt l k (at + 2))
-    unfolding markAll wordsAt
-    mark-next = rw (more, is)
+    unfolding markAll
+    mark-next = rw (words-at-next l n at k more, is)
 
     pub any-yes : getD ms t false ≡ true → anyMarked ms (wordsAt l n at) ≡ true
-    unfolding anyMarked anyOf wordsAt
-    any-yes y = rw more (simp (rw is at y))
+    unfolding anyMarked anyOf
+    any-yes y = rw (words-at-next l n at k more) (simp (rw is at y))
 
     pub any-no : getD ms t false ≡ false → anyMarked ms (wordsAt l n at) ≡ anyMarked ms (wordsAt l k (at + 2))
-    unfolding anyMarked anyOf wordsAt
-    any-no y = rw more (simp (rw is at y))
+    unfolding anyMarked anyOf
+    any-no y = rw (words-at-next l n at k more) (simp (rw is at y))
 
     pub all-no : getD ms t false ≡ false → allMarked ms (wordsAt l n at) ≡ false
-    unfolding allMarked allOf wordsAt
-    all-no y = rw more (simp (rw is at y))
+    unfolding allMarked allOf
+    all-no y = rw (words-at-next l n at k more) (simp (rw is at y))
 
     pub all-yes : getD ms t false ≡ true → allMarked ms (wordsAt l n at) ≡ allMarked ms (wordsAt l k (at + 2))
-    unfolding allMarked allOf wordsAt
-    all-yes y = rw more (simp (rw is at y))
+    unfolding allMarked allOf
+    all-yes y = rw (words-at-next l n at k more) (simp (rw is at y))
 
     pub tally-yes : getD ms t false ≡ true → tallied ms (wordsAt l n at) ≡ 1 + tallied ms (wordsAt l k (at + 2))
-    unfolding tallied wordsAt
-    tally-yes y = rw more (simp (rw is at y))
+    unfolding tallied
+    tally-yes y = rw (words-at-next l n at k more) (simp (rw is at y))
 
     pub tally-no : getD ms t false ≡ false → tallied ms (wordsAt l n at) ≡ tallied ms (wordsAt l k (at + 2))
-    unfolding tallied wordsAt
-    tally-no y = rw more (simp (rw is at y) (omega arith))
+    unfolding tallied
+    tally-no y = rw (words-at-next l n at k more) (simp (rw is at y) (omega arith))
 
 pub hits-on : {total : ℕ} (hits : ℕ) {more : ℕ} (a b : ℕ) → total ≡ hits + a → a ≡ 1 + b → more ≡ hits + 1 → total ≡ more + b
 hits-on hits a b e f g = omega arith

@@ -18,7 +18,8 @@ use Rattle.format.specs.Format.{countOf}
 use Rattle.format.specs.Check.{check}
 use Rattle.format.specs.Claims.{IsType}
 use Rattle.format.specs.Inner.Places.{wordsAt, Rising}
-use Rattle.format.proofs.Places.{words-at-length}
+use Rattle.format.proofs.Places.{words-at-length, words-at-none, words-at-next}
+use Rattle.format.proofs.Fields.{rising-parts}
 use Rattle.decision.specs.Sets.{anyOf, isIn, setOf, unionOf}
 use Rattle.decide.specs.Inner.Spans.{groupsIn, Spans}
 use Rattle.decide.specs.Inner.Marks.{markAll, Marked}
@@ -30,9 +31,8 @@ Small [] = Unit {0}
 Small (x ∷ xs) = (x < 1024) × Small xs
 
 pub rising-small : (low : ℕ) (xs : List ℕ) → Rising low xs → Small xs
-unfolding Rising
 rising-small low [] r = tt
-rising-small low (x ∷ xs) r = (r .1, rising-small (suc x) xs (r .2))
+rising-small low (x ∷ xs) r = let q = rising-parts low x xs r in (q .1, rising-small (suc x) xs (q .2))
 
 pub mark-append : (ms : List Bool) (xs ys : List ℕ) → markAll ms (xs ++ ys) ≡ markAll (markAll ms xs) ys
 unfolding markAll
@@ -78,12 +78,12 @@ module _ (l : List ℕ) (from count : ℕ) (S : List ℕ) (s : Spans l from coun
 -- the sets of n types from a place on
 module _ (ms : List Bool) (l : List ℕ) (at n : ℕ) where
   pub union-end : n ≡ 0 → markAll ms (unionOf (groupsIn l) (wordsAt l n at)) ≡ ms
-  unfolding markAll unionOf wordsAt
-  union-end e = rw e
+  unfolding markAll unionOf
+  union-end e = rw (words-at-none l n at e)
 
   pub union-next : (k : ℕ) → n ≡ suc k → markAll ms (unionOf (groupsIn l) (wordsAt l n at)) ≡ markAll (markAll ms (setOf (groupsIn l) (wordAt l at))) (unionOf (groupsIn l) (wordsAt l k (at + 2)))
-  unfolding unionOf wordsAt
-  union-next k e = rw e (mark-append ms (setOf (groupsIn l) (wordAt l at)) (unionOf (groupsIn l) (wordsAt l k (at + 2))))
+  unfolding unionOf
+  union-next k e = rw (words-at-next l n at k e) (mark-append ms (setOf (groupsIn l) (wordAt l at)) (unionOf (groupsIn l) (wordsAt l k (at + 2))))
 
 pub types-next : (P : ℕ → Type 0) (at n k : ℕ) → n ≡ suc k → ((i : ℕ) → i < n → P (at + 2 * i)) → P at × ((i : ℕ) → i < k → P (at + 2 + 2 * i))
 types-next P at n k e h = (subst P (omega arith) (h 0 (omega arith)), λ i j. subst P (omega arith) (h (suc i) (omega arith)))
@@ -95,8 +95,9 @@ small-append (x ∷ xs) ys s t = (s .0, small-append xs ys (s .1) t)
 -- the sets of n types from a place on are of basic types
 pub union-small :
     (l : List ℕ) (n at : ℕ) → check l ≡ none → ((i : ℕ) → i < n → IsType (countOf l Groups) (wordAt l (at + 2 * i))) → Small (unionOf (groupsIn l) (wordsAt l n at))
-unfolding unionOf wordsAt
-union-small l zero at c h = tt
+unfolding unionOf
+union-small l zero at c h = rw (words-at-none l 0 at refl) tt
 union-small l (suc n) at c h =
     let q = types-next (λ w. IsType (countOf l Groups) (wordAt l w)) at (suc n) n refl h in
-    small-append (setOf (groupsIn l) (wordAt l at)) (unionOf (groupsIn l) (wordsAt l n (at + 2))) (rising-small 0 _ (set-rising l (wordAt l at) c (q .0))) (union-small l n (at + 2) c (q .1))
+    rw (words-at-next l (suc n) at n refl)
+    (small-append (setOf (groupsIn l) (wordAt l at)) (unionOf (groupsIn l) (wordsAt l n (at + 2))) (rising-small 0 _ (set-rising l (wordAt l at) c (q .0))) (union-small l n (at + 2) c (q .1)))

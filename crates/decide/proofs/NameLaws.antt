@@ -17,8 +17,8 @@ use Rattle.format.specs.Check.{check}
 use Rattle.format.specs.Claims.{IsType}
 use Rattle.format.proofs.Tests.{false-not-true}
 use Rattle.format.specs.Inner.Places.{wordsAt, Rising}
-use Rattle.format.proofs.Fields.{rising-basic}
-use Rattle.format.proofs.Places.{words-at-length, words-at-nth}
+use Rattle.format.proofs.Fields.{rising-basic, rising-parts}
+use Rattle.format.proofs.Places.{words-at-length, words-at-nth, words-at-one}
 use Rattle.decision.specs.Sets.{setOf, sameSet}
 use Rattle.decide.specs.Inner.Spans.{groupsIn, Spans}
 use Rattle.decide.specs.Inner.Names.{sameList, twinFrom, keyOf, Firsts, nameOf, NamesKept}
@@ -97,9 +97,8 @@ abbrev setNamed : List ℕ → ℕ → List ℕ
 setNamed l n = cond (ltb n 1024) (n ∷ []) (setOf (groupsIn l) (32768 + (n - 1024)))
 
 single : (S : List ℕ) (low : ℕ) → Rising low S → length S ≡ 1 → (S ≡ getD S 0 0 ∷ []) × (getD S 0 0 < 1024)
-unfolding Rising
 single [] low r e = absurd (omega arith)
-single (x ∷ []) low r e = (refl, r .1)
+single (x ∷ []) low r e = (refl, rising-parts low x [] r .1)
 single (x ∷ (y ∷ ys)) low r e = absurd (omega arith)
 
 group-named : (l : List ℕ) (n : ℕ) → setNamed l (1024 + n) ≡ setOf (groupsIn l) (32768 + n)
@@ -196,8 +195,7 @@ module _ (l : List ℕ) (from count : ℕ) (S : List ℕ) (s : Spans l from coun
   span-length = ap length (sym (s .are)) ∙ words-at-length l count from
 
   pub span-one : count ≡ 1 → getD S 0 0 ≡ wordAt l from
-  unfolding wordsAt
-  span-one e = ap (λ x. getD x 0 0) (sym (s .are)) ∙ rw e refl
+  span-one e = ap (λ x. getD x 0 0) (sym (s .are)) ∙ rw (e, words-at-one l from)
 
 pub name-basic : (l : List ℕ) (t w : ℕ) → t ≡ w → t < 32768 → t ≡ nameOf l (setOf (groupsIn l) w)
 name-basic l t w is h =

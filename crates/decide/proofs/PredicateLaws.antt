@@ -2,7 +2,7 @@
 use Prim.Native.Nat.{ℕ, suc, _+_, _-_}
 use mathlib.Core.Path.{_≡_, sym, ap, _∙_}
 use mathlib.Core.Logic.{⊎-elim}
-use mathlib.Core.Bool.{Bool, true, false, _&&_}
+use mathlib.Core.Bool.{Bool, true, false, _&&_, _||_}
 use mathlib.Core.List.{List, map}
 use native.Mathlib.Omega.{arith}
 use lib.ListN.{getD, replicate}
@@ -11,10 +11,12 @@ use borrow.Author.Tests.{eq-eqb, ne-eqb}
 use Rattle.format.specs.declared.Section.the-variants.{Rules}
 use Rattle.format.specs.Bytes.{wordAt}
 use Rattle.format.specs.Format.{countOf}
-use Rattle.format.specs.Policy.{policyOf, recordAt, recordsAt, startOf, placeOf, placeAfter}
+use Rattle.format.specs.Policy.{recordAt, recordsAt, startOf, placeOf}
 use Rattle.format.proofs.Tests.{false-not-true}
 use Rattle.format.proofs.Shapes.{stands-word}
 use Rattle.format.specs.Inner.Places.{RuleAt}
+use Rattle.format.proofs.Accepted.{place-first, policy-rules}
+use Rattle.format.proofs.Records.{records-none, records-next}
 use Rattle.decision.specs.Sets.{anyOf, setOf}
 use Rattle.decision.specs.Decide.{Rule, ruleOf, live}
 use Rattle.decide.specs.Inner.Spans.{groupsIn}
@@ -92,20 +94,23 @@ anyFrom f l k at = anyOf f (map (ruleOf (groupsIn l)) (recordsAt l at k))
 
 module _ (f : Rule → Bool) (l : List ℕ) where
   pub any-rules-start : (from n : ℕ) → from ≡ startOf l Rules → n ≡ countOf l Rules → (from ≡ placeOf l Rules (n - n)) × (anyOf f (rulesIn l) ≡ anyFrom f l n from)
-  unfolding anyFrom rulesIn policyOf placeOf placeAfter
+  unfolding anyFrom rulesIn
   any-rules-start from n e h =
       let z : n - n ≡ 0 = omega arith in
-      (rw (z, e), rw (h, e))
+      (rw z (e ∙ sym (place-first l Rules)), rw (h, e, policy-rules l))
 
   module _ (k at : ℕ) where
     pub any-rules-end : k ≡ 0 → anyFrom f l k at ≡ false
-    unfolding anyFrom anyOf recordsAt
-    any-rules-end e = rw e
+    unfolding anyFrom anyOf
+    any-rules-end e = rw (records-none l at k e)
 
-    pub any-rules-hit : (j : ℕ) → k ≡ suc j → f (ruleOf (groupsIn l) (recordAt l at)) ≡ true → anyFrom f l k at ≡ true
-    unfolding anyFrom anyOf recordsAt
-    any-rules-hit j e y = rw e (simp y)
+    module _ (j : ℕ) (more : k ≡ suc j) where
+      pub any-rules-cons : anyFrom f l k at ≡ f (ruleOf (groupsIn l) (recordAt l at)) || anyFrom f l j (at + getD l at 0)
+      unfolding anyFrom anyOf
+      any-rules-cons = rw (records-next l at k j more)
 
-    pub any-rules-next : (j : ℕ) → k ≡ suc j → f (ruleOf (groupsIn l) (recordAt l at)) ≡ false → anyFrom f l k at ≡ anyFrom f l j (at + getD l at 0)
-    unfolding anyFrom anyOf recordsAt
-    any-rules-next j e y = rw e (simp y)
+      pub any-rules-hit : f (ruleOf (groupsIn l) (recordAt l at)) ≡ true → anyFrom f l k at ≡ true
+      any-rules-hit y = any-rules-cons ∙ simp y
+
+      pub any-rules-next : f (ruleOf (groupsIn l) (recordAt l at)) ≡ false → anyFrom f l k at ≡ anyFrom f l j (at + getD l at 0)
+      any-rules-next y = any-rules-cons ∙ simp y

@@ -10,6 +10,7 @@ use native.Mathlib.Omega.{arith}
 use lib.Dec.{eqb, eqb·suc-suc}
 use borrow.Author.Tests.{eqb-true, eqb-false, eq-eqb, ne-eqb}
 use Rattle.format.specs.Inner.Places.{Rising}
+use Rattle.format.proofs.Fields.{rising-parts}
 use Rattle.decision.specs.Sets.{anyOf, allOf, isIn, within}
 use Rattle.decide.specs.Inner.Marks.{Marked, tallied, fullyMarked}
 
@@ -20,26 +21,27 @@ tally f (x ∷ xs) = cond (f x) 1 0 + tally f xs
 
 -- what is below a rising list is none of it
 pub below-out : (low x : ℕ) (ms : List ℕ) → x < low → Rising low ms → isIn x ms ≡ false
-unfolding Rising isIn anyOf
+unfolding isIn anyOf
 below-out low x [] h r = refl
 below-out low x (m ∷ ms) h r =
-    let e : anyOf (eqb x) ms ≡ false = below-out (suc m) x ms (omega (arith, r .0)) (r .2) in
-    simp (ne-eqb x m (omega (arith, r .0)), e)
+    let q = rising-parts low m ms r in
+    let e : anyOf (eqb x) ms ≡ false = below-out (suc m) x ms (omega (arith, q .0)) (q .2) in
+    simp (ne-eqb x m (omega (arith, q .0)), e)
 
 pub tally-cong : (f g : ℕ → Bool) (xs : List ℕ) (low : ℕ) → Rising low xs → ((x : ℕ) → x < 1024 → f x ≡ g x) → tally f xs ≡ tally g xs
-unfolding tally Rising
+unfolding tally
 tally-cong f g [] low r h = refl
-tally-cong f g (x ∷ xs) low r h = rw (h x (r .1), tally-cong f g xs (suc x) (r .2) h)
+tally-cong f g (x ∷ xs) low r h = let q = rising-parts low x xs r in rw (h x (q .1), tally-cong f g xs (suc x) (q .2) h)
 
 -- one number is met once, or not at allOf
 tally-one : (x : ℕ) (ws : List ℕ) (low : ℕ) → Rising low ws → tally (eqb x) ws ≡ cond (isIn x ws) 1 0
-unfolding tally isIn anyOf Rising
+unfolding tally isIn anyOf
 tally-one x [] low r = refl
-tally-one x (w ∷ ws) low r = go (tally-one x ws (suc w) (r .2)) (eqb x w) refl
+tally-one x (w ∷ ws) low r = go (tally-one x ws (suc w) (rising-parts low w ws r .2)) (eqb x w) refl
   where
     go : tally (eqb x) ws ≡ cond (anyOf (eqb x) ws) 1 0 → (b : Bool) → eqb x w ≡ b → cond (eqb x w) 1 0 + tally (eqb x) ws ≡ cond (eqb x w || anyOf (eqb x) ws) 1 0
     go k true e =
-        let o : anyOf (eqb x) ws ≡ false = below-out (suc w) x ws (omega (arith, eqb-true x w e)) (r .2) in
+        let o : anyOf (eqb x) ws ≡ false = below-out (suc w) x ws (omega (arith, eqb-true x w e)) (rising-parts low w ws r .2) in
         simp (e, k, o)
     go k false e = simp (e) (omega (arith, k))
 
@@ -72,12 +74,11 @@ tally-nil f = refl
 
 -- the hits of a rising list in another are as many as those of the other in it
 tally-swap : (qs ws : List ℕ) (low k : ℕ) → Rising low qs → Rising k ws → tally (λ y. isIn y qs) ws ≡ tally (λ x. isIn x ws) qs
-unfolding Rising
 tally-swap [] ws low k r s = tally-none ws ∙ sym (tally-nil (λ x. isIn x ws))
 tally-swap (q ∷ qs) ws low k r s =
-    tally-cons q qs ws (r .2)
+    tally-cons q qs ws (rising-parts low q qs r .2)
     ∙ ap (λ (n : ℕ). n + tally (λ y. isIn y qs) ws) (tally-one q ws k s)
-    ∙ ap (λ (n : ℕ). cond (isIn q ws) 1 0 + n) (tally-swap qs ws (suc q) k (r .2) s)
+    ∙ ap (λ (n : ℕ). cond (isIn q ws) 1 0 + n) (tally-swap qs ws (suc q) k (rising-parts low q qs r .2) s)
     ∙ sym (tally-head (λ x. isIn x ws) q qs)
 
 tally-le : (f : ℕ → Bool) (xs : List ℕ) → tally f xs ≤ length xs

@@ -12,12 +12,13 @@ use borrow.Author.Tests.{eqb-true, eqb-false}
 use Rattle.format.specs.declared.Section.the-variants.{Groups, Rules}
 use Rattle.format.specs.Bytes.{wordAt}
 use Rattle.format.specs.Format.{countOf}
-use Rattle.format.specs.Policy.{policyOf, recordAt, recordsAt, startOf, placeOf, placeAfter}
+use Rattle.format.specs.Policy.{recordAt, recordsAt, startOf, placeOf}
 use Rattle.format.specs.Check.{check}
 use Rattle.format.specs.Claims.{IsType}
-use Rattle.format.proofs.Accepted.{place-next}
+use Rattle.format.proofs.Accepted.{place-next, place-first, policy-rules}
 use Rattle.format.specs.Inner.Places.{RuleAt}
 use Rattle.format.proofs.Places.{rule-at}
+use Rattle.format.proofs.Records.{records-none, records-next}
 use Rattle.decision.specs.Sets.{anyOf, setOf, sameSet}
 use Rattle.decision.specs.Decide.{Rule, ruleOf, live}
 use Rattle.decide.specs.Inner.Spans.{groupsIn}
@@ -25,7 +26,7 @@ use Rattle.decide.specs.Inner.Marks.{anyMarked}
 use Rattle.decide.specs.Inner.Rules.{rulesIn, wanted, pairedIn, reaching}
 use Rattle.decide.specs.Inner.Names.{nameOf, reachedOf, noNames, named}
 use Rattle.decide.proofs.ArrayLaws.{blank}
-use Rattle.decide.proofs.PredicateLaws.{source-is, anyFrom, any-rules-start}
+use Rattle.decide.proofs.PredicateLaws.{source-is, anyFrom, any-rules-start, any-rules-end, any-rules-cons}
 use Rattle.decide.proofs.NameLaws.{name-small, name-same}
 
 or-false : (b : Bool) → b || false ≡ b
@@ -83,9 +84,11 @@ module _ (l : List ℕ) (ms : List Bool) where
 any-from-same :
     (f g : Rule → Bool) (l : List ℕ) → ((n : ℕ) → n < countOf l Rules → f (ruleOf (groupsIn l) (recordAt l (placeOf l Rules n))) ≡ g (ruleOf (groupsIn l) (recordAt l (placeOf l Rules n))))
     → (k n : ℕ) → n + k ≡ countOf l Rules → anyFrom f l k (placeOf l Rules n) ≡ anyFrom g l k (placeOf l Rules n)
-unfolding anyFrom anyOf recordsAt
-any-from-same f g l same zero n e = refl
-any-from-same f g l same (suc k) n e = or-both _ _ _ _ (same n (omega arith)) (rw (place-next l Rules n) at (any-from-same f g l same k (n + 1) (omega arith)))
+any-from-same f g l same zero n e = any-rules-end f l 0 _ refl ∙ sym (any-rules-end g l 0 _ refl)
+any-from-same f g l same (suc k) n e =
+    any-rules-cons f l (suc k) _ k refl
+    ∙ or-both _ _ _ _ (same n (omega arith)) (rw (place-next l Rules n) at (any-from-same f g l same k (n + 1) (omega arith)))
+    ∙ sym (any-rules-cons g l (suc k) _ k refl)
 
 any-rules-same :
     (f g : Rule → Bool) (l : List ℕ) → ((n : ℕ) → n < countOf l Rules → f (ruleOf (groupsIn l) (recordAt l (placeOf l Rules n))) ≡ g (ruleOf (groupsIn l) (recordAt l (placeOf l Rules n))))
@@ -132,21 +135,21 @@ unfoldable pub reachedFrom : List ℕ → List Bool → ℕ → ℕ → List Boo
 reachedFrom l ms k at ts = reachedOf l ms (map (ruleOf (groupsIn l)) (recordsAt l at k)) ts
 
 pub reached-start : (l : List ℕ) (ms : List Bool) (from n : ℕ) → from ≡ startOf l Rules → n ≡ countOf l Rules → (from ≡ placeOf l Rules (n - n)) × (reachedOf l ms (rulesIn l) noNames ≡ reachedFrom l ms n from noNames)
-unfolding reachedFrom rulesIn policyOf placeOf placeAfter
+unfolding reachedFrom rulesIn
 reached-start l ms from n e h =
     let z : n - n ≡ 0 = omega arith in
-    (rw (z, e), rw (h, e))
+    (rw z (e ∙ sym (place-first l Rules)), rw (h, e, policy-rules l))
 
 module _ (l : List ℕ) (ms : List Bool) (k at : ℕ) (ts : List Bool) where
   pub reached-end : k ≡ 0 → reachedFrom l ms k at ts ≡ ts
-  unfolding reachedFrom reachedOf recordsAt
-  reached-end e = rw e refl
+  unfolding reachedFrom reachedOf
+  reached-end e = rw (records-none l at k e)
 
   module _ (j : ℕ) (more : k ≡ suc j) where
     reached-cons : (b : Bool) → reaching ms (ruleOf (groupsIn l) (recordAt l at)) ≡ b → reachedFrom l ms k at ts ≡ reachedFrom l ms j (at + getD l at 0) (cond b (set ts (nameOf l (ruleOf (groupsIn l) (recordAt l at) .source)) true) ts)
-    unfolding reachedFrom reachedOf recordsAt
+    unfolding reachedFrom reachedOf
     reached-cons b e =
-        ap (λ n. reachedFrom l ms n at ts) more
+        ap (λ rs. reachedOf l ms (map (ruleOf (groupsIn l)) rs) ts) (records-next l at k j more)
         ∙ ap (λ c. reachedOf l ms (map (ruleOf (groupsIn l)) (recordsAt l (at + getD l at 0) j)) (cond c (set ts (nameOf l (ruleOf (groupsIn l) (recordAt l at) .source)) true) ts)) e
 
     pub reached-far : reaching ms (ruleOf (groupsIn l) (recordAt l at)) ≡ false → (ts' : List Bool) → ts' ≡ ts → reachedFrom l ms k at ts ≡ reachedFrom l ms j (at + getD l at 0) ts'

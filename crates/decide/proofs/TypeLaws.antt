@@ -12,13 +12,15 @@ use lib.Dec.{eqb, ltb}
 use borrow.Author.Tests.{lt-ltb, le-ltb, eqb-true, eqb-false, ltb-true, ltb-false}
 use Rattle.format.specs.declared.Section.the-variants.{Groups}
 use Rattle.format.specs.Bytes.{wordAt, words}
-use Rattle.format.specs.Format.{countOf, limitOf}
-use Rattle.format.specs.Policy.{recordsOf, placeAfter, placeOf, startOf}
+use Rattle.format.specs.Format.{countOf}
+use Rattle.format.specs.Policy.{placeOf}
 use Rattle.format.specs.Check.{check}
 use Rattle.format.specs.Claims.{IsType}
 use Rattle.format.specs.Inner.Places.{wordsAt, Rising, GroupAt}
-use Rattle.format.proofs.Accepted.{accepted-header, record-nth}
-use Rattle.format.proofs.Places.{group-at}
+use Rattle.format.proofs.Accepted.{accepted-header, group-nth, place-first, start-groups}
+use Rattle.format.proofs.Places.{group-at, words-at-one}
+use Rattle.format.proofs.ByCase.{limit-groups}
+use Rattle.format.proofs.Fields.{rising-one}
 use Rattle.decision.specs.Sets.{setOf}
 use Rattle.decide.specs.Ready.{placeIn, Placed}
 use Rattle.decide.specs.Inner.Spans.{groupsIn, Places, Spans}
@@ -26,13 +28,11 @@ use Rattle.decide.specs.Inner.Kept.{Kept}
 use Rattle.decide.proofs.ArrayLaws.{by-set}
 
 pub few-groups : (l : List ℕ) → check l ≡ none → countOf l Groups ≤ 256
-unfolding limitOf
-few-groups l e = accepted-header l e .few Groups
+few-groups l e = omega (arith, accepted-header l e .few Groups, limit-groups)
 
 -- the first group stands at 9
 pub first-place : (l : List ℕ) → 9 ≡ placeOf l Groups 0
-unfolding placeOf startOf placeAfter
-first-place l = refl
+first-place l = sym (place-first l Groups ∙ start-groups l)
 
 -- one more place: those before it are there, and 0 past it
 pub placed-more :
@@ -79,8 +79,7 @@ type-group g t (inr q) k = let e = q .2 in omega (arith, q .1)
 
 -- group g, where the table says
 pub group-placed : (l ps : List ℕ) (g : ℕ) → check l ≡ none → Placed l ps → g < countOf l Groups → GroupAt l (getD ps g 0) (getD (groupsIn l) g [])
-unfolding recordsOf
-group-placed l ps g c p h = rw (p .is g h, record-nth l Groups g h) (group-at l c g h)
+group-placed l ps g c p h = rw (p .is g h, group-nth l g h) (group-at l c g h)
 
 -- a group's number, its place and its members
 module _ (l ps : List ℕ) (t : ℕ) (c : check l ≡ none) (p : Placed l ps) (ok : IsType (countOf l Groups) t) (k : 32768 ≤ t) where
@@ -106,11 +105,10 @@ module _ (l ps : List ℕ) (t : ℕ) (c : check l ≡ none) (p : Placed l ps) (o
 
 module _ (l : List ℕ) (at t : ℕ) (is : t ≡ wordAt l at) (room : at + 1 < length l) (ok : IsType (countOf l Groups) (wordAt l at)) where
   pub span-basic : t < 32768 → Spans l at 1 (setOf (groupsIn l) (wordAt l at))
-  unfolding wordsAt Rising
   span-basic k =
       let j : wordAt l at < 32768 = omega arith in
       let e = set-basic l (wordAt l at) j in
-      record { some = omega arith; room = omega arith; are = sym e; rising = rw e (omega arith, type-basic (countOf l Groups) (wordAt l at) ok j, tt) }
+      record { some = omega arith; room = omega arith; are = words-at-one l at ∙ sym e; rising = rw e (rising-one (wordAt l at) (type-basic (countOf l Groups) (wordAt l at) ok j)) }
 
   module _ (ps : List ℕ) (c : check l ≡ none) (p : Placed l ps) (k : 32768 ≤ t) where
     ours : IsType (countOf l Groups) t
@@ -159,9 +157,8 @@ module _ (f : List ℕ → Bool) (l told : List ℕ) (k : Kept f l told) (t w : 
 
 -- the members of a type rise
 pub set-rising : (l : List ℕ) (t : ℕ) → check l ≡ none → IsType (countOf l Groups) t → Rising 0 (setOf (groupsIn l) t)
-unfolding Rising recordsOf
-set-rising l t c (inl h) = rw (set-basic l t (omega arith)) (omega arith, h, tt)
+set-rising l t c (inl h) = rw (set-basic l t (omega arith)) (rising-one t h)
 set-rising l t c (inr q) =
     let e = q .2 in
     let n : t - 32768 < countOf l Groups = omega (arith, q .1) in
-    rw (set-group l t (omega arith), record-nth l Groups (t - 32768) n) (group-at l c (t - 32768) n .rising)
+    rw (set-group l t (omega arith), group-nth l (t - 32768) n) (group-at l c (t - 32768) n .rising)

@@ -21,7 +21,7 @@ ghost use Rattle.format.specs.Format.{countOf, isType};
 ghost use Rattle.format.specs.Policy.{policyOf, startOf};
 ghost use Rattle.format.specs.Check.{check};
 ghost use Rattle.format.specs.Answers.{gives};
-ghost use Rattle.decision.specs.Decide as tepla;
+ghost use Rattle.decision.specs.Decide as deciding;
 ghost use Rattle.decide.specs.Ready.{Placed, Prepares, Ready};
 
 // A policy as its check leaves it: where its sections start, or the refusal, and the place of each group. Past the groups,
@@ -54,7 +54,7 @@ pub fn prepare(image: &[u8]) -> Prepared
 // The decision of an accepted policy on a query of its types.
 fn judge(image: &[u8], groups: &[usize; 256], rules: usize, constraints: usize, q: Query) -> Answer
     requires { ⌜ (check (now image) ≡ none) × Placed (now image) (now groups) × (rules ≡ startOf (now image) Rules) × (constraints ≡ startOf (now image) Constraints) × (isType (countOf (now image) Groups) (q .source) ≡ true) × (isType (countOf (now image) Groups) (q .dest) ≡ true) ⌝ }
-    ensures { λ r. ⌜ tepla.answerOutcome r ≡ gives (tepla.decide (policyOf (now (image .entry))) q) ⌝ }
+    ensures { λ r. ⌜ deciding.answerOutcome r ≡ gives (deciding.decide (policyOf (now (image .entry))) q) ⌝ }
 {
     let mut source = [false; 1024];
     let sources = mark_type(image, groups, wide_word(q.source), &mut source);
@@ -95,7 +95,7 @@ fn judge(image: &[u8], groups: &[usize; 256], rules: usize, constraints: usize, 
 // does not check again.
 pub fn decide_prepared(image: &[u8], groups: &[usize; 256], s: Starts, q: Query) -> Answer
     requires { ⌜ Ready (now image) (now groups) s ⌝ }
-    ensures { λ r. ⌜ tepla.answerOutcome r ≡ tepla.answer (now (image .entry)) q ⌝ }
+    ensures { λ r. ⌜ deciding.answerOutcome r ≡ deciding.answer (now (image .entry)) q ⌝ }
 {
     let count = word_at(image, 3);
     if !is_type(count, wide_word(q.source)) {
@@ -115,7 +115,7 @@ pub fn decide_prepared(image: &[u8], groups: &[usize; 256], s: Starts, q: Query)
 
 // The engine's answer: the decision with its rule and its constraint, or refusals 1 to 9 with the place.
 pub fn decide(image: &[u8], q: Query) -> Answer
-    ensures { λ r. ⌜ tepla.answerOutcome r ≡ tepla.answer (now (image .entry)) q ⌝ }
+    ensures { λ r. ⌜ deciding.answerOutcome r ≡ deciding.answer (now (image .entry)) q ⌝ }
 {
     match layout(image) {
         Sections::Refused(f) => Answer::Refused(f),

@@ -5,7 +5,7 @@ use Prim.Native.Nat.{ℕ, zero, suc, _<_}
 use mathlib.Core.Path.{_≡_, refl, sym, ap, _∙_}
 use mathlib.Core.Logic.{_⊎_, inl, inr}
 use mathlib.Core.Bool.{Bool, true}
-use mathlib.Core.Option.{none, some}
+use mathlib.Core.Option.{some}
 use mathlib.Core.List.{List, [], _∷_, map}
 use native.Mathlib.Omega.{arith}
 use lib.ListN.{length, take, drop, length-map}
@@ -22,7 +22,7 @@ use Rattle.format.proofs.ByCase.{records-of-rules, records-of-constraints}
 use Rattle.format.proofs.Accepted.{records-count}
 use Rattle.decision.specs.declared.Query.{Query}
 use Rattle.decision.specs.Sets.{anyOf}
-use Rattle.decision.specs.Decide.{ruleOf, constraintOf, decide, permitted, unknown, queryFault, answerFault, answer}
+use Rattle.decision.specs.Decide.{decide, permitted, unknown, queryFault, answerFault, answer}
 use Rattle.decision.specs.Lowest.{Lowest}
 use Rattle.decision.proofs.Lowest.{lowest-answered}
 

@@ -7,7 +7,8 @@
 --     record-stands       and lies in the image, at its place
 --     place-first, place-next   the first record's place, and the next
 --     start-groups, start-least   the groups start at 9, and no section before
---     policy-groups, policy-rules, policy-constraints   the records of an image's policy
+--     policy-rules, policy-constraints   the records of an image's policy
+--     record-nth, group-nth   record n of a section of the policy, and of the groups
 --     records-count       the section of the policy has as many records as the header counts
 --     records-given, all-given, none-given, empty-tells   claims RecordsGiven, AllGiven, NoneGiven, EmptyTells
 use Prim.Native.Nat.{ℕ, zero, suc, _+_, _-_, _≤_, _<_}
@@ -171,10 +172,6 @@ policy-records l Rules = refl
 policy-records l Constraints = refl
 
 module _ (l : List ℕ) where
-  pub policy-groups : policyOf l .groups ≡ recordsAt l (startOf l Groups) (countOf l Groups)
-  unfolding policyOf
-  policy-groups = refl
-
   pub policy-rules : policyOf l .rules ≡ recordsAt l (startOf l Rules) (countOf l Rules)
   unfolding policyOf
   policy-rules = refl
@@ -186,6 +183,10 @@ module _ (l : List ℕ) where
 pub record-nth : (l : List ℕ) (s : Section) (n : ℕ) → n < countOf l s → getD (recordsOf (policyOf l) s) n [] ≡ recordAt l (placeOf l s n)
 unfolding placeOf
 record-nth l s n h = ap (λ (rs : List (List ℕ)). getD rs n []) (policy-records l s) ∙ records-nth l (startOf l s) (countOf l s) n h
+
+pub group-nth : (l : List ℕ) (n : ℕ) → n < countOf l Groups → getD (policyOf l .groups) n [] ≡ recordAt l (placeOf l Groups n)
+unfolding recordsOf
+group-nth l n h = record-nth l Groups n h
 
 pub records-count : (l : List ℕ) (s : Section) → length (recordsOf (policyOf l) s) ≡ countOf l s
 records-count l s = ap length (policy-records l s) ∙ records-length l (startOf l s) (countOf l s)

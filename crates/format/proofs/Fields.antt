@@ -1,6 +1,6 @@
 -- The check's tests of a record, and the same in plain numbers (`IsRecord`), both ways. Assumes nothing.
 --     type-is, is-type          isType and IsType
---     rising-nil, rising-cons, rising-parts   a rising list, by its first element
+--     rising-nil, rising-cons, rising-one, rising-parts   a rising list, by its first element
 --     members-rising, rising-members    badMember finds none in such a list, and in no other
 --     formed-is, is-formed      Formed and IsRecord
 --     record-rule, record-constraint    IsRecord, of a rule and of a constraint
@@ -72,6 +72,9 @@ module _ (low m : ℕ) (ms : List ℕ) where
   pub rising-cons : low ≤ m → m < 1024 → Rising (suc m) ms → Rising low (m ∷ ms)
   unfolding Rising
   rising-cons h k r = (h, k, r)
+
+pub rising-one : (m : ℕ) → m < 1024 → Rising 0 (m ∷ [])
+rising-one m h = rising-cons 0 m [] (omega arith) h (rising-nil (suc m))
 
 pub members-rising : (at low : ℕ) (ms : List ℕ) → badMember at low ms ≡ none → Rising low ms
 unfolding badMember Rising

@@ -1,5 +1,5 @@
 -- What stands at the places of an accepted image, for code that reads there. Assumes nothing.
---     words-at-none, words-at-next, words-at-length, words-at-nth   words from a place on
+--     words-at-none, words-at-next, words-at-one, words-at-length, words-at-nth   words from a place on
 --     group-at, rule-at, constraint-at   each record of an accepted image is so
 use Prim.Native.Nat.{ℕ, zero, suc, _+_, _-_, _*_, _/_, _<_}
 use mathlib.Core.Path.{_≡_, refl, sym, subst, ap, _∙_}
@@ -30,6 +30,10 @@ module _ (l : List ℕ) (n at : ℕ) where
   pub words-at-next : (k : ℕ) → n ≡ suc k → wordsAt l n at ≡ wordAt l at ∷ wordsAt l k (at + 2)
   unfolding wordsAt
   words-at-next k e = rw e
+
+pub words-at-one : (l : List ℕ) (at : ℕ) → wordsAt l 1 at ≡ wordAt l at ∷ []
+unfolding wordsAt
+words-at-one l at = refl
 
 pub words-at-length : (l : List ℕ) (n at : ℕ) → length (wordsAt l n at) ≡ n
 unfolding wordsAt

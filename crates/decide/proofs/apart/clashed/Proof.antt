@@ -8,11 +8,12 @@ use mathlib.Core.Bool.{false}
 use denote.Ref.{now}
 use lib.ListN.{getD}
 use Rattle.format.specs.declared.Section.the-variants.{Rules}
-use Rattle.format.specs.Format.{countOf, countPlace}
+use Rattle.format.specs.Format.{countOf}
 use Rattle.format.specs.Policy.{recordAt, placeOf}
 use Rattle.format.proofs.Accepted.{accepted-header, place-next}
 use Rattle.format.specs.Inner.Places.{RuleAt}
 use Rattle.format.proofs.Places.{rule-at}
+use Rattle.format.proofs.ByCase.{count-rules}
 use Rattle.decision.specs.Sets.{anyOf}
 use Rattle.decision.specs.Decide.{ruleOf}
 use Rattle.decide.specs.Inner.Spans.{groupsIn}
@@ -32,8 +33,7 @@ abbrev μ-loop : tie.MeasureT-loop
 μ-loop image groups from first second names₀ firsts table told₀ at₀ left₀ names told at left = left
 
 counted : (d : tie.After-word-at Inv-loop μ-loop) → d .word-at .result ≡ countOf (now (d .before .before .before .before .before .before .args .image)) Rules
-unfolding countOf countPlace
-counted d = d .word-at .ensures .0
+counted d = d .word-at .ensures .0 ∙ sym (count-rules _)
 
 -- the rule at the running place
 here : (d : tie.In-loop Inv-loop μ-loop) → RuleAt (now (d .before .before .before .before .before .before .before .before .args .image)) (d .before .loop .at) (recordAt (now (d .before .before .before .before .before .before .before .before .args .image)) (d .before .loop .at))

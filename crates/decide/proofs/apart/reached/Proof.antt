@@ -7,11 +7,12 @@ use mathlib.Core.Logic.{⊎-elim}
 use denote.Ref.{now}
 use lib.ListN.{getD}
 use Rattle.format.specs.declared.Section.the-variants.{Rules}
-use Rattle.format.specs.Format.{countOf, countPlace}
+use Rattle.format.specs.Format.{countOf}
 use Rattle.format.specs.Policy.{recordAt, placeOf}
 use Rattle.format.proofs.Accepted.{accepted-header, place-next}
 use Rattle.format.specs.Inner.Places.{RuleAt}
 use Rattle.format.proofs.Places.{rule-at}
+use Rattle.format.proofs.ByCase.{count-rules}
 use Rattle.decide.specs.Inner.Marks.{anyMarked}
 use Rattle.decide.specs.Inner.Kept.{Kept}
 use Rattle.decide.specs.Inner.Rules.{rulesIn}
@@ -29,8 +30,7 @@ abbrev μ-loop : tie.MeasureT-loop
 μ-loop image groups firsts from marks names₀ table₀ told₀ at₀ left₀ names table told at left = left
 
 counted : (d : tie.After-word-at Inv-loop μ-loop) → d .word-at .result ≡ countOf (now (d .before .before .args .image)) Rules
-unfolding countOf countPlace
-counted d = d .word-at .ensures .0
+counted d = d .word-at .ensures .0 ∙ sym (count-rules _)
 
 -- the rule at the running place
 here : (d : tie.In-loop Inv-loop μ-loop) → RuleAt (now (d .before .before .before .before .args .image)) (d .before .loop .at) (recordAt (now (d .before .before .before .before .args .image)) (d .before .loop .at))

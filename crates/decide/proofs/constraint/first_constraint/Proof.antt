@@ -6,11 +6,12 @@ use mathlib.Core.Path.{_≡_, sym, ap, _∙_}
 use denote.Ref.{now}
 use lib.ListN.{getD}
 use Rattle.format.specs.declared.Section.the-variants.{Constraints}
-use Rattle.format.specs.Format.{countOf, countPlace}
+use Rattle.format.specs.Format.{countOf}
 use Rattle.format.specs.Policy.{recordAt, placeOf}
 use Rattle.format.proofs.Accepted.{accepted-header, place-next}
 use Rattle.format.specs.Inner.Places.{ConstraintAt}
 use Rattle.format.proofs.Places.{constraint-at}
+use Rattle.format.proofs.ByCase.{count-constraints}
 use Rattle.decide.specs.Inner.Marks.{fullyMarked}
 use Rattle.decide.specs.Inner.Kept.{Kept}
 use Rattle.decide.specs.Inner.Rules.{firstConstraint}
@@ -28,8 +29,7 @@ abbrev μ-loop : tie.MeasureT-loop
 μ-loop image groups rules from q source sources dest dests told₀ count held₀ names₀ at₀ n₀ told held names at n = count - n
 
 counted : (d : tie.After-word-at Inv-loop μ-loop) → d .word-at .result ≡ countOf (now (d .before .before .args .image)) Constraints
-unfolding countOf countPlace
-counted d = d .word-at .ensures .0
+counted d = d .word-at .ensures .0 ∙ sym (count-constraints _)
 
 -- the constraint at the running place
 here : (d : tie.In-loop Inv-loop μ-loop) → ConstraintAt (now (d .before .before .before .before .args .image)) (d .before .loop .at) (recordAt (now (d .before .before .before .before .args .image)) (d .before .loop .at))

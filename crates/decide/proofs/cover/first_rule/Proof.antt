@@ -10,11 +10,12 @@ use lib.ListN.{length, getD}
 use borrow.Author.Tests.{not-false}
 use Rattle.format.specs.declared.Section.the-variants.{Rules}
 use Rattle.format.specs.Bytes.{wordAt}
-use Rattle.format.specs.Format.{countOf, countPlace}
+use Rattle.format.specs.Format.{countOf}
 use Rattle.format.specs.Policy.{recordAt, placeOf}
 use Rattle.format.specs.Inner.Places.{wordsAt, Rising, RuleAt}
 use Rattle.format.proofs.Accepted.{accepted-header, place-next}
 use Rattle.format.proofs.Places.{rule-at}
+use Rattle.format.proofs.ByCase.{count-rules}
 use Rattle.decision.specs.Sets.{setOf, within}
 use Rattle.decision.specs.Decide.{ruleOf, requestOf, covers}
 use Rattle.decide.specs.Inner.Spans.{groupsIn}
@@ -41,8 +42,7 @@ abbrev μ-rules : tie.MeasureT-rules
 μ-rules image groups from q source sources dest dests told₀ count skip₀ n₀ at₀ told skip n at = count - n
 
 counted : (d : tie.After-word-at Inv-members μ-members Inv-rules μ-rules) → d .word-at .result ≡ countOf (now (d .before .before .args .image)) Rules
-unfolding countOf countPlace
-counted d = d .word-at .ensures .0
+counted d = d .word-at .ensures .0 ∙ sym (count-rules _)
 
 -- the rule at the running place
 here : (d : tie.Else1 Inv-members μ-members Inv-rules μ-rules) → RuleAt (now (d .before .before .before .before .args .image)) (d .before .rules .at) (recordAt (now (d .before .before .before .before .args .image)) (d .before .rules .at))

@@ -5,15 +5,15 @@ use mathlib.Core.Path.{_≡_, sym, ap, _∙_}
 use denote.Ref.{now}
 use borrow.Author.Tests.{not-true, not-false}
 use Rattle.format.specs.declared.Section.the-variants.{Groups}
-use Rattle.format.specs.Format.{countOf, countPlace, isType}
+use Rattle.format.specs.Format.{countOf, isType}
 use Rattle.format.proofs.Accepted.{accepted-header}
+use Rattle.format.proofs.ByCase.{count-groups}
 use Rattle.decide.proofs.EngineLaws.{query-source, query-dest, query-valid, type-told, outcome-some, outcome-none, answer-accepted}
 use Rattle.decide.proofs.engine.decide_prepared.Statement.{statement}
 use Rattle.decide.proofs.engine.decide_prepared.Tie as tie
 
 counted : (d : tie.After-word-at) → d .word-at .result ≡ countOf (now (d .before .before .args .image)) Groups
-unfolding countOf countPlace
-counted d = d .word-at .ensures .0
+counted d = d .word-at .ensures .0 ∙ sym (count-groups _)
 
 -- what the test of the source answered, and that of the destination
 source-told : (d : tie.After-is-type) → isType (countOf (now (d .before .before .before .before .args .image)) Groups) (d .before .before .before .before .args .q .source) ≡ d .is-type .result

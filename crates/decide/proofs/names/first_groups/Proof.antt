@@ -1,12 +1,13 @@
 -- `first_groups` meets its contract: the groups from the running one on have their entries. Assumes nothing.
 use native.Mathlib.Omega.{arith}
 use Prim.Native.Nat.{ℕ, _+_, _-_, _≤_, _<_}
-use mathlib.Core.Path.{_≡_, refl, ap, _∙_}
+use mathlib.Core.Path.{_≡_, refl, ap, _∙_, sym}
 use denote.Ref.{now}
 use lib.ListN.{length, getD, length-set}
 use Rattle.format.specs.declared.Section.the-variants.{Groups}
-use Rattle.format.specs.Format.{countOf, countPlace}
+use Rattle.format.specs.Format.{countOf}
 use Rattle.format.proofs.Accepted.{accepted-header}
+use Rattle.format.proofs.ByCase.{count-groups}
 use Rattle.decision.specs.Sets.{setOf}
 use Rattle.decide.specs.Inner.Spans.{groupsIn}
 use Rattle.decide.specs.Inner.Names.{keyOf}
@@ -22,8 +23,7 @@ abbrev μ-loop : tie.MeasureT-loop
 μ-loop image groups firsts₀ left₀ firsts left = left
 
 counted : (d : tie.After-word-at Inv-loop μ-loop) → d .word-at .result ≡ countOf (now (d .before .before .args .image)) Groups
-unfolding countOf countPlace
-counted d = d .word-at .ensures .0
+counted d = d .word-at .ensures .0 ∙ sym (count-groups _)
 
 -- the running group's key
 key-is : (d : tie.After-key Inv-loop μ-loop) → d .key .result ≡ keyOf (setOf (groupsIn (now (d .before .before .before .before .before .before .args .image))) (32768 + (d .before .before .before .loop .left - 1)))

@@ -6,10 +6,11 @@ use mathlib.Core.Path.{_≡_, sym, ap, _∙_}
 use denote.Ref.{now}
 use lib.ListN.{length, getD, length-set}
 use Rattle.format.specs.declared.Section.the-variants.{Groups}
-use Rattle.format.specs.Format.{countOf, countPlace}
+use Rattle.format.specs.Format.{countOf}
 use Rattle.format.specs.Policy.{placeOf, recordAt}
 use Rattle.format.proofs.Accepted.{accepted-header, record-stands, place-next}
 use Rattle.format.specs.Inner.Places.{Stands}
+use Rattle.format.proofs.ByCase.{count-groups}
 use Rattle.decide.proofs.ArrayLaws.{blank}
 use Rattle.decide.proofs.TypeLaws.{few-groups, first-place, placed-more, placed-past, places-all}
 use Rattle.decide.proofs.types.place_groups.Statement.{statement}
@@ -22,8 +23,7 @@ abbrev μ-loop : tie.MeasureT-loop
 μ-loop image found₀ groups at₀ g₀ found at g = groups - g
 
 counted : (d : tie.After-word-at Inv-loop μ-loop) → d .word-at .result ≡ countOf (now (d .before .before .args .image)) Groups
-unfolding countOf countPlace
-counted d = d .word-at .ensures .0
+counted d = d .word-at .ensures .0 ∙ sym (count-groups _)
 
 -- the group at the running place
 here : (d : tie.In-loop Inv-loop μ-loop) → Stands (now (d .before .before .before .before .args .image)) (d .before .loop .at) (recordAt (now (d .before .before .before .before .args .image)) (d .before .loop .at))

@@ -1,6 +1,6 @@
 -- `word_at` meets its contract: two bytes make a number below 65,536. Assumes nothing.
 use native.Mathlib.Omega.{arith}
-use Rattle.format.specs.Bytes.{wordAt}
+use Rattle.format.proofs.Bytes.{word-at}
 use borrow.Author.Needs.{needs}
 use Rattle.decide.proofs.word.word_at.Statement.{statement}
 use Rattle.decide.proofs.word.word_at.Tie as tie
@@ -27,8 +27,7 @@ add-result : tie.Need-add-result
 add-result c = search needs
 
 returns : tie.Need-returns
-unfolding wordAt
-returns c = (omega arith, omega arith)
+returns c = (rw word-at (omega arith), omega arith)
 
 pub word-at-spec : {M : Type 1} → statement M
 word-at-spec =
