@@ -12,6 +12,7 @@ use Rattle.format.specs.Refusals.{refusal, _orElse_}
 use Rattle.format.specs.Check.{check}
 use Rattle.format.specs.Answers.{foundOutcome, outcome, extent}
 use Rattle.format.specs.Give.{giveFault}
+use Rattle.format.proofs.Chain.{orElse-next, orElse-first}
 use Rattle.mungaite.specs.Code.{codeOf, faultCode, extentCode, recordIn, recordCode}
 
 module _ (l : List ℕ) (s n : ℕ) where
@@ -38,9 +39,7 @@ found-is l s m n x e f = ap (codeOf extentCode) f ∙ ap (λ k. codeOf extentCod
 
 module _ (f : Option Refusal) where
   pub no-section-accepted : none ≡ f → f orElse some (refusal 14 0) ≡ some (refusal 14 0)
-  unfolding _orElse_
-  no-section-accepted e = ap (λ g. g orElse some (refusal 14 0)) (sym e)
+  no-section-accepted e = orElse-next _ (sym e)
 
   pub no-section-refused : (x : Refusal) → some x ≡ f → f orElse some (refusal 14 0) ≡ some x
-  unfolding _orElse_
-  no-section-refused x e = ap (λ g. g orElse some (refusal 14 0)) (sym e)
+  no-section-refused x e = orElse-first _ (sym e)

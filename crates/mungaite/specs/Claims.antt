@@ -1,4 +1,4 @@
--- What is claimed of the answers as numbers, and proved in proofs/: no part is cut. `partsOf` takes its parts modulo 65,536, and
+-- What is claimed of the answers as numbers, and proved in proofs/. No part is cut: `partsOf` takes its parts modulo 65,536, and
 -- every part that an answer has, of every image of bytes, is below that.
 --     Part n              n fits one 16-bit part
 --     RefusalFits f       a refusal's number and place fit
@@ -13,6 +13,8 @@
 --     AddWhole            the refusal or the new record's number, of any buffer and any record
 --     PartsWhole          parts that fit are in the number as they are
 --     PartsRead           and are read back from it, as include/mungaite.h does: the kind, the third and the fourth part
+-- So what a host reads from the number is the answer itself, of every image of bytes:
+--     CheckRead, DecideRead, RecordRead, AddRead   by each of the four functions
 use Prim.Native.Nat.{ℕ, _+_, _*_, _/_, _%_, _≤_, _<_}
 use mathlib.Core.Path.{_≡_}
 use mathlib.Core.Option.{Option, none, some}
@@ -28,7 +30,8 @@ use Rattle.format.specs.Give.{giveFault}
 use Rattle.extension.specs.Add.{addFault, newNumber}
 use Rattle.decision.specs.declared.Query.{Query}
 use Rattle.decision.specs.Decide.{Decision, notPermitted, permitted, unknown, answer}
-use Rattle.mungaite.specs.Code.{partsOf}
+use Rattle.mungaite.specs.Code.{partsOf, faultCode, decisionCode, recordCode, addCode}
+use Rattle.mungaite.specs.Host.{sectionNumber, hostChecked, hostDecision, hostFound, hostAdded}
 
 abbrev pub Part : ℕ → Type 0
 Part n = n < 65536
@@ -80,3 +83,18 @@ PartsRead =
     → (partsOf kind high low / 4294967296 % 65536 ≡ kind)
     × (partsOf kind high low / 65536 % 65536 ≡ high)
     × (partsOf kind high low % 65536 ≡ low)
+
+abbrev pub CheckRead : Type 0
+CheckRead = (l : List ℕ) → Bytes l → hostChecked (faultCode (check l)) ≡ check l
+
+abbrev pub DecideRead : Type 0
+DecideRead = (l : List ℕ) → Bytes l → (q : Query) → hostDecision (decisionCode (answer l q)) ≡ answer l q
+
+abbrev pub RecordRead : Type 0
+RecordRead =
+    (l : List ℕ) → Bytes l
+    → ((s : Section) (n : ℕ) → hostFound (recordCode l (sectionNumber s) n) ≡ outcome (giveFault l s n) (extent l s n))
+    × ((s n : ℕ) → 2 < s → hostChecked (recordCode l s n) ≡ check l orElse some (refusal 14 0))
+
+abbrev pub AddRead : Type 0
+AddRead = (b : List ℕ) → Bytes b → (r : List ℕ) → hostAdded (addCode b r) ≡ outcome (addFault b r) (newNumber b r)

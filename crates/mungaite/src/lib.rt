@@ -19,7 +19,7 @@ use parts::wide_word;
 ghost use mathlib.Core.Path.{_≡_};
 ghost use Rattle.format.specs.Check as reading;
 ghost use Rattle.extension.specs.Add.{bufferAfter};
-ghost use Rattle.decision.specs.Decide as tepla;
+ghost use Rattle.decision.specs.Decide as deciding;
 ghost use Rattle.mungaite.specs.Code.{faultCode, decisionCode, recordCode, addCode, queryOf};
 
 // 0 where the image is accepted, else the refusal.
@@ -42,7 +42,7 @@ pub extern "C" fn mungaite_decide(
     action: u16,
     image: &[u8],
 ) -> u64
-    ensures { λ r. ⌜ r ≡ decisionCode (tepla.answer (now (image .entry)) (queryOf source destination class action)) ⌝ }
+    ensures { λ r. ⌜ r ≡ decisionCode (deciding.answer (now (image .entry)) (queryOf source destination class action)) ⌝ }
 {
     let q = Query {
         source,

@@ -1,0 +1,85 @@
+-- What a host reads from a number is the answer: claims CheckRead, DecideRead, RecordRead, AddRead. Each follows from the claim
+-- that no part is cut and from PartsRead alone. Assumes nothing.
+use Prim.Native.Nat.{ℕ}
+use mathlib.Core.Path.{_≡_, refl, ap, _∙_}
+use mathlib.Core.Option.{Option, none, some}
+use native.Mathlib.Omega.{arith}
+use Rattle.format.specs.declared.Section.{Section}
+use Rattle.format.specs.declared.Section.the-variants.{Groups, Rules, Constraints}
+use Rattle.format.specs.declared.Refusal.{Refusal}
+use Rattle.format.specs.declared.Extent.{Extent}
+use Rattle.format.specs.Refusals.{refusal, _orElse_}
+use Rattle.format.specs.Check.{check}
+use Rattle.format.specs.Answers.{Outcome, refused, gives, outcome, extent}
+use Rattle.format.specs.Give.{giveFault}
+use Rattle.extension.specs.Add.{addFault, newNumber}
+use Rattle.decision.specs.Decide.{Decision, notPermitted, permitted, unknown, answer}
+use Rattle.mungaite.specs.Code.{partsOf, refusalCode, faultCode, codeOf, decisionCode, extentCode, recordIn, recordCode, addCode}
+use Rattle.mungaite.specs.Host.{kindPart, sectionNumber, hostRefusal, hostChecked, hostDecision, hostFound, hostAdded}
+use Rattle.mungaite.specs.Claims.{RefusalFits, FaultFits, OutcomeFits, DecisionFits, ExtentFits, NumberFits, CheckRead, DecideRead, RecordRead, AddRead}
+use Rattle.mungaite.proofs.CodeLaws.{record-groups, record-rules, record-constraints, record-nowhere}
+use Rattle.mungaite.proofs.Whole.{check-whole, decide-whole, record-whole, add-whole, parts-read}
+
+module _ (f : Refusal) (fits : RefusalFits f) where
+  refused-kind : kindPart (refusalCode f) ≡ 2
+  unfolding refusalCode
+  refused-kind = parts-read 2 (f .number) (f .place) (omega arith) (fits .0) (fits .1) .0
+
+  refused-back : hostRefusal (refusalCode f) ≡ f
+  unfolding hostRefusal refusalCode
+  refused-back =
+      let p = parts-read 2 (f .number) (f .place) (omega arith) (fits .0) (fits .1) in
+      rw (p .1, p .2) refl
+
+fault-back : (o : Option Refusal) → FaultFits o → hostChecked (faultCode o) ≡ o
+unfolding hostChecked
+fault-back none h = refl
+fault-back (some f) h = simp (refused-kind f h, refused-back f h)
+
+pub check-read : CheckRead
+check-read l b = fault-back (check l) (check-whole l b)
+
+decision-back : (o : Outcome Decision) → OutcomeFits DecisionFits o → hostDecision (decisionCode o) ≡ o
+unfolding hostDecision
+decision-back (refused f) h = simp (refused-kind f h, refused-back f h)
+decision-back (gives notPermitted) h = refl
+decision-back (gives (permitted r)) h =
+    let p = parts-read 1 0 r (omega arith) (omega arith) (omega arith) in
+    simp (p .0, p .2)
+decision-back (gives (unknown r c)) h =
+    let p = parts-read 3 r c (omega arith) (omega (arith, h .0)) (omega (arith, h .1)) in
+    simp (p .0, p .1, p .2)
+
+pub decide-read : DecideRead
+decide-read l b q = decision-back (answer l q) (decide-whole l b q)
+
+extent-back : (o : Outcome Extent) → OutcomeFits ExtentFits o → hostFound (codeOf extentCode o) ≡ o
+unfolding hostFound
+extent-back (refused f) h = simp (refused-kind f h, refused-back f h)
+extent-back (gives e) h =
+    let p = parts-read 1 (e .place) (e .length) (omega arith) (h .0) (omega (arith, h .1)) in
+    simp (p .0, p .1, p .2)
+
+pub record-read : RecordRead
+unfolding recordIn
+record-read l b = (
+  λ s n. ap hostFound (in-section s n) ∙ extent-back (outcome (giveFault l s n) (extent l s n)) (record-whole l b .0 s n),
+  λ s n h. ap hostChecked (record-nowhere l s n (λ e. absurd (omega arith)) (λ e. absurd (omega arith)) (λ e. absurd (omega arith)))
+      ∙ fault-back (check l orElse some (refusal 14 0)) (record-whole l b .1),
+)
+  where
+    in-section : (s : Section) (n : ℕ) → recordCode l (sectionNumber s) n ≡ recordIn l s n
+    in-section Groups n = record-groups l 0 n refl
+    in-section Rules n = record-rules l 1 n refl
+    in-section Constraints n = record-constraints l 2 n refl
+
+number-back : (o : Outcome ℕ) → OutcomeFits NumberFits o → hostAdded (codeOf (partsOf 1 0) o) ≡ o
+unfolding hostAdded
+number-back (refused f) h = simp (refused-kind f h, refused-back f h)
+number-back (gives n) h =
+    let p = parts-read 1 0 n (omega arith) (omega arith) (omega arith) in
+    simp (p .0, p .2)
+
+pub add-read : AddRead
+unfolding addCode
+add-read b h r = number-back (outcome (addFault b r) (newNumber b r)) (add-whole b h r)
