@@ -1,0 +1,71 @@
+#!/usr/bin/env bash
+# The layers are what README.md says:
+# - a contract and a definition name no definition of a proof file;
+# - what stands in specs/ rests on nothing of specs/Inner, and no public contract names anything of it;
+# - a proof opens (`unfolding`) no definition of another crate, but for the code that meets the definitions of its own layer:
+#   image those of format, extend of extension, decide of decision, permit of lines. All else is cited by laws.
+# Prints file:line for each place that breaks one of these.
+bad=0
+fails() {
+    if [ -n "$1" ]; then
+        printf '%s\n' "$1"
+        bad=1
+    fi
+}
+
+fails "$(grep -rn 'Rattle.*\.proofs\.' crates --include='*.rt' | sed 's/$/    (a contract names a proof file)/')"
+fails "$(find crates -path '*/specs/*.antt' -exec grep -n 'Rattle.*\.proofs\.' /dev/null {} + | sed 's/$/    (a definition names a proof file)/')"
+fails "$(grep -n '\.Inner\.' crates/*/specs/*.antt | sed 's/$/    (rests on specs\/Inner)/')"
+
+# What each name of a file is brought in from: the crate, and whether it stands in Inner. `use Rattle.CRATE.. .{a, b}`, or
+# `use Rattle.CRATE.. as x`, and then x.a.
+brought='
+    function bring(line,    path, part, n, i, names) {
+        path = line
+        sub(/^.*use Rattle·/, "", path)
+        crate = path
+        sub(/[^a-z0-9_].*$/, "", crate)
+        inner = line ~ /\.Inner\./
+        if (line ~ /\{/) {
+            part = line
+            sub(/^[^{]*\{/, "", part)
+            sub(/\}.*$/, "", part)
+        } else if (line ~ / as /) {
+            part = line
+            sub(/^.* as /, "", part)
+            sub(/;.*$/, "", part)
+        } else {
+            part = path
+            sub(/;.*$/, "", part)
+            sub(/^.*\./, "", part)
+        }
+        n = split(part, names, /, */)
+        for (i = 1; i <= n; i++) { from[names[i]] = crate; within[names[i]] = inner }
+    }
+    FNR == 1 { split("", from); split("", within); own = FILENAME; sub(/^crates\//, "", own); sub(/\/.*$/, "", own); open = 0 }
+    /^(ghost )?use Rattle·/ { bring($0); next }
+'
+
+fails "$(find crates -path '*/proofs/*.antt' -exec awk "$brought"'
+    BEGIN { may["image format"] = may["extend extension"] = may["decide decision"] = may["permit lines"] = 1 }
+    $1 == "unfolding" {
+        for (i = 2; i <= NF; i++) {
+            name = $i
+            if (name ~ /\./) sub(/\..*$/, "", name)
+            crate = from[name]
+            if (crate != "" && crate != own && !((own " " crate) in may))
+                print FILENAME ":" FNR ": opens " $i " of " crate
+        }
+    }
+' {} +)"
+
+fails "$(find crates -path '*/src/*.rt' -exec awk "$brought"'
+    /^ *pub (extern "C" )?fn / { open = 1 }
+    open && /⌜/ {
+        n = split($0, words, /[^A-Za-z0-9_]+/)
+        for (i = 1; i <= n; i++)
+            if (within[words[i]]) print FILENAME ":" FNR ": a public contract names " words[i] ", of specs/Inner"
+    }
+    open && /\{$/ && !/⌜/ { open = 0 }
+' {} +)"
+exit "$bad"
