@@ -3,7 +3,9 @@
 # - a contract and a definition name no definition of a proof file;
 # - what stands in specs/ rests on nothing of specs/Inner, and no public contract names anything of it;
 # - a proof opens (`unfolding`) no definition of another crate, but for the code that meets the definitions of its own layer:
-#   image those of format, extend of extension, decide of decision, permit of lines. All else is cited by laws.
+#   image those of format, extend of extension, decide of decision, permit of lines. All else is cited by laws. Free are
+#   values that are written out (the sample, the empty policy, the marked cases' records), and the tables of worked cases,
+#   whose proof is that they are computed.
 # Prints file:line for each place that breaks one of these.
 bad=0
 fails() {
@@ -46,17 +48,23 @@ brought='
     /^(ghost )?use Rattle·/ { bring($0); next }
 '
 
-fails "$(find crates -path '*/proofs/*.antt' -exec awk "$brought"'
+fails "$(find crates -path '*/proofs/*.antt' ! -name Cases.antt ! -name Worked.antt -exec awk "$brought"'
     BEGIN { may["image format"] = may["extend extension"] = may["decide decision"] = may["permit lines"] = 1 }
-    $1 == "unfolding" {
-        for (i = 2; i <= NF; i++) {
+    BEGIN { n = split("sample empty companion withSpace extended", names); for (i = 1; i <= n; i++) value[names[i]] = 1 }
+    # an `unfolding` goes on over the lines that are indented further than it
+    function opens(first,    i, name, crate) {
+        for (i = first; i <= NF; i++) {
             name = $i
-            if (name ~ /\./) sub(/\..*$/, "", name)
+            sub(/\..*$/, "", name)
             crate = from[name]
-            if (crate != "" && crate != own && !((own " " crate) in may))
+            if (crate != "" && crate != own && !((own " " crate) in may) && !(name in value))
                 print FILENAME ":" FNR ": opens " $i " of " crate
         }
     }
+    { indent = match($0, /[^ ]/) }
+    open && indent > open { opens(1); next }
+    { open = 0 }
+    $1 == "unfolding" { open = indent; opens(2) }
 ' {} +)"
 
 fails "$(find crates -path '*/src/*.rt' -exec awk "$brought"'

@@ -18,18 +18,24 @@ use Rattle.format.specs.Give.{giveFault}
 use Rattle.format.specs.Claims.{WellFormed, givenFrom}
 use Rattle.format.specs.Sample.{sample, empty}
 use Rattle.format.specs.Longest.{longest}
+use Rattle.format.proofs.ByCase.{records-of-rules, kind-constraints}
 use Rattle.format.proofs.Bytes.{bytes-of}
 use Rattle.format.proofs.Accepted.{records-count}
 use Rattle.format.proofs.Front.{image-in-of}
 use Rattle.format.proofs.Longest.{longest-full}
 use Rattle.extension.specs.Add.{sectionOf, addFault, bufferAfter, overwrite}
 use Rattle.extension.specs.Claims.{addAll, allRecords}
+use Rattle.extension.proofs.Adds.{section-of}
+use Rattle.extension.proofs.Trip.{overwrite-is}
 use Rattle.decision.specs.declared.Query.{Query}
 use Rattle.decision.specs.Decide.{Decision, notPermitted, permitted, unknown, answer}
 use Rattle.decision.specs.Order.{height}
 use Rattle.decision.specs.Tepla.{Dcs, forget, evalQuery}
 use Rattle.decision.specs.Growth.{reordered}
-use Rattle.decision.specs.Cases.{Case, g0, allow, companion, withSpace, extended, ask, cases, given, expectedOf}
+use Rattle.decision.specs.Cases.{g0, allow, companion, withSpace, extended}
+use Rattle.decision.proofs.Order.{height-not-permitted, height-permitted, height-unknown}
+use Rattle.decision.proofs.Tepla.{forget-unknown}
+use Rattle.decision.proofs.Cases.{Answers, marked-answers}
 use Rattle.claims.specs.Promises.{Promises}
 use Rattle.claims.specs.Terms.{query, NotRevoked, TermsMet}
 use Rattle.claims.proofs.Promises.{promises}
@@ -52,41 +58,27 @@ space-image e = image-in-of sample (replicate (length companion) 0) e
 
 -- a constraint is no rule
 companion-no-rule : sectionOf (getD companion 1 0) ≡ Rules → ⊥
-unfolding sectionOf companion
-companion-no-rule e = (let z : _≡_ {A = ℕ} 0 1 = cc in omega arith)
+unfolding companion
+companion-no-rule e = no-rule (sym (section-of Constraints 4 (kind-constraints 4 refl)) ∙ e)
+  where
+    no-rule : Constraints ≡ Rules → ⊥
+    no-rule k = (let z : _≡_ {A = ℕ} 0 1 = cc in omega arith)
 
 rules-few : countOf (extended sample companion) Rules ≡ 4 → length (policyOf (extended sample companion) .rules) + length (policyOf (extended sample companion) .rules) ≤ 1024
-unfolding recordsOf
-rules-few e = omega (arith, records-count (extended sample companion) Rules)
+rules-few e =
+    let l : List ℕ = extended sample companion in
+    omega (arith, records-count l Rules, ap length (records-of-rules (policyOf l)))
 
 gives-one : {A : Type 0} {a b : A} → gives a ≡ gives b → a ≡ b
 gives-one e = cc
 
 -- what was Permitted and is no lower is not NotPermitted
 not-lower : (d : Decision) → d ≡ notPermitted → height (permitted 0) ≤ height d → ⊥
-unfolding height
-not-lower d e h = omega (arith, ap height e)
+not-lower d e h = omega (arith, ap height e, height-not-permitted, height-permitted 0)
 
 module _ (p : Promises) where
-  -- the answer of a marked case
-  case-at : (n : ℕ) → getD (map given cases) n (gives notPermitted) ≡ getD (map expectedOf cases) n (gives notPermitted)
-  case-at n = ap (λ (xs : List (Outcome Decision)). getD xs n (gives notPermitted)) (p .deciding .marked-cases)
-
-  sample-permitted : answer sample (query 10 21 5 1) ≡ gives (permitted 0)
-  unfolding cases given expectedOf ask
-  sample-permitted = case-at 0
-
-  group-permitted : answer sample (query 10 g0 5 1) ≡ gives (permitted 0)
-  unfolding cases given expectedOf ask
-  group-permitted = case-at 1
-
-  roster-fails : answer (extended sample (allow 14 g0 7 7)) (query 10 21 5 1) ≡ gives (unknown 0 0)
-  unfolding cases given expectedOf ask
-  roster-fails = case-at 6
-
-  companion-fails : answer (extended sample companion) (query 10 21 5 1) ≡ gives (unknown 0 2)
-  unfolding cases given expectedOf ask
-  companion-fails = case-at 8
+  answers : Answers
+  answers = marked-answers (p .deciding .marked-cases)
 
   -- ---- the longest image
 
@@ -121,10 +113,11 @@ module _ (p : Promises) where
   -- ---- the sample
 
   sample-rebuilt : addAll (empty ++ replicate 72 9) (allRecords (policyOf sample)) ≡ sample ++ (9 ∷ [])
-  unfolding overwrite sample empty
+  unfolding sample empty
   sample-rebuilt =
       let a = p .reading .sample-accepted in
       p .adding .round-trip sample (replicate 72 9) (a .sample-bytes) (a .sample-passes) (omega arith)
+      ∙ overwrite-is sample (empty ++ replicate 72 9)
 
   companion-added : NotRevoked (imageIn (extended sample companion)) (query 10 21 5 1)
   unfolding extended
@@ -133,7 +126,7 @@ module _ (p : Promises) where
       let d =
       p .ordering .added-order (withSpace sample companion) companion space-bytes companion-bytes (p .deciding .marked-adds .companied)
       (inr companion-no-rule) (query 10 21 5 1) (permitted 0)
-      (ap (λ (l : List ℕ). answer l (query 10 21 5 1)) (space-image (a .sample-passes)) ∙ sample-permitted) in
+      (ap (λ (l : List ℕ). answer l (query 10 21 5 1)) (space-image (a .sample-passes)) ∙ answers .member) in
       not-lower (d .now) (gives-one (sym (d .answered) ∙ e)) (d .above)
 
   companion-bytes-after : Bytes (extended sample companion)
@@ -143,40 +136,38 @@ module _ (p : Promises) where
 
   companion-reordered :
       (d : Decision) → answer (imageOf (reordered (policyOf (extended sample companion)))) (query 10 21 5 1) ≡ gives d → height d ≡ 2
-  unfolding height
   companion-reordered d e =
-      let v = p .deciding .decided-only (extended sample companion) (query 10 21 5 1) (unknown 0 2) companion-fails in
+      let v = p .deciding .decided-only (extended sample companion) (query 10 21 5 1) (unknown 0 2) (answers .companied) in
       let r =
       p .ordering .rules-reordered (extended sample companion) companion-bytes-after (v .0) (rules-few (p .deciding .marked-adds .rules-stay)) .1
-      (query 10 21 5 1) (unknown 0 2) companion-fails in
-      ap height (gives-one (sym e ∙ r .answered)) ∙ sym (r .level)
+      (query 10 21 5 1) (unknown 0 2) (answers .companied) in
+      ap height (gives-one (sym e ∙ r .answered)) ∙ sym (r .level) ∙ height-unknown 0 2
 
   order-met : NotRevoked (extended sample (allow 14 g0 7 7)) (query 10 21 5 1)
   order-met e =
       not-lower notPermitted refl
       (p .ordering .order-rule sample (extended sample (allow 14 g0 7 7)) (query 10 g0 5 1) (query 10 21 5 1) (permitted 0) notPermitted
-      group-permitted e (p .deciding .marked-order .extends))
+      (answers .group) e (p .deciding .marked-order .extends))
 
   rule-added : NotRevoked (extended sample (allow 14 g0 7 7)) (query 10 21 5 1)
   rule-added e =
       not-lower notPermitted refl
       (p .ordering .non-decreasing sample (extended sample (allow 14 g0 7 7)) (query 10 21 5 1) (permitted 0) notPermitted
-      sample-permitted e (p .deciding .marked-order .extends .policy) (p .deciding .marked-order .no-companion))
+      (answers .member) e (p .deciding .marked-order .extends .policy) (p .deciding .marked-order .no-companion))
 
   member-met : NotRevoked sample (query 10 21 5 1)
   member-met e =
       not-lower notPermitted refl
-      (p .ordering .member-order sample (query 10 g0 5 1) (query 10 21 5 1) (permitted 0) notPermitted group-permitted e refl refl
+      (p .ordering .member-order sample (query 10 g0 5 1) (query 10 21 5 1) (permitted 0) notPermitted (answers .group) e refl refl
       (omega arith) (omega arith) (p .deciding .marked-order .itself) (p .deciding .marked-order .member))
 
   published-unknown : evalQuery (policyOf (extended sample (allow 14 g0 7 7))) (query 10 21 5 1) ≡ Dcs.UnKnown
-  unfolding forget
   published-unknown =
       let l : List ℕ = extended sample (allow 14 g0 7 7) in
-      let v = p .deciding .decided-only l (query 10 21 5 1) (unknown 0 0) roster-fails in
+      let v = p .deciding .decided-only l (query 10 21 5 1) (unknown 0 0) (answers .rostered) in
       let d = p .deciding .published-answer l (query 10 21 5 1) (v .0) (v .1) (v .2) in
-      let e : d .0 ≡ unknown 0 0 = gives-one (sym (d .1) ∙ roster-fails) in
-      d .2 ∙ ap forget e
+      let e : d .0 ≡ unknown 0 0 = gives-one (sym (d .1) ∙ answers .rostered) in
+      d .2 ∙ ap forget e ∙ forget-unknown 0 0
 
 pub terms-met : Promises → TermsMet
 terms-met p =

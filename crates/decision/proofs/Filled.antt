@@ -10,11 +10,12 @@ use borrow.Author.Tests.{lt-ltb, le-ltb}
 use Rattle.format.specs.declared.Section.the-variants.{Groups}
 use Rattle.format.specs.Bytes.{words}
 use Rattle.format.specs.Format.{countOf}
-use Rattle.format.specs.Policy.{recordsOf, policyOf, recordAt, placeOf}
+use Rattle.format.specs.Policy.{policyOf, recordAt, placeOf}
 use Rattle.format.specs.Check.{check}
-use Rattle.format.specs.Claims.{IsType, IsGroup, IsRecord}
+use Rattle.format.specs.Claims.{IsType, IsGroup}
 use Rattle.format.proofs.Bytes.{length-words}
-use Rattle.format.proofs.Fields.{formed-is}
+use Rattle.format.proofs.ByCase.{records-of-groups}
+use Rattle.format.proofs.Fields.{formed-is, record-group}
 use Rattle.format.proofs.Accepted.{record-formed, record-nth}
 use Rattle.format.proofs.Images.{group-count}
 use Rattle.format.proofs.References.{references-held}
@@ -26,12 +27,10 @@ group-filled r n g = omega (arith, g .size .1, g .some, length-words (drop 2 r),
 
 module _ (l : List ℕ) (e : check l ≡ none) (k : ℕ) (h : k < countOf l Groups) where
   group-nth : getD (policyOf l .groups) k [] ≡ recordAt l (placeOf l Groups k)
-  unfolding recordsOf
-  group-nth = record-nth l Groups k h
+  group-nth = ap (λ (rs : List (List ℕ)). getD rs k []) (sym (records-of-groups (policyOf l))) ∙ record-nth l Groups k h
 
   group-is : (n : ℕ) × IsGroup (recordAt l (placeOf l Groups k)) n
-  unfolding IsRecord
-  group-is = formed-is _ _ Groups (record-formed l e Groups k h)
+  group-is = record-group _ _ (formed-is _ _ Groups (record-formed l e Groups k h))
 
   nth-filled : 0 < length (words (drop 2 (getD (policyOf l .groups) k [])))
   nth-filled = rw group-nth (group-filled _ _ (group-is .1))

@@ -5,7 +5,7 @@ use mathlib.Core.Path.{_≡_, refl, sym, subst, ap, _∙_}
 use mathlib.Core.Logic.{_⊎_, inl, inr, ⊎-elim}
 use mathlib.Core.Bool.{true}
 use mathlib.Core.Option.{none}
-use mathlib.Core.List.{List, [], _∷_, _++_, reverse, reverseAux, List·Memᴰ, List·Memᴰ·head, List·Memᴰ·tail, List·Memᴰ·not-nil, List·Memᴰ·cases-cons, Memᴰ·append-left, Memᴰ·append-right, List·Memᴰ·append-cases}
+use mathlib.Core.List.{List, [], _∷_, _++_, reverse, reverseAux, List·Memᴰ, List·Memᴰ·head, List·Memᴰ·tail, List·Memᴰ·not-nil, List·Memᴰ·cases-cons, Memᴰ·append-right, List·Memᴰ·append-cases}
 use lib.ListN.{length, getD, length-append}
 use borrow.Author.Tests.{lt-ltb}
 use Rattle.format.specs.declared.Section.{Section}
@@ -16,11 +16,12 @@ use Rattle.format.specs.Policy.{Policy, recordsOf, imageOf, policyOf}
 use Rattle.format.specs.Check.{check, imageIn}
 use Rattle.format.specs.Answers.{gives}
 use Rattle.format.specs.Claims.{IsType, WellFormed}
+use Rattle.format.proofs.ByCase.{records-of-groups, records-of-rules, records-of-constraints}
 use Rattle.format.proofs.Fields.{is-type}
 use Rattle.format.proofs.Front.{front-accepted}
 use Rattle.format.proofs.Images.{group-count, accepted-is-well-formed, well-formed-is-accepted}
 use Rattle.extension.specs.Add.{sectionOf, withRecord, addFault, bufferAfter}
-use Rattle.extension.proofs.Adds.{added-accepted, groups-kept}
+use Rattle.extension.proofs.Adds.{with-groups, with-rules, with-constraints, rules-with, added-accepted, groups-kept}
 use Rattle.decision.specs.declared.Query.{Query}
 use Rattle.decision.specs.Sets.{isIn, setOf, allOf, within}
 use Rattle.decision.specs.Decide.{Decision, answer}
@@ -29,31 +30,6 @@ use Rattle.decision.specs.Growth.{AddedGrows, DecidedAbove, AddedOrder, 
 use Rattle.decision.proofs.Order.{answer-accepted, answer-types, keeps-same, grown-order, query-order, decided}
 
 -- ---- adding
-
-with-rules : (s : Section) (p : Policy) (r : List ℕ) → Holds (p .rules) (withRecord s p r .rules)
-unfolding withRecord
-with-rules Groups p r x m = m
-with-rules Rules p r x m = Memᴰ·append-left (r ∷ []) m
-with-rules Constraints p r x m = m
-
-with-constraints : (s : Section) (p : Policy) (r : List ℕ) → Holds (p .constraints) (withRecord s p r .constraints)
-unfolding withRecord
-with-constraints Groups p r x m = m
-with-constraints Rules p r x m = m
-with-constraints Constraints p r x m = Memᴰ·append-left (r ∷ []) m
-
-with-count : (s : Section) (p : Policy) (r : List ℕ) → length (p .groups) ≤ length (withRecord s p r .groups)
-unfolding withRecord
-with-count Groups p r = omega (arith, length-append (p .groups) (r ∷ []))
-with-count Rules p r = omega arith
-with-count Constraints p r = omega arith
-
--- a record of another section leaves the rules
-with-same-rules : (s : Section) (p : Policy) (r : List ℕ) → (s ≡ Rules → ⊥) → Holds (withRecord s p r .rules) (p .rules)
-unfolding withRecord
-with-same-rules Groups p r n x m = m
-with-same-rules Rules p r n x m = absurd (n refl)
-with-same-rules Constraints p r n x m = m
 
 module _ (b r : List ℕ) (by : Bytes b) (bytes : Bytes r) (e : addFault b r ≡ none) where
   after : policyOf (imageIn (bufferAfter b r)) ≡ withRecord (sectionOf (getD r 1 0)) (policyOf (imageIn b)) r
@@ -64,10 +40,10 @@ module _ (b r : List ℕ) (by : Bytes b) (bytes : Bytes r) (e : addFault b r ≡
       let s : Section = sectionOf (getD r 1 0) in
       let p : Policy = policyOf (imageIn b) in
       record {
-        rules = subst (λ (q : Policy). Holds (p .rules) (q .rules)) (sym after) (with-rules s p r);
-        constraints = subst (λ (q : Policy). Holds (p .constraints) (q .constraints)) (sym after) (with-constraints s p r);
+        rules = subst (λ (q : Policy). Holds (p .rules) (q .rules)) (sym after) (with-rules p r s);
+        constraints = subst (λ (q : Policy). Holds (p .constraints) (q .constraints)) (sym after) (with-constraints p r s);
         groups = record {
-          count = subst (λ (q : Policy). length (p .groups) ≤ length (q .groups)) (sym after) (with-count s p r);
+          count = subst (λ (q : Policy). length (p .groups) ≤ length (q .groups)) (sym after) (with-groups p r s);
           same = λ i h. sym (groups-kept b r by bytes e i h);
         };
       }
@@ -75,7 +51,7 @@ module _ (b r : List ℕ) (by : Bytes b) (bytes : Bytes r) (e : addFault b r ≡
   after-rules : (sectionOf (getD r 1 0) ≡ Rules → ⊥) → Holds (policyOf (imageIn (bufferAfter b r)) .rules) (policyOf (imageIn b) .rules)
   after-rules n =
       let p : Policy = policyOf (imageIn b) in
-      subst (λ (q : Policy). Holds (q .rules) (p .rules)) (sym after) (with-same-rules (sectionOf (getD r 1 0)) p r n)
+      subst (λ (q : Policy). Holds (q .rules) (p .rules)) (sym after) (rules-with p r (sectionOf (getD r 1 0)) n)
 
 pub added-grows : AddedGrows
 added-grows b r by bytes e = after-grows b r by bytes e
@@ -151,10 +127,10 @@ module _ (p : Policy) where
   reordered-all :
       (P : Section → List ℕ → Type 0) → ((s : Section) (r : List ℕ) → List·Memᴰ r (recordsOf p s) → P s r)
       → (s : Section) (r : List ℕ) → List·Memᴰ r (recordsOf (reordered p) s) → P s r
-  unfolding recordsOf reordered
-  reordered-all P h Groups r m = h Groups r m
-  reordered-all P h Rules r m = h Rules r (reordered-back r m)
-  reordered-all P h Constraints r m = h Constraints r m
+  unfolding reordered
+  reordered-all P h Groups r m = h Groups r (rw (records-of-groups p) (rw (records-of-groups (reordered p)) at m))
+  reordered-all P h Rules r m = h Rules r (rw (records-of-rules p) (reordered-back r (rw (records-of-rules (reordered p)) at m)))
+  reordered-all P h Constraints r m = h Constraints r (rw (records-of-constraints p) (rw (records-of-constraints (reordered p)) at m))
 
   reordered-formed : WellFormed p → length (p .rules) + length (p .rules) ≤ 1024 → WellFormed (reordered p)
   unfolding reordered

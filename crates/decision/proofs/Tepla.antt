@@ -133,3 +133,7 @@ published-order (permitted r) (unknown s c) = refl
 published-order (unknown r c) notPermitted = refl
 published-order (unknown r c) (permitted s) = refl
 published-order (unknown r c) (unknown s d) = refl
+
+pub forget-unknown : (r c : ℕ) → forget (unknown r c) ≡ Dcs.UnKnown
+unfolding forget
+forget-unknown r c = refl

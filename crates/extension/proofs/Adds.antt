@@ -13,7 +13,7 @@ use mathlib.Core.Path.{_≡_, refl, sym, subst, ap, _∙_}
 use mathlib.Core.Logic.{_⊎_, inl, inr, ⊎-elim}
 use mathlib.Core.Bool.{true}
 use mathlib.Core.Option.{Option, none, some}
-use mathlib.Core.List.{List, [], _∷_, _++_, List·Memᴰ, List·Memᴰ·append-cases, List·Memᴰ·eq-of-singleton}
+use mathlib.Core.List.{List, [], _∷_, _++_, List·Memᴰ, Memᴰ·append-left, List·Memᴰ·append-cases, List·Memᴰ·eq-of-singleton}
 use native.Mathlib.Omega.{arith}
 use lib.ListN.{length, getD, drop, length-append, List·getD-append}
 use lib.Seq.{drop-append-add}
@@ -169,6 +169,25 @@ module _ (p : Policy) (r : List ℕ) where
   with-groups Groups = omega (arith, length-append (p .groups) (r ∷ []))
   with-groups Rules = omega arith
   with-groups Constraints = omega arith
+
+  -- no rule and no constraint is lost, and a record that is no rule leaves the rules
+  pub with-rules : (s : Section) (x : List ℕ) → List·Memᴰ x (p .rules) → List·Memᴰ x (withRecord s p r .rules)
+  unfolding withRecord
+  with-rules Groups x m = m
+  with-rules Rules x m = Memᴰ·append-left (r ∷ []) m
+  with-rules Constraints x m = m
+
+  pub with-constraints : (s : Section) (x : List ℕ) → List·Memᴰ x (p .constraints) → List·Memᴰ x (withRecord s p r .constraints)
+  unfolding withRecord
+  with-constraints Groups x m = m
+  with-constraints Rules x m = m
+  with-constraints Constraints x m = Memᴰ·append-left (r ∷ []) m
+
+  pub rules-with : (s : Section) → (s ≡ Rules → ⊥) → (x : List ℕ) → List·Memᴰ x (withRecord s p r .rules) → List·Memᴰ x (p .rules)
+  unfolding withRecord
+  rules-with Groups n x m = m
+  rules-with Rules n x m = absurd (n refl)
+  rules-with Constraints n x m = m
 
   -- what holds of each record of p, and of r in its section, holds of each record of the two together
   with-all :

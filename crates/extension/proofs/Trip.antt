@@ -190,3 +190,7 @@ round-trip-exact l t b e n =
     ∙ ap (λ (k : ℕ). l ++ drop k (empty ++ t)) (sym n)
     ∙ ap (λ (x : List ℕ). l ++ x) (drop-length (empty ++ t))
     ∙ append-nil l
+
+pub overwrite-is : (new b : List ℕ) → overwrite new b ≡ new ++ drop (length new) b
+unfolding overwrite
+overwrite-is new b = refl

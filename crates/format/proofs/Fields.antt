@@ -326,6 +326,10 @@ module _ (g : ℕ) (r : List ℕ) where
       }
 
 module _ (g : ℕ) (r : List ℕ) where
+  pub record-group : IsRecord Groups g r → (n : ℕ) × IsGroup r n
+  unfolding IsRecord
+  record-group f = f
+
   pub record-rule : IsRecord Rules g r → IsAllow g r ⊎ IsTransition g r
   unfolding IsRecord
   record-rule f = f
