@@ -8,6 +8,11 @@ use mungaite::{Refusal, Section};
 impl Model {
     /// The number of the record that was added to the image that a buffer starts with.
     pub fn added(self, buffer: &mut [u8], record: &[u8]) -> Result<u16, Refusal> {
+        let lent = match record.first() {
+            Some(&length) if self.slips(Slip::LentLengthIgnored) => record.len().min(usize::from(length)),
+            _ => record.len(),
+        };
+        let record = &record[..lent];
         if self.slips(Slip::AddedBeforeImage) {
             self.shaped(record)?;
         }

@@ -47,7 +47,8 @@ impl Subject for Model {
     }
 
     fn permit(&self, input: &[u8]) -> String {
-        let accepted = self.leading_image(input).and_then(|image| self.read(image).map(|_| image));
+        let leading = if self.slips(Slip::ImageToInputEnd) { Ok(input) } else { self.leading_image(input) };
+        let accepted = leading.and_then(|image| self.read(image).map(|_| image));
         let image = match accepted {
             Ok(image) => image,
             Err(refusal) => return self.line(Err(refusal)),

@@ -26,7 +26,7 @@ impl Model {
         if bytes.len() < HEADER {
             return Err(refusal(1, 0));
         }
-        if bytes[0] != 1 {
+        if bytes[0] != 1 && !self.slips(Slip::AnyVersion) {
             return Err(refusal(2, 0));
         }
         let length = usize::from(number(bytes, 1));
@@ -73,6 +73,9 @@ impl Model {
         for section in Section::ALL {
             for _ in 0..number(image, count_place(section)) {
                 let bad_place = if self.slips(Slip::RecordPlaceOff) { place + 1 } else { place };
+                if self.slips(Slip::FieldBeforeShape) && self.bad_source(section, &image[place..], groups) {
+                    return Err(refusal(6, place + 2));
+                }
                 let record = self.first_record(section, &image[place..]).ok_or(refusal(5, bad_place))?;
                 if look_at_fields {
                     self.fields(record, groups).map_err(|at| refusal(6, place + at))?;
@@ -82,9 +85,14 @@ impl Model {
             }
         }
         if place < image.len() && !self.slips(Slip::TrailingPasses) {
-            return Err(refusal(7, place));
+            return Err(refusal(7, if self.slips(Slip::LastTrailingNamed) { image.len() - 1 } else { place }));
         }
         Ok(records)
+    }
+
+    /// Whether a rule, be it well shaped or not, has a bad source.
+    fn bad_source(self, section: Section, rest: &[u8], groups: u16) -> bool {
+        section == Section::Rules && rest.len() >= 4 && !self.is_type(number(rest, 2), groups)
     }
 
     /// The record that the rest of an image starts with, if it ends within the image and its kind and length are right.
@@ -98,14 +106,19 @@ impl Model {
 
     /// Whether a kind of record may have this length.
     pub fn length_suits(self, kind: u8, length: usize) -> bool {
-        let over = if self.slips(Slip::LengthOver) { 2 } else { 0 };
+        let more = match self.slip {
+            Some(Slip::LengthOver) => 2,
+            Some(Slip::LengthAtLimit) => -2,
+            _ => 0,
+        };
+        let up_to = |most: usize| most.saturating_add_signed(more);
         let least = if self.slips(Slip::EmptyGroupPasses) { 2 } else { 4 };
         let any = self.slips(Slip::HalfFieldPasses);
         match kind {
-            1 => (least..=130 + over).contains(&length) && (length.is_multiple_of(2) || any),
+            1 => (least..=up_to(130)).contains(&length) && (length.is_multiple_of(2) || any),
             2 => length == 11,
             3 => length == 8 || self.slips(Slip::LongTransitionPasses) && length == 11,
-            4 => (11..=43 + over).contains(&length) && (!length.is_multiple_of(2) || any),
+            4 => (11..=up_to(43)).contains(&length) && (!length.is_multiple_of(2) || any),
             _ => false,
         }
     }

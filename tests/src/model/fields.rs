@@ -91,12 +91,20 @@ impl Model {
             self.is_basic(field)
         } else {
             let group = field - 32768;
-            group < groups || self.slips(Slip::GroupOver) && group == groups
+            match self.slip {
+                Some(Slip::GroupOver) => group <= groups,
+                Some(Slip::GroupUnder) => group + 1 < groups,
+                _ => group < groups,
+            }
         }
     }
 
     fn is_basic(self, field: u16) -> bool {
-        field <= 1023 || self.slips(Slip::BasicTypeOver) && field == 1024
+        match self.slip {
+            Some(Slip::BasicTypeOver) => field <= 1024,
+            Some(Slip::BasicTypeUnder) => field <= 1022,
+            _ => field <= 1023,
+        }
     }
 
     /// Puts the tests into the order of a mistaken model; leaves them in byte order otherwise.

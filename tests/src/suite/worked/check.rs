@@ -15,6 +15,7 @@ pub const ROWS: &[Row] = &[
     ("last byte cut", || SAMPLE[..79].to_vec(), no(3, 0)),
     ("cut, and length field 79", || with(&SAMPLE[..79], &[(2, 79)]), no(5, 69)),
     ("one byte more and length field 81", || with(&[&SAMPLE[..], &[0]].concat(), &[(2, 81)]), no(7, 80)),
+    ("three bytes more and length field 83", || with(&[&SAMPLE[..], &[0; 3]].concat(), &[(2, 83)]), no(7, 80)),
     ("64 members", || groups(&[&rising(64)]), Ok(())),
     ("65 members, a group record of length 132", || groups(&[&rising(65)]), no(5, 9)),
     ("1,024 rules", || rules(&vec![allow(1, 2, 3, 4, 1); 1024]), Ok(())),
@@ -23,6 +24,7 @@ pub const ROWS: &[Row] = &[
     // The table's causes, 1 to 4 in rising order.
     ("no bytes", Vec::new, no(1, 0)),
     ("8 bytes, version 0", || vec![0; 8], no(1, 0)),
+    ("version 0", || with(&SAMPLE, &[(0, 0)]), no(2, 0)),
     ("version 2, length field 8", || vec![2, 0, 8, 0, 0, 0, 0, 0, 0], no(2, 0)),
     ("length field 8, 257 groups", || vec![1, 0, 8, 1, 1, 0, 0, 0, 0], no(3, 0)),
     ("length field 10", || vec![1, 0, 10, 0, 0, 0, 0, 0, 0], no(3, 0)),
@@ -59,6 +61,9 @@ pub const ROWS: &[Row] = &[
     ("a constraint of length 12", || constraints(&[vec![12, 4, 0, 1, 0, 2, 0, 3, 0, 4, 0, 0]]), no(5, 9)),
     ("a constraint of length 14", || constraints(&[vec![14, 4, 0, 1, 0, 2, 0, 3, 0, 4, 2, 0, 7, 0]]), no(5, 9)),
     ("record length 0", || vec![1, 0, 11, 0, 1, 0, 0, 0, 0, 0, 1], no(5, 9)),
+    ("a rule of length 12 and a bad source", || rules(&[vec![12, 2, 4, 0, 0, 2, 0, 3, 0, 4, 1, 0]]), no(5, 9)),
+    ("a rule past the image and a bad source", || vec![1, 0, 19, 0, 0, 0, 1, 0, 0, 11, 2, 4, 0, 0, 2, 0, 3, 0, 4], no(5, 9)),
+    ("a group of length 5 and a bad member", || vec![1, 0, 14, 0, 1, 0, 0, 0, 0, 5, 1, 4, 0, 0], no(5, 9)),
     ("a bad field in record 0, a bad record 1", || with(&SAMPLE, &[(13, 4), (16, 9)]), no(6, 13)),
     ("a bad record 0, a bad field in record 1", || with(&SAMPLE, &[(10, 9), (17, 4)]), no(5, 9)),
     ("a bad field in rule 0, a bad rule 1", || rules(&[allow(1024, 2, 3, 4, 1), vec![11, 9, 0, 1, 0, 2, 0, 3, 0, 4, 1]]), no(6, 11)),
@@ -112,6 +117,7 @@ pub const ROWS: &[Row] = &[
     ("a bad argument and a bad listed type", || constraints(&[constraint(0, 0, 0, 1024, 2, &[1024])]), no(6, 17)),
     ("a bad argument, and a list that does not suit", || constraints(&[constraint(0, 0, 0, 1024, 1, &[0])]), no(6, 17)),
     ("a list that does not suit, of bad types", || constraints(&[constraint(0, 0, 0, 0, 1, &[1024])]), no(6, 19)),
+    ("a list of 15", || constraints(&[constraint(0, 0, 0, 0, 2, &[7; 15])]), Ok(())),
     ("a list of 16", || constraints(&[constraint(0, 0, 0, 0, 2, &[7; 16])]), Ok(())),
     ("a list of 17, a record of length 45", || constraints(&[constraint(0, 0, 0, 0, 2, &[7; 17])]), no(5, 9)),
 ];

@@ -26,8 +26,11 @@ pub const ROWS: &[Row] = &[
     (&EMPTY, Section::Rules, 0, no(14, 0)),
     (&EMPTY, Section::Constraints, 0, no(14, 0)),
     // The image's causes come first, of a record that there is and of one that there is not.
+    (&[], Section::Groups, 0, no(1, 0)),
+    (&[2, 0, 9, 0, 0, 0, 0, 0, 0], Section::Groups, 0, no(2, 0)),
     (SAMPLE.split_at(79).0, Section::Groups, 0, no(3, 0)),
     (SAMPLE.split_at(79).0, Section::Groups, 1, no(3, 0)),
+    (&[1, 0, 9, 1, 1, 0, 0, 0, 0], Section::Rules, 0, no(4, 3)),
     (&[1, 0, 9, 0, 1, 0, 0, 0, 0], Section::Rules, 0, no(5, 9)),
     (&[1, 0, 13, 0, 1, 0, 0, 0, 0, 4, 1, 4, 0], Section::Groups, 0, no(6, 11)),
     (&[1, 0, 13, 0, 1, 0, 0, 0, 0, 4, 1, 4, 0], Section::Rules, 0, no(6, 11)),
