@@ -6,6 +6,7 @@ mod check;
 mod constraints;
 mod decide;
 mod full;
+mod order;
 mod permit;
 mod predicates;
 mod record;
@@ -27,6 +28,7 @@ pub const TESTS: &[Cases] = &[
     Cases { name: "worked/separation", count: Count::Listed(SEPARATION.len() as u64), run: predicates::separations },
     Cases { name: "worked/roster", count: Count::Listed(ROSTER.len() as u64), run: predicates::rosters },
     Cases { name: "worked/companion", count: Count::Listed(COMPANION.len() as u64), run: predicates::companions },
+    Cases { name: "worked/order", count: Count::Listed(order::ROWS.len() as u64), run: order::run },
     Cases { name: "worked/full", count: Count::Listed(full::ROWS.len() as u64), run: full::run },
     Cases { name: "worked/full-permit", count: Count::Listed(1), run: full::permit },
     Cases { name: "worked/record", count: Count::Listed(record::ROWS.len() as u64), run: record::run },
