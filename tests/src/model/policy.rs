@@ -45,6 +45,8 @@ pub struct Constraint {
     pub second: Set,
     pub predicate: u8,
     pub list: Vec<Set>,
+    /// The same group is both arguments. Only a mistaken model looks at it.
+    pub one_argument: bool,
 }
 
 /// A query with its types as sets.
@@ -102,6 +104,7 @@ impl Policy {
             second: self.set(number(record, 8)),
             predicate: record[10],
             list: words(record, 11).map(|at| self.set(number(record, at))).collect(),
+            one_argument: number(record, 6) == number(record, 8),
         }
     }
 

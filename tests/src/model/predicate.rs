@@ -12,6 +12,14 @@ struct Asked<'a> {
     live: Vec<&'a Rule>,
 }
 
+impl Asked<'_> {
+    /// Whether a rule's source is a group that is a destination too. Only a mistaken model asks.
+    fn judged(&self, rule: &Rule) -> bool {
+        let source = rule.source_field;
+        source >= 32768 && self.live.iter().any(|other| other.destination_field == source)
+    }
+}
+
 impl Model {
     /// Whether a constraint's predicate is true.
     pub fn holds(self, constraint: &Constraint, policy: &Policy, query: &Request) -> bool {
@@ -52,6 +60,7 @@ impl Model {
         match self.slip {
             Some(Slip::GateSwapped) => inside(&query.source, second) && inside(&query.destination, first),
             Some(Slip::GateBySourceOnly) => inside(&query.source, first),
+            Some(Slip::ArgumentJudgedOnce) if constraint.one_argument => inside(&query.source, first),
             Some(Slip::GateByDestinationOnly) => inside(&query.destination, second),
             _ => inside(&query.source, first) && inside(&query.destination, second),
         }
@@ -91,8 +100,13 @@ impl Model {
         let to = |argument: &Set| -> Vec<usize> {
             (0..asked.live.len()).filter(|&n| self.meets(asked, &asked.live[n].destination, argument)).collect()
         };
-        let to_first = to(if self.slips(Slip::SeparationOfSecond) { asked.second } else { asked.first });
+        let mut to_first = to(if self.slips(Slip::SeparationOfSecond) { asked.second } else { asked.first });
         let to_second = to(if self.slips(Slip::SeparationOfFirst) { asked.first } else { asked.second });
+        if self.slips(Slip::JudgedOnce(Predicate::Separation)) {
+            let is_group = |n: &usize| asked.live[*n].destination_field >= 32768;
+            to_first.retain(|n| !is_group(n));
+            to_first.extend(to_second.iter().filter(|n| is_group(n)));
+        }
         to_first
             .iter()
             .any(|&n| to_second.iter().any(|&m| same(asked.live[n], asked.live[m]) && (n != m || !wants_two)))
@@ -104,6 +118,7 @@ impl Model {
         let argument = if self.slips(Slip::RosterByFirst) { asked.first } else { asked.second };
         let union: Set = list.iter().flatten().copied().collect();
         let listed = |rule: &&Rule| match self.slip {
+            Some(Slip::JudgedOnce(Predicate::Roster)) if asked.judged(rule) => touches(&rule.source, argument),
             Some(Slip::RosterOfOneType) => list.iter().any(|listed| within(&rule.source, listed)),
             Some(Slip::RosterByTouch) => touches(&rule.source, &union),
             _ => within(&rule.source, &union),
@@ -120,7 +135,10 @@ impl Model {
     fn has_companion(self, asked: &Asked) -> bool {
         let (from, to) =
             if self.slips(Slip::CompanionSameWay) { (asked.first, asked.second) } else { (asked.second, asked.first) };
-        let leaves = |rule: &&Rule| self.meets(asked, &rule.source, from);
+        let leaves = |rule: &&Rule| match self.slip {
+            Some(Slip::JudgedOnce(Predicate::Companion)) if asked.judged(rule) => touches(&rule.source, to),
+            _ => self.meets(asked, &rule.source, from),
+        };
         let arrives = |rule: &&Rule| self.meets(asked, &rule.destination, to);
         let live = &asked.live;
         match self.slip {
