@@ -19,9 +19,13 @@ impl Model {
         let image = if self.slips(Slip::ImageToBufferEnd) { &*buffer } else { self.leading_image(buffer)? };
         let old_length = image.len();
         let mut records = self.read(image)?;
-        let section = self.addable(&records, record, old_length, buffer.len())?;
+        let addable = self.addable(&records, record, old_length, buffer.len());
+        if self.slips(Slip::RefusedAddWrites) && addable.is_err() {
+            buffer[2] ^= 1;
+        }
+        let section = addable?;
         let n = records.of(section).len();
-        let new = match self.slip {
+        let mut new = match self.slip {
             Some(Slip::AddedAtImageEnd) => added_at_end(&buffer[..old_length], section, record),
             Some(Slip::AddedFirst) => records.with_first(section, record).image(),
             _ => {
@@ -30,6 +34,8 @@ impl Model {
             }
         };
         match self.slip {
+            Some(Slip::LengthFieldStays) => new[1..3].copy_from_slice(&buffer[1..3]),
+            Some(Slip::CountStays) => new[3..9].copy_from_slice(&buffer[3..9]),
             Some(Slip::RestCleared) => buffer[new.len()..].fill(0),
             Some(Slip::RestMoved) => buffer.copy_within(old_length..buffer.len() - record.len(), new.len()),
             _ => {}

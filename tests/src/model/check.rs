@@ -23,17 +23,18 @@ impl Model {
 
     /// The image that some bytes start with, up to its length field: causes 1 to 3 as adding and the program have them.
     pub fn leading_image(self, bytes: &[u8]) -> Result<&[u8], Refusal> {
-        if bytes.len() < HEADER {
-            return Err(refusal(1, 0));
+        let length = if bytes.len() < HEADER { 0 } else { usize::from(number(bytes, 1)) };
+        let wrong_version = bytes.first().is_some_and(|&version| version != 1) && !self.slips(Slip::AnyVersion);
+        let mut causes = [(1, bytes.len() < HEADER), (2, wrong_version), (3, length < HEADER || length > bytes.len())];
+        match self.slip {
+            Some(Slip::VersionBeforeSize) => causes.swap(0, 1),
+            Some(Slip::LengthBeforeVersion) => causes.swap(1, 2),
+            _ => {}
         }
-        if bytes[0] != 1 && !self.slips(Slip::AnyVersion) {
-            return Err(refusal(2, 0));
+        match causes.into_iter().find(|(_, applies)| *applies) {
+            Some((cause, _)) => Err(refusal(cause, 0)),
+            None => Ok(&bytes[..length]),
         }
-        let length = usize::from(number(bytes, 1));
-        if length < HEADER || length > bytes.len() {
-            return Err(refusal(3, 0));
-        }
-        Ok(&bytes[..length])
     }
 
     fn counts(self, image: &[u8]) -> Result<(), Refusal> {
@@ -71,6 +72,9 @@ impl Model {
         let mut records = Records::default();
         let mut place = HEADER;
         for section in Section::ALL {
+            if self.slips(Slip::FieldsAfterSection) {
+                self.framed(section, image, place)?;
+            }
             for _ in 0..number(image, count_place(section)) {
                 let bad_place = if self.slips(Slip::RecordPlaceOff) { place + 1 } else { place };
                 if self.slips(Slip::FieldBeforeShape) && self.bad_source(section, &image[place..], groups) {
@@ -88,6 +92,14 @@ impl Model {
             return Err(refusal(7, if self.slips(Slip::LastTrailingNamed) { image.len() - 1 } else { place }));
         }
         Ok(records)
+    }
+
+    /// A section's records from a place on, without a look at their fields.
+    fn framed(self, section: Section, image: &[u8], mut place: usize) -> Result<(), Refusal> {
+        for _ in 0..number(image, count_place(section)) {
+            place += self.first_record(section, &image[place..]).ok_or(refusal(5, place))?.len();
+        }
+        Ok(())
     }
 
     /// Whether a rule, be it well shaped or not, has a bad source.
