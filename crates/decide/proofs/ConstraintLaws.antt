@@ -14,8 +14,8 @@ use Rattle.format.specs.Format.{countOf}
 use Rattle.format.specs.Policy.{recordAt, recordsAt, startOf, placeOf}
 use Rattle.format.specs.Check.{check}
 use Rattle.format.specs.Claims.{IsType}
-use Rattle.format.proofs.Shapes.{stands-word}
 use Rattle.format.specs.Inner.Places.{wordsAt, ConstraintAt}
+use Rattle.format.proofs.Shapes.{stands-word}
 use Rattle.format.proofs.Accepted.{place-first, policy-constraints}
 use Rattle.format.proofs.Records.{records-none, records-next}
 use Rattle.decision.specs.Sets.{anyOf, allOf, isIn, setOf, unionOf, within, touches, sameSet}

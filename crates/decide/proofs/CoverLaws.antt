@@ -16,9 +16,9 @@ use Rattle.format.specs.Format.{countOf}
 use Rattle.format.specs.Policy.{recordAt, recordsAt, startOf, placeOf}
 use Rattle.format.specs.Check.{check}
 use Rattle.format.specs.Claims.{IsType}
+use Rattle.format.specs.Inner.Places.{RuleAt}
 use Rattle.format.proofs.Tests.{false-not-true}
 use Rattle.format.proofs.Shapes.{stands-word}
-use Rattle.format.specs.Inner.Places.{RuleAt}
 use Rattle.format.proofs.Accepted.{place-first, policy-rules}
 use Rattle.format.proofs.Records.{records-none, records-next}
 use Rattle.decision.specs.declared.Query.{Query}

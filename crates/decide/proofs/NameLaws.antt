@@ -15,8 +15,8 @@ use Rattle.format.specs.Bytes.{wordAt}
 use Rattle.format.specs.Format.{countOf}
 use Rattle.format.specs.Check.{check}
 use Rattle.format.specs.Claims.{IsType}
-use Rattle.format.proofs.Tests.{false-not-true}
 use Rattle.format.specs.Inner.Places.{wordsAt, Rising}
+use Rattle.format.proofs.Tests.{false-not-true}
 use Rattle.format.proofs.Fields.{rising-basic, rising-parts}
 use Rattle.format.proofs.Places.{words-at-length, words-at-nth, words-at-one}
 use Rattle.decision.specs.Sets.{setOf, sameSet}

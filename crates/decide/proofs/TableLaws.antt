@@ -15,8 +15,8 @@ use Rattle.format.specs.Format.{countOf}
 use Rattle.format.specs.Policy.{recordAt, recordsAt, startOf, placeOf}
 use Rattle.format.specs.Check.{check}
 use Rattle.format.specs.Claims.{IsType}
-use Rattle.format.proofs.Accepted.{place-next, place-first, policy-rules}
 use Rattle.format.specs.Inner.Places.{RuleAt}
+use Rattle.format.proofs.Accepted.{place-next, place-first, policy-rules}
 use Rattle.format.proofs.Places.{rule-at}
 use Rattle.format.proofs.Records.{records-none, records-next}
 use Rattle.decision.specs.Sets.{anyOf, setOf, sameSet}

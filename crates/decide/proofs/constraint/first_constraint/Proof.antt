@@ -8,8 +8,8 @@ use lib.ListN.{getD}
 use Rattle.format.specs.declared.Section.the-variants.{Constraints}
 use Rattle.format.specs.Format.{countOf}
 use Rattle.format.specs.Policy.{recordAt, placeOf}
-use Rattle.format.proofs.Accepted.{accepted-header, place-next}
 use Rattle.format.specs.Inner.Places.{ConstraintAt}
+use Rattle.format.proofs.Accepted.{accepted-header, place-next}
 use Rattle.format.proofs.Places.{constraint-at}
 use Rattle.format.proofs.ByCase.{count-constraints}
 use Rattle.decide.specs.Inner.Marks.{fullyMarked}

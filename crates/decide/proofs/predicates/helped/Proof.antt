@@ -10,8 +10,8 @@ use lib.ListN.{getD}
 use Rattle.format.specs.declared.Section.the-variants.{Rules}
 use Rattle.format.specs.Format.{countOf}
 use Rattle.format.specs.Policy.{recordAt, placeOf}
-use Rattle.format.proofs.Accepted.{accepted-header, place-next}
 use Rattle.format.specs.Inner.Places.{RuleAt}
+use Rattle.format.proofs.Accepted.{accepted-header, place-next}
 use Rattle.format.proofs.Places.{rule-at}
 use Rattle.format.proofs.ByCase.{count-rules}
 use Rattle.decision.specs.Sets.{anyOf}

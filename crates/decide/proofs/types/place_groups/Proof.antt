@@ -8,8 +8,8 @@ use lib.ListN.{length, getD, length-set}
 use Rattle.format.specs.declared.Section.the-variants.{Groups}
 use Rattle.format.specs.Format.{countOf}
 use Rattle.format.specs.Policy.{placeOf, recordAt}
-use Rattle.format.proofs.Accepted.{accepted-header, record-stands, place-next}
 use Rattle.format.specs.Inner.Places.{Stands}
+use Rattle.format.proofs.Accepted.{accepted-header, record-stands, place-next}
 use Rattle.format.proofs.ByCase.{count-groups}
 use Rattle.decide.proofs.ArrayLaws.{blank}
 use Rattle.decide.proofs.TypeLaws.{few-groups, first-place, placed-more, placed-past, places-all}
