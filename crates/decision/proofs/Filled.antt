@@ -1,7 +1,7 @@
 -- No set is empty. Claims TypesFilled, FieldsFilled. Assumes nothing.
 use Prim.Native.Nat.{ℕ, _+_, _-_, _*_, _≤_, _<_}
 use native.Mathlib.Omega.{arith}
-use mathlib.Core.Path.{_≡_, refl, sym, subst, ap, _∙_}
+use mathlib.Core.Path.{_≡_, subst}
 use mathlib.Core.Logic.{inl, inr}
 use mathlib.Core.Option.{none}
 use mathlib.Core.List.{List, []}
@@ -14,9 +14,8 @@ use Rattle.format.specs.Policy.{policyOf, recordAt, placeOf}
 use Rattle.format.specs.Check.{check}
 use Rattle.format.specs.Claims.{IsType, IsGroup}
 use Rattle.format.proofs.Bytes.{length-words}
-use Rattle.format.proofs.ByCase.{records-of-groups}
 use Rattle.format.proofs.Fields.{formed-is, record-group}
-use Rattle.format.proofs.Accepted.{record-formed, record-nth}
+use Rattle.format.proofs.Accepted.{record-formed, group-nth}
 use Rattle.format.proofs.Images.{group-count}
 use Rattle.format.proofs.References.{references-held}
 use Rattle.decision.specs.Sets.{setOf}
@@ -26,14 +25,11 @@ group-filled : (r : List ℕ) (n : ℕ) → IsGroup r n → 0 < length (words (d
 group-filled r n g = omega (arith, g .size .1, g .some, length-words (drop 2 r), length-drop 2 r)
 
 module _ (l : List ℕ) (e : check l ≡ none) (k : ℕ) (h : k < countOf l Groups) where
-  group-nth : getD (policyOf l .groups) k [] ≡ recordAt l (placeOf l Groups k)
-  group-nth = ap (λ (rs : List (List ℕ)). getD rs k []) (sym (records-of-groups (policyOf l))) ∙ record-nth l Groups k h
-
   group-is : (n : ℕ) × IsGroup (recordAt l (placeOf l Groups k)) n
   group-is = record-group _ _ (formed-is _ _ Groups (record-formed l e Groups k h))
 
   nth-filled : 0 < length (words (drop 2 (getD (policyOf l .groups) k [])))
-  nth-filled = rw group-nth (group-filled _ _ (group-is .1))
+  nth-filled = rw (group-nth l k h) (group-filled _ _ (group-is .1))
 
 pub types-filled : TypesFilled
 unfolding setOf
