@@ -1,0 +1,5 @@
+pub mod Numbers
+pub mod Queries
+pub mod Image
+pub mod Output
+pub mod Worked

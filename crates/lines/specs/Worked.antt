@@ -1,0 +1,76 @@
+-- Lines and whole outputs, written out from document 01.
+--     ascii s        the bytes of a text
+--     WorkedLines    the lines of some outcomes, a place of 5 digits among them
+--     WorkedRuns     the outputs of some inputs
+use Prim.Native.Nat.{ℕ}
+use Prim.Native.Char.{code}
+use Prim.Native.String.{String, [] as none, _∷_ as _then_}
+use mathlib.Core.Path.{_≡_}
+use mathlib.Core.List.{List, [], _∷_, _++_, map}
+use lib.ListN.{take, replicate}
+use Rattle.format.specs.Refusals.{refusal}
+use Rattle.format.specs.Answers.{Outcome, refused, gives}
+use Rattle.format.specs.Sample.{sample, empty}
+use Rattle.decision.specs.Decide.{Decision, notPermitted, permitted, unknown}
+use Rattle.lines.specs.Lines.{line}
+use Rattle.lines.specs.Output.{printed}
+
+unfoldable pub ascii : String → List ℕ
+ascii none = []
+ascii (c then s) = code c ∷ ascii s
+
+pub record WorkedLine : Type 0 where
+  pub outcome : Outcome Decision
+  pub says : String
+
+unfoldable pub workedLines : List WorkedLine
+workedLines =
+    record { outcome = gives notPermitted; says = "N\n" }
+    ∷ record { outcome = gives (permitted 0); says = "P 0\n" }
+    ∷ record { outcome = gives (permitted 9); says = "P 9\n" }
+    ∷ record { outcome = gives (permitted 10); says = "P 10\n" }
+    ∷ record { outcome = gives (unknown 1023 255); says = "U 1023 255\n" }
+    ∷ record { outcome = refused (refusal 6 9999); says = "R 6 9999\n" }
+    ∷ record { outcome = refused (refusal 6 10000); says = "R 6 10000\n" }
+    ∷ record { outcome = refused (refusal 6 55559); says = "R 6 55559\n" }
+    ∷ []
+
+unfoldable pub lineOf : WorkedLine → List ℕ
+lineOf w = line (w .outcome)
+
+unfoldable pub lineSaid : WorkedLine → List ℕ
+lineSaid w = ascii (w .says)
+
+abbrev pub WorkedLines : Type 0
+WorkedLines = map lineOf workedLines ≡ map lineSaid workedLines
+
+pub record WorkedRun : Type 0 where
+  pub input : List ℕ
+  pub says : String
+
+-- source, destination, class and action, each below 256
+unfoldable pub asked : ℕ → ℕ → ℕ → ℕ → List ℕ
+asked s d c a = 0 ∷ s ∷ 0 ∷ d ∷ 0 ∷ c ∷ 0 ∷ a ∷ []
+
+unfoldable pub workedRuns : List WorkedRun
+workedRuns =
+    record { input = []; says = "R 1 0\n" }
+    ∷ record { input = take 8 empty; says = "R 1 0\n" }
+    ∷ record { input = empty; says = "" }
+    ∷ record { input = empty ++ replicate 1 0; says = "R 15 0\n" }
+    ∷ record { input = empty ++ replicate 7 0; says = "R 15 0\n" }
+    ∷ record { input = empty ++ replicate 8 0; says = "N\n" }
+    ∷ record { input = empty ++ replicate 9 0; says = "N\nR 15 0\n" }
+    ∷ record { input = 1 ∷ 0 ∷ 8 ∷ replicate 20 0; says = "R 3 0\n" }
+    ∷ record { input = take 79 sample; says = "R 3 0\n" }
+    ∷ record { input = sample ++ (asked 10 21 5 1 ++ (asked 13 21 5 1 ++ asked 12 20 9 9)); says = "P 0\nN\nP 2\n" }
+    ∷ []
+
+unfoldable pub runOf : WorkedRun → List ℕ
+runOf w = printed (w .input)
+
+unfoldable pub runSaid : WorkedRun → List ℕ
+runSaid w = ascii (w .says)
+
+abbrev pub WorkedRuns : Type 0
+WorkedRuns = map runOf workedRuns ≡ map runSaid workedRuns

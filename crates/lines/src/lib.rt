@@ -1,0 +1,1 @@
+// What the program prints is in specs/, and no code is here.
