@@ -1,31 +1,22 @@
 -- Laws of the lines, and of what is put into a buffer. Assumes nothing.
-use Prim.Native.Nat.{ℕ, zero, suc, _+_, _-_, _/_, _%_, _≤_, _<_}
+use Prim.Native.Nat.{ℕ, zero, suc, _+_, _-_, _*_, _/_, _%_, _^_, _≤_, _<_}
 use native.Mathlib.Numerals.{add-one}
 use native.Mathlib.Omega.{arith}
 use mathlib.Core.Path.{_≡_, refl, sym, subst, ap, _∙_}
 use mathlib.Core.List.{List, [], _∷_, _++_, append-assoc, append-nil}
 use lib.ListN.{length, getD, set, take, drop, length-append, length-drop, length-set}
-use lib.Seq.{append-snoc, drop-cons, getD-set-same, getD-set-other, getD-drop, drop-set-lt, take-suc, take-suc-set, take-add}
-use borrow.Author.Tests.{lt-ltb, le-ltb}
+use lib.Seq.{append-snoc, drop-cons, getD-set-same, getD-set-other, getD-drop, drop-set-lt, take-suc, take-suc-set, take-add, take-length, length-take-le, drop-at}
+use borrow.Author.Tests.{eq-eqb, ne-eqb}
+use Rattle.format.specs.Refusals.{refusal}
+use Rattle.format.specs.Answers.{refused}
 use Rattle.decision.specs.declared.Query.{Query}
 use Rattle.decision.specs.declared.Answer.{Answer}
 use Rattle.decision.specs.Decide.{answer, answerOutcome}
-use Rattle.permit.specs.Lines.{widthFrom, width, digits, decimal, pairLine, line, queryAt, linesFrom, lines, Put}
-
--- ---- the width of a number
-
-pub width-last : (m n : ℕ) → m ≡ 0 → widthFrom m n ≡ 1
-unfolding widthFrom
-width-last m n e = rw e refl
-
-pub width-one : (m n : ℕ) → n < 10 → widthFrom m n ≡ 1
-unfolding widthFrom
-width-one zero n h = refl
-width-one (suc m) n h = rw (lt-ltb n 10 h) refl
-
-pub width-more : (m k n : ℕ) → m ≡ suc k → 10 ≤ n → widthFrom m n ≡ suc (widthFrom k (n / 10))
-unfolding widthFrom
-width-more m k n e h = rw (e, le-ltb n 10 h) refl
+use Rattle.io.specs.Digits.{digits, Fewest}
+use Rattle.lines.proofs.Numbers.{decimal-fewest, fewest-same}
+use Rattle.lines.specs.Lines.{width, decimal, pairLine, line, queryAt, linesFrom, lines}
+use Rattle.lines.specs.Output.{restOf, ending}
+use Rattle.permit.specs.Inner.Put.{Put, Front}
 
 -- ---- what is put
 
@@ -45,59 +36,35 @@ put-said {l} {l'} {at} {to} e p = subst (λ x. Put l l' at to (line (answerOutco
 pub pair-said : {l l' : List ℕ} {at to n m : ℕ} (letter b : ℕ) → n ≡ m → Put l l' at to (pairLine letter n b) → Put l l' at to (pairLine letter m b)
 pair-said {l} {l'} {at} {to} letter b e p = subst (λ x. Put l l' at to (pairLine letter x b)) e p
 
--- ---- digits
+pub put-none : (l : List ℕ) (at to : ℕ) (s : List ℕ) → to ≡ at + 0 → Put l l at to (take 0 s)
+put-none l at to s e = let z : to ≡ at = omega arith in record { ends = e; bytes = ap (λ k. take k l) z ∙ sym (append-nil (take at l)) }
 
-digits-length : (k n : ℕ) → length (digits k n) ≡ k
-unfolding digits
-digits-length zero n = refl
-digits-length (suc k) n = length-append (digits k (n / 10)) _ ∙ omega (arith, digits-length k (n / 10))
+-- one more byte, the next of s
+pub put-next :
+    (l l' s : List ℕ) (at i to : ℕ) → i < length s → at + i < length l' → to ≡ at + (i + 1)
+    → Put l l' at (at + i) (take i s) → Put l (set l' (at + i) (getD s i 0)) at to (take (i + 1) s)
+put-next l l' s at i to h f e p =
+    let q = put-then p (put-one l' (at + i) (getD s i 0) f) in
+    let n : to ≡ at + i + 1 = omega arith in
+    let t : take i s ++ (getD s i 0 ∷ []) ≡ take (i + 1) s = sym (ap (λ k. take k s) (add-one i) ∙ take-suc s i 0 h) in
+    subst (λ k. Put l (set l' (at + i) (getD s i 0)) at k (take (i + 1) s)) (sym n)
+    (subst (λ x. Put l (set l' (at + i) (getD s i 0)) at (at + i + 1) x) t q)
 
-dropped : (l : List ℕ) (j g : ℕ) → j < length l → drop j (set l j g) ≡ g ∷ drop (suc j) l
-dropped l j g h =
-    drop-cons (set l j g) j 0 (simp length-set h)
-    ∙ ap (λ x. x ∷ drop (suc j) (set l j g)) (getD-set-same l j g 0 h)
-    ∙ ap (λ x. g ∷ x) (drop-set-lt (suc j) l j g (omega arith))
+pub put-all :
+    (l l' s : List ℕ) (at i : ℕ) → i ≡ length s → Put l l' at (at + i) (take i s) → Put l l' at (at + length s) s
+put-all l l' s at i e p =
+    subst (λ x. Put l l' at (at + length s) x) (take-length s) (subst (λ k. Put l l' at (at + k) (take k s)) e p)
 
-digit-more : (l : List ℕ) (k m j rest : ℕ) → j < length l
-    → digits (suc k) rest ++ take m (drop (suc j) l) ≡ digits k (rest / 10) ++ take (suc m) (drop j (set l j (48 + rest % 10)))
-unfolding digits
-digit-more l k m j rest h =
-    append-snoc (digits k (rest / 10)) (48 + rest % 10) (take m (drop (suc j) l))
-    ∙ ap (λ x. digits k (rest / 10) ++ take (suc m) x) (sym (dropped l j (48 + rest % 10) h))
+-- a number, where its digits are the fewest
+pub put-decimal :
+    {l l' : List ℕ} {at to : ℕ} (s : List ℕ) (n k : ℕ) → n < 10 ^ 20 → Fewest 10 1 n k → s ≡ digits 10 k n → Put l l' at to s → Put l l' at to (decimal n)
+put-decimal {l} {l'} {at} {to} s n k h f e p =
+    let w : k ≡ width n = fewest-same n k (width n) f (decimal-fewest n h) in
+    subst (λ x. Put l l' at to x) (e ∙ ap (λ x. digits 10 x n) w) p
 
--- the loop's start, a turn and its end
-module _ (l : List ℕ) (at end : ℕ) where
-  pub digits-start : (w n : ℕ) → end ≡ at + w → digits w n ≡ digits (end - at) n ++ take (end - end) (drop end l)
-  digits-start w n e =
-      let z : end - end ≡ 0 = omega arith in
-      let k : end - at ≡ w = omega arith in
-      sym (ap (λ x. digits (end - at) n ++ take x (drop end l)) z ∙ append-nil (digits (end - at) n) ∙ ap (λ x. digits x n) k)
-
-  pub digits-next :
-      (i j rest : ℕ) → i ≡ j + 1 → at ≤ j → i ≤ end → j < length l
-      → digits (i - at) rest ++ take (end - i) (drop i l) ≡ digits (j - at) (rest / 10) ++ take (end - j) (drop j (set l j (48 + rest % 10)))
-  digits-next i j rest e a b h =
-      let k : i - at ≡ suc (j - at) = omega arith in
-      let m : suc (end - i) ≡ end - j = omega arith in
-      let s : i ≡ suc j = omega arith in
-      ap (λ x. digits x rest ++ take (end - i) (drop i l)) k
-      ∙ ap (λ x. digits (suc (j - at)) rest ++ take (end - i) (drop x l)) s
-      ∙ digit-more l (j - at) (end - i) j rest h
-      ∙ ap (λ x. digits (j - at) (rest / 10) ++ take x (drop j (set l j (48 + rest % 10)))) m
-
-  pub digits-put :
-      (l₀ : List ℕ) (i rest n : ℕ) → i ≡ at → end ≡ at + width n → take at l ≡ take at l₀
-      → digits (width n) n ≡ digits (i - at) rest ++ take (end - i) (drop i l) → Put l₀ l at end (decimal n)
-  unfolding digits
-  digits-put l₀ i rest n e f t d =
-      let z : i - at ≡ 0 = omega arith in
-      let w : end - i ≡ width n = omega arith in
-      let s : digits (width n) n ≡ take (width n) (drop at l) =
-      d ∙ ap (λ x. digits x rest ++ take (end - i) (drop i l)) z ∙ ap (λ x. take x (drop i l)) w ∙ ap (λ x. take (width n) (drop x l)) e in
-      record {
-        ends = omega (arith, digits-length (width n) n);
-        bytes = ap (λ x. take x l) f ∙ take-add at (width n) l ∙ ap (λ x. x ++ take (width n) (drop at l)) t ∙ ap (λ x. take at l₀ ++ x) (sym s);
-      }
+-- at the front
+pub put-front : {l l' : List ℕ} {n : ℕ} {s : List ℕ} → n ≤ length l' → Put l l' 0 n s → Front l' n s
+put-front h p = record { fits = h; bytes = p .bytes }
 
 -- ---- bytes that are moved to the front, one more at `i`, of what is still as it was from `i` on
 
@@ -116,6 +83,20 @@ module _ (l₀ l : List ℕ) (from i : ℕ) (as-was : (k : ℕ) → i ≤ k → 
       ∙ ap (λ x. take i l ++ (x ∷ [])) v
       ∙ ap (λ x. x ++ (getD (drop from l₀) i 0 ∷ [])) e
       ∙ sym (ap (λ k. take k (drop from l₀)) (add-one i) ∙ take-suc (drop from l₀) i 0 d)
+
+-- the bytes past the last whole query
+pub rest-taken : (l : List ℕ) (have : ℕ) → have ≤ length l → restOf (take have l) ≡ take (have % 8) (drop (have - have % 8) l)
+unfolding restOf
+rest-taken l have h =
+    let n : length (take have l) ≡ have = length-take-le have l h in
+    let m : 8 * (have / 8) ≡ have - have % 8 = omega arith in
+    let s : have ≡ have - have % 8 + have % 8 = omega arith in
+    ap (λ k. drop (8 * (k / 8)) (take have l)) n
+    ∙ ap (λ k. drop k (take have l)) m
+    ∙ ap (λ k. drop (have - have % 8) (take k l)) s
+    ∙ ap (drop (have - have % 8)) (take-add (have - have % 8) (have % 8) l)
+    ∙ drop-at (take (have - have % 8) l) (take (have % 8) (drop (have - have % 8) l)) (have - have % 8)
+    (length-take-le (have - have % 8) l (omega arith))
 
 pub moved-all : (l l' : List ℕ) (i n : ℕ) → i ≡ n → take i l ≡ take i l' → take n l ≡ take n l'
 moved-all l l' i n e m = subst (λ k. take k l ≡ take k l') e m
@@ -149,3 +130,14 @@ module _ (l b : List ℕ) where
   lines-end out at end h is =
       let z : (length b - at) / 8 ≡ 0 = omega arith in
       sym (is ∙ ap (λ x. take end out ++ linesFrom l b x at) z ∙ append-nil (take end out))
+
+-- ---- the last line
+
+module _ (b : List ℕ) where
+  pub ending-none : (out : List ℕ) → length b % 8 ≡ 0 → Front out 0 (ending b)
+  unfolding ending
+  ending-none out h = record { fits = omega arith; bytes = rw (eq-eqb (length b % 8) 0 h) refl }
+
+  pub ending-some : (out : List ℕ) (n : ℕ) → (length b % 8 ≡ 0 → ⊥) → Front out n (line (refused (refusal 15 0))) → Front out n (ending b)
+  unfolding ending
+  ending-some out n h f = rw (ne-eqb (length b % 8) 0 h) f

@@ -7,23 +7,8 @@ ghost use mathlib.Core.List.{[], _∷_, _++_};
 ghost use Prim.Native.Nat.{_+_, _≤_, _<_};
 ghost use lib.ListN.{length};
 ghost use Rattle.decision.specs.Decide.{answerOutcome};
-ghost use Rattle.permit.specs.Lines.{width as Lines·width, decimal, field, pairLine, line, Put};
-
-// How many decimal digits a number has: at most 20.
-fn width(n: usize) -> usize
-    ensures { λ r. ⌜ (r ≡ Lines·width n) × (r ≤ 20) ⌝ }
-{
-    let mut k: usize = 1;
-    let mut rest = n;
-    while k < 20 {
-        if rest < 10 {
-            return k;
-        }
-        rest /= 10;
-        k += 1;
-    }
-    k
-}
+ghost use Rattle.lines.specs.Lines.{decimal, field, pairLine, line};
+ghost use Rattle.permit.specs.Inner.Put.{Put};
 
 fn put_byte(byte: u8, output: &mut [u8], at: usize) -> usize
     requires { ⌜ at < length (now output) ⌝ }
@@ -33,20 +18,25 @@ fn put_byte(byte: u8, output: &mut [u8], at: usize) -> usize
     at + 1
 }
 
-// A number in decimal, from its last digit to its first.
+// Bytes as they are.
+fn put_bytes(bytes: &[u8], output: &mut [u8], at: usize) -> usize
+    requires { ⌜ at + length (now bytes) ≤ length (now output) ⌝ }
+    ensures { λ r. ⌜ Put (now (output .entry)) (now (output .exit)) at r (now (bytes .entry)) ⌝ }
+{
+    for i in 0..bytes.len() {
+        output[at + i] = bytes[i];
+    }
+    at + bytes.len()
+}
+
+// A number in decimal.
 fn put_number(n: usize, output: &mut [u8], at: usize) -> usize
     requires { ⌜ at + 20 ≤ length (now output) ⌝ }
     ensures { λ r. ⌜ Put (now (output .entry)) (now (output .exit)) at r (decimal n) × (r ≤ at + 20) ⌝ }
 {
-    let end = at + width(n);
-    let mut i = end;
-    let mut rest = n;
-    while at < i {
-        i -= 1;
-        output[i] = 48 + (rest % 10) as u8;
-        rest /= 10;
-    }
-    end
+    let mut digits = [0u8; 20];
+    let count = io::decimal(n as u64, &mut digits);
+    put_bytes(&digits[..count], output, at)
 }
 
 // A space and a number.

@@ -1,20 +1,29 @@
 // An image and then queries of 8 bytes each from standard input; a line to standard output for each answer.
 //
 // The image is the bytes up to its length field. A refused image gives one line and nothing more. What a query is
-// answered is `decide`'s; here are only the reads, the writes and the lines.
+// answered is `decide`'s; here are only the reads, the writes and the lines. An input that cannot be read, or an output
+// that cannot be written, ends the program, which says so on standard error.
 mod word; // word.rt: numbers in bytes
 mod line; // line.rt: an answer as a line
+mod again; // again.rt: a call that failed
 mod source; // source.rt: what standard input holds
+mod sink; // sink.rt: standard output
 mod serve; // serve.rt: a line for each query
 
 use crate::serve::refuse;
 use crate::serve::serve;
+use crate::source::Stop;
 use crate::source::read_image;
 use format::Sections;
 
 fn main() {
     let mut space = io::large_buffer();
-    let have = read_image(&mut space);
+    let taken = read_image(&mut space);
+    let why = taken.why;
+    if let Stop::Failed = why {
+        return;
+    }
+    let have = taken.have;
     let image = image::leading(&space[..have]);
     let prepared = decide::prepare(image);
     let sections = prepared.sections;

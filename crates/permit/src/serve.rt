@@ -1,18 +1,37 @@
 // A line for each query, on an image that was checked once.
 use crate::line::put_line;
+use crate::sink::write_all;
+use crate::source::Got;
 use crate::source::keep_rest;
-use crate::source::read_more;
+use crate::source::read_between;
 use crate::word::word_at;
 use decision::Answer;
 use decision::Query;
 use format::Refusal;
 use format::Starts;
-use libc::STDOUT_FILENO;
 ghost use mathlib.Core.Path.{_≡_};
 ghost use Prim.Native.Nat.{_+_, _*_, _≤_, _<_};
 ghost use lib.ListN.{length, take};
+ghost use Rattle.format.specs.Answers.{refused};
 ghost use Rattle.decide.specs.Ready.{Ready};
-ghost use Rattle.permit.specs.Lines.{queryAt, lines};
+ghost use Rattle.lines.specs.Lines.{queryAt, line, lines};
+ghost use Rattle.lines.specs.Output.{ending};
+ghost use Rattle.permit.specs.Inner.Put.{Front};
+ghost use Rattle.permit.specs.Inner.Turn.{Turned};
+
+// Whether there may be more queries.
+pub(crate) enum Next {
+    More,
+    Ended,
+    Failed,
+}
+
+// What a turn leaves: how many bytes of the input are kept, how many of the output are to be written, and how it goes on.
+pub(crate) struct Turn {
+    pub kept: usize,
+    pub end: usize,
+    pub next: Next,
+}
 
 // The query at a place.
 fn query_at(input: &[u8], at: usize) -> Query
@@ -37,7 +56,7 @@ fn put_answers(
     output: &mut [u8],
 ) -> usize
     requires { ⌜ Ready (now image) (now groups) s × (6 * length (now input) ≤ length (now output)) ⌝ }
-    ensures { λ r. ⌜ (r ≤ length (now (output .entry))) × (take r (now (output .exit)) ≡ lines (now (image .entry)) (now (input .entry))) ⌝ }
+    ensures { λ r. ⌜ Front (now (output .exit)) r (lines (now (image .entry)) (now (input .entry))) ⌝ }
 {
     let mut at: usize = 0;
     let mut end: usize = 0;
@@ -47,6 +66,69 @@ fn put_answers(
         at += 8;
     }
     end
+}
+
+// The line of a refusal.
+fn put_refusal(f: Refusal, output: &mut [u8]) -> usize
+    requires { ⌜ 44 ≤ length (now output) ⌝ }
+    ensures { λ r. ⌜ Front (now (output .exit)) r (line (refused f)) ⌝ }
+{
+    put_line(Answer::Refused(f), output, 0)
+}
+
+// The last line, where the input has ended and these bytes are left as a query.
+fn put_ending(left: &[u8], output: &mut [u8]) -> usize
+    requires { ⌜ 44 ≤ length (now output) ⌝ }
+    ensures { λ r. ⌜ Front (now (output .exit)) r (ending (now (left .entry))) ⌝ }
+{
+    if left.len() % 8 == 0 {
+        return 0;
+    }
+    put_refusal(
+        Refusal {
+            number: 15,
+            place: 0,
+        },
+        output,
+    )
+}
+
+// Reads once, behind the bytes that were kept, and makes the lines that are to be written for it. The whole queries' lines
+// if bytes came, the last line if the input has ended.
+fn take_turn(
+    image: &[u8],
+    groups: &[usize; 256],
+    s: Starts,
+    input: &mut [u8],
+    kept: usize,
+    output: &mut [u8],
+) -> Turn
+    requires { ⌜ Ready (now image) (now groups) s × (kept < 8) × (16384 ≡ length (now input)) × (98304 ≡ length (now output)) ⌝ }
+    ensures { λ r. ⌜ Turned (now (image .entry)) (take kept (now (input .entry))) (now (input .exit)) (now (output .exit)) r ⌝ }
+{
+    match read_between(input, kept, 16384) {
+        Got::Bytes(n) => {
+            let have = kept + n;
+            let end = put_answers(image, groups, s, &input[..have], output);
+            Turn {
+                kept: keep_rest(input, have),
+                end: end,
+                next: Next::More,
+            }
+        }
+        Got::Ended => {
+            Turn {
+                kept: kept,
+                end: put_ending(&input[..kept], output),
+                next: Next::Ended,
+            }
+        }
+        Got::Failed => Turn {
+            kept: kept,
+            end: 0,
+            next: Next::Failed,
+        },
+    }
 }
 
 // 16,384 zeros: 2,048 queries. The `ensures` gives only the length, which lending the array needs.
@@ -63,9 +145,8 @@ fn output_space() -> [u8; 98304]
     [0; 98304]
 }
 
-// Answers queries until the input ends, those of each read at once. Bytes that are left then, fewer than a query, are
-// refused. Where the output is closed it stops. A proved loop has to end, so it counts its turns down, from a number that
-// no run uses up.
+// Takes turns until the input ends, an error ends it, or the output cannot be written. A proved loop has to end, so it
+// counts its turns down, from a number that no run uses up.
 pub(crate) fn serve(image: &[u8], groups: &[usize; 256], s: Starts)
     requires { ⌜ Ready (now image) (now groups) s ⌝ }
 {
@@ -74,29 +155,30 @@ pub(crate) fn serve(image: &[u8], groups: &[usize; 256], s: Starts)
     let mut kept: usize = 0;
     let mut turns = u64::MAX;
     while 0 < turns {
-        let got = read_more(&mut input, kept);
-        if got == 0 {
-            if 0 < kept {
-                refuse(Refusal {
-                    number: 15,
-                    place: 0,
-                });
+        let t = take_turn(image, groups, s, &mut input, kept, &mut output);
+        let end = t.end;
+        if !write_all(&output[..end]) {
+            return;
+        }
+        let next = t.next;
+        match next {
+            Next::More => {
+                kept = t.kept;
             }
-            return;
+            Next::Ended => {
+                return;
+            }
+            Next::Failed => {
+                return;
+            }
         }
-        let have = kept + got;
-        let end = put_answers(image, groups, s, &input[..have], &mut output);
-        if !io::write_all(STDOUT_FILENO, &output[..end]) {
-            return;
-        }
-        kept = keep_rest(&mut input, have);
         turns -= 1;
     }
 }
 
 // Writes the line of a refusal.
 pub(crate) fn refuse(f: Refusal) {
-    let mut line = [0u8; 44];
-    let end = put_line(Answer::Refused(f), &mut line, 0);
-    io::write_all(STDOUT_FILENO, &line[..end]);
+    let mut text = [0u8; 44];
+    let end = put_refusal(f, &mut text);
+    write_all(&text[..end]);
 }

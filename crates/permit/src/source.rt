@@ -1,43 +1,129 @@
-// What standard input holds. A read that fails counts as its end.
+// What standard input holds: the image's bytes, then what each read brings.
+use crate::again::retry;
 use crate::word::word_at;
 use libc::STDIN_FILENO;
 ghost use mathlib.Core.Path.{_≡_};
-ghost use Prim.Native.Nat.{_+_, _-_, _%_, _≤_, _<_};
-ghost use lib.ListN.{length, take, drop};
+ghost use Prim.Native.Nat.{_-_, _≤_, _<_};
+ghost use lib.ListN.{length, take};
+ghost use Rattle.lines.specs.Output.{imageSize, restOf};
+ghost use Rattle.permit.specs.Inner.Put.{Front};
+ghost use Rattle.permit.specs.Inner.Input.{broughtBy, Brings, ImageRead};
 
-// Reads the header and then the rest of the image, up to its length field and no further, or what there is of it, and
-// tells how many bytes that is. A length field below 9 ends it after the header.
-pub(crate) fn read_image(space: &mut [u8]) -> usize
-    requires { ⌜ 65536 ≡ length (now space) ⌝ }
-    ensures { λ r. ⌜ r < 65536 ⌝ }
+// What a read brought: some bytes, the end of the input, or an error.
+pub(crate) enum Got {
+    Bytes(usize),
+    Ended,
+    Failed,
+}
+
+// Why the reading of an image stopped.
+pub(crate) enum Stop {
+    Whole,
+    Ended,
+    Failed,
+}
+
+// How many bytes of an image were read, and why no more.
+pub(crate) struct Taken {
+    pub have: usize,
+    pub why: Stop,
+}
+
+// What an answer of `read` says.
+fn brought(answer: isize, part: &[u8]) -> Got
+    ensures { λ r. ⌜ r ≡ broughtBy answer (length (now (part .entry))) ⌝ }
 {
-    let have = io::read_full(STDIN_FILENO, &mut space[..9]);
-    if have < 9 {
-        return have;
+    let n = io::count(answer, part);
+    if answer > 0 {
+        return Got::Bytes(n);
     }
-    let size = word_at(space, 1) as usize;
+    if answer == 0 {
+        return Got::Ended;
+    }
+    Got::Failed
+}
+
+// Reads once into a part, and says on standard error why it could not. A proved loop has to end, so it counts its tries
+// down, from a number that no run uses up.
+fn read_some(part: &mut [u8]) -> Got
+    requires { ⌜ 0 < length (now part) ⌝ }
+    ensures { λ r. ⌜ Brings (length (now (part .entry))) r ⌝ }
+{
+    let mut tries = u64::MAX;
+    while 0 < tries {
+        let answer = libc::read(STDIN_FILENO, part);
+        if answer >= 0 {
+            return brought(answer, part);
+        }
+        if !retry() {
+            os::fail(b"permit: standard input");
+            return Got::Failed;
+        }
+        tries -= 1;
+    }
+    Got::Failed
+}
+
+// Reads once into a buffer, from a place up to another. What stands before the first place stays.
+pub(crate) fn read_between(buffer: &mut [u8], from: usize, to: usize) -> Got
+    requires { ⌜ (from < to) × (to ≤ length (now buffer)) ⌝ }
+    ensures { λ r. ⌜ Brings (to - from) r × (take from (now (buffer .exit)) ≡ take from (now (buffer .entry))) ⌝ }
+{
+    read_some(&mut buffer[from..to])
+}
+
+// How many bytes the image takes, as far as these tell.
+fn image_size(bytes: &[u8]) -> usize
+    ensures { λ r. ⌜ (r ≡ imageSize (now (bytes .entry))) × (r < 65536) ⌝ }
+{
+    if bytes.len() < 9 {
+        return 9;
+    }
+    let size = word_at(bytes, 1) as usize;
     if size < 9 {
         return 9;
     }
-    let more = io::read_full(STDIN_FILENO, &mut space[9..size]);
-    9 + more
+    size
 }
 
-// Reads once, from a place on, and tells how many bytes came: 0 where the input has ended. What stands before the place
-// stays.
-pub(crate) fn read_more(buffer: &mut [u8], from: usize) -> usize
-    requires { ⌜ from ≤ length (now buffer) ⌝ }
-    ensures { λ r. ⌜ (from + r ≤ length (now (buffer .entry))) × (take from (now (buffer .exit)) ≡ take from (now (buffer .entry))) ⌝ }
+// Reads the image and no byte past it: first the header, then what the length field tells.
+pub(crate) fn read_image(space: &mut [u8]) -> Taken
+    requires { ⌜ 65536 ≡ length (now space) ⌝ }
+    ensures { λ r. ⌜ ImageRead (now (space .exit)) r ⌝ }
 {
-    let part = &mut buffer[from..];
-    let got = libc::read(STDIN_FILENO, part);
-    io::count(got, part)
+    let mut have: usize = 0;
+    loop {
+        let size = image_size(&space[..have]);
+        if have == size {
+            return Taken {
+                have: have,
+                why: Stop::Whole,
+            };
+        }
+        match read_between(space, have, size) {
+            Got::Bytes(n) => {
+                have += n;
+            }
+            Got::Ended => {
+                return Taken {
+                    have: have,
+                    why: Stop::Ended,
+                };
+            }
+            Got::Failed => {
+                return Taken {
+                    have: have,
+                    why: Stop::Failed,
+                };
+            }
+        }
+    }
 }
 
 // Moves the bytes past the last whole query to the front, and tells how many they are.
 pub(crate) fn keep_rest(buffer: &mut [u8], have: usize) -> usize
     requires { ⌜ have ≤ length (now buffer) ⌝ }
-    ensures { λ r. ⌜ (r ≡ have % 8) × (take r (now (buffer .exit)) ≡ take r (drop (have - r) (now (buffer .entry)))) ⌝ }
+    ensures { λ r. ⌜ (r < 8) × Front (now (buffer .exit)) r (restOf (take have (now (buffer .entry)))) ⌝ }
 {
     let rest = have % 8;
     let from = have - rest;

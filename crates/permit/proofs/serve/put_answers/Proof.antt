@@ -4,7 +4,7 @@ use Prim.Native.Nat.{_-_, _*_, _/_, _≤_}
 use mathlib.Core.Path.{_≡_, refl}
 use mathlib.Core.List.{_++_}
 use lib.ListN.{length, take}
-use Rattle.permit.specs.Lines.{linesFrom, lines}
+use Rattle.lines.specs.Lines.{linesFrom, lines}
 use Rattle.permit.proofs.Laws.{lines-start, lines-next, lines-end}
 use Rattle.permit.proofs.serve.put_answers.Statement.{statement}
 use Rattle.permit.proofs.serve.put_answers.Tie as tie
@@ -43,7 +43,7 @@ same-length : tie.Need-same-length Inv-loop μ-loop
 same-length c = omega arith
 
 returns : tie.Need-returns Inv-loop μ-loop
-returns c = (omega arith, lines-end _ _ (c .before .loop .output) (c .before .loop .at) (c .before .loop .end) (omega arith) (c .before .loop .inv .3))
+returns c = record { fits = omega arith; bytes = lines-end _ _ (c .before .loop .output) (c .before .loop .at) (c .before .loop .end) (omega arith) (c .before .loop .inv .3) }
 
 pub put-answers-spec : {M : Type 1} → statement M
 put-answers-spec =

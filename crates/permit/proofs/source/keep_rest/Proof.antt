@@ -1,9 +1,9 @@
 -- `keep_rest` meets its contract: `i` bytes are moved, and from `i` on all is as it was. Assumes nothing.
 use native.Mathlib.Omega.{arith}
 use Prim.Native.Nat.{ℕ, _-_, _%_, _≤_}
-use mathlib.Core.Path.{_≡_, refl}
+use mathlib.Core.Path.{_≡_, refl, sym, _∙_}
 use lib.ListN.{length, getD, take, drop, length-set}
-use Rattle.permit.proofs.Laws.{moved-rest, moved-next, moved-all}
+use Rattle.permit.proofs.Laws.{moved-rest, moved-next, rest-taken, moved-all}
 use Rattle.permit.proofs.source.keep_rest.Statement.{statement}
 use Rattle.permit.proofs.source.keep_rest.Tie as tie
 
@@ -41,7 +41,7 @@ same-length : tie.Need-same-length Inv-loop μ-loop
 same-length c = omega arith
 
 returns : tie.Need-returns Inv-loop μ-loop
-returns c = (omega arith, moved-all (c .before .loop .buffer) (drop (c .before .before .args .have - c .before .before .args .have % 8) (c .before .before .args .buffer .now)) (c .before .loop .i) (c .before .before .args .have % 8) (omega arith) (c .before .loop .inv .6))
+returns c = (omega arith, record { fits = omega arith; bytes = moved-all (c .before .loop .buffer) (drop (c .before .before .args .have - c .before .before .args .have % 8) (c .before .before .args .buffer .now)) (c .before .loop .i) (c .before .before .args .have % 8) (omega arith) (c .before .loop .inv .6) ∙ sym (rest-taken (c .before .before .args .buffer .now) (c .before .before .args .have) (omega arith)) })
 
 pub keep-rest-spec : {M : Type 1} → statement M
 keep-rest-spec =

@@ -1,72 +1,108 @@
--- `read_image` is safe, and an image is shorter than the buffer. Assumes nothing.
-use native.Mathlib.Omega.{arith}
-use mathlib.Core.Path.{sym}
-use lib.Seq.{length-take-le}
+-- `read_image` meets its contract: no more was read than the image takes, as far as its bytes tell. Assumes nothing.
 use borrow.Author.Needs.{needs}
+use native.Mathlib.Omega.{arith}
+use Prim.Native.Nat.{_-_, _≤_, _<_}
+use mathlib.Core.Path.{_≡_, sym}
+use lib.ListN.{length, take}
+use lib.Seq.{length-take-le}
+use Rattle.lines.specs.Output.{imageSize}
+use Rattle.permit.proofs.Inputs.{bytes-brought, size-more, image-whole, image-ended, image-failed}
 use Rattle.permit.proofs.source.read_image.Statement.{statement}
 use Rattle.permit.proofs.source.read_image.Tie as tie
 
-slice-relend-prefix-read-full : tie.Need-slice-relend-prefix-read-full
-slice-relend-prefix-read-full c = search needs
+abbrev Inv-loop : tie.InvT-loop
+Inv-loop space₀ have₀ space have = (have < 65536) × (65536 ≡ length space) × (have ≤ imageSize (take have space))
 
-slice-aggregate-read-full : tie.Need-slice-aggregate-read-full
-slice-aggregate-read-full c = sym (length-take-le 9 (c .before .before .args .space .now) (omega arith))
+abbrev μ-loop : tie.MeasureT-loop
+μ-loop space₀ have₀ space have = 65536 - have
 
-read-full-requires : tie.Need-read-full-requires
-read-full-requires c κs = search needs
+loop-holds : tie.Need-loop-holds Inv-loop μ-loop
+loop-holds c = (omega arith, omega arith, omega arith)
 
-same-length : tie.Need-same-length
+slice-reshare-prefix-image-size : tie.Need-slice-reshare-prefix-image-size Inv-loop μ-loop
+slice-reshare-prefix-image-size c = search needs
+
+slice-aggregate-image-size : tie.Need-slice-aggregate-image-size Inv-loop μ-loop
+slice-aggregate-image-size c = sym (length-take-le (c .before .loop .have) (c .before .loop .space) (omega arith))
+
+image-size-requires : tie.Need-image-size-requires Inv-loop μ-loop
+image-size-requires c κs = search needs
+
+same-length : tie.Need-same-length Inv-loop μ-loop
 same-length c = search needs
 
-returns : tie.Need-returns
-returns c = search needs
+returns : tie.Need-returns Inv-loop μ-loop
+returns c = image-whole _ _ (omega arith) (omega arith) _ (c .if1 .taken) (c .before .image-size .ensures .0)
 
-word-at-requires : tie.Need-word-at-requires
-word-at-requires c κs = search needs
+read-between-requires : tie.Need-read-between-requires Inv-loop μ-loop
+read-between-requires c κs = (omega (arith, c .before .before .image-size .ensures .0), omega arith)
 
-cast-size : tie.Need-cast-size
-cast-size c = search needs
+enum-known-n : tie.Need-enum-known-n Inv-loop μ-loop
+enum-known-n c = search needs
 
-same-length-2 : tie.Need-same-length-2
+-- what a read of some bytes has brought
+some : (c : tie.After-known-told Inv-loop μ-loop) → (0 < c .before .n .given .0 .0) × (c .before .n .given .0 .0 ≤ c .before .before .before .before .before .before .before .before .image-size .result - c .before .before .before .before .before .before .before .before .before .before .loop .have)
+some c = bytes-brought _ _ _ (c .before .n .given .1) (c .before .before .before .before .before .read-between .ensures .0)
+
+add-have : tie.Need-add-have Inv-loop μ-loop
+add-have c = omega (arith, some c)
+
+loop-less : tie.Need-loop-less Inv-loop μ-loop
+loop-less c = omega (arith, some c)
+
+loop-again : tie.Need-loop-again Inv-loop μ-loop
+loop-again c =
+    let loop = c .before .before .before .before .before .before .before .before .before .before .loop in
+    let size = c .before .before .before .before .before .before .before .before .image-size in
+    let read = c .before .before .before .before .before .read-between in
+    (omega (arith, some c), omega arith, size-more (loop .space) (read .last .0) (loop .have) _ (omega arith) (read .ensures .1) (omega (arith, some c)) (omega (arith, some c)) (omega (arith, some c, size .ensures .0)))
+
+enum-told : tie.Need-enum-told Inv-loop μ-loop
+enum-told c = search needs
+
+same-length-2 : tie.Need-same-length-2 Inv-loop μ-loop
 same-length-2 c = search needs
 
-returns-2 : tie.Need-returns-2
-returns-2 c = search needs
+returns-2 : tie.Need-returns-2 Inv-loop μ-loop
+returns-2 c =
+    let loop = c .before .before .before .before .before .before .before .before .before .loop in
+    let size = c .before .before .before .before .before .before .before .image-size in
+    let read = c .before .before .before .before .read-between in
+    image-ended (read .last .0) (loop .have) (omega arith) (omega arith) (loop .space) (read .ensures .1) (omega (arith, size .ensures .0))
 
-part-read-full-start : tie.Need-part-read-full-start
-part-read-full-start c = search needs
+enum-told-2 : tie.Need-enum-told-2 Inv-loop μ-loop
+enum-told-2 c = search needs
 
-part-read-full-end : tie.Need-part-read-full-end
-part-read-full-end c = search needs
-
-read-full-requires-2 : tie.Need-read-full-requires-2
-read-full-requires-2 c κs = search needs
-
-add-result : tie.Need-add-result
-add-result c = search needs
-
-same-length-3 : tie.Need-same-length-3
+same-length-3 : tie.Need-same-length-3 Inv-loop μ-loop
 same-length-3 c = search needs
 
-returns-3 : tie.Need-returns-3
-returns-3 c = search needs
+returns-3 : tie.Need-returns-3 Inv-loop μ-loop
+returns-3 c =
+    let loop = c .before .before .before .before .before .before .before .before .before .loop in
+    let size = c .before .before .before .before .before .before .before .image-size in
+    let read = c .before .before .before .before .read-between in
+    image-failed (read .last .0) (loop .have) (omega arith) (omega arith) (loop .space) (read .ensures .1) (omega (arith, size .ensures .0))
 
 pub read-image-spec : {M : Type 1} → statement M
 read-image-spec =
     tie.close
     (tie.spec
-    slice-relend-prefix-read-full
-    slice-aggregate-read-full
-    read-full-requires
+    Inv-loop
+    μ-loop
+    loop-holds
+    slice-reshare-prefix-image-size
+    slice-aggregate-image-size
+    image-size-requires
     same-length
     returns
-    word-at-requires
-    cast-size
+    read-between-requires
+    enum-known-n
+    add-have
+    loop-less
+    loop-again
+    enum-told
     same-length-2
     returns-2
-    part-read-full-start
-    part-read-full-end
-    read-full-requires-2
-    add-result
+    enum-told-2
     same-length-3
     returns-3)

@@ -1,0 +1,107 @@
+-- `take_turn` meets its contract, by what the read brought. Assumes nothing.
+use borrow.Author.Needs.{needs}
+use native.Mathlib.Omega.{arith}
+use Prim.Native.Nat.{_+_, _-_, _≤_, _<_}
+use mathlib.Core.Path.{sym}
+use lib.Seq.{length-take-le}
+use Rattle.permit.proofs.Inputs.{bytes-brought}
+use Rattle.permit.proofs.Turns.{turn-more, turn-ended, turn-failed}
+use Rattle.permit.proofs.serve.take_turn.Statement.{statement}
+use Rattle.permit.proofs.serve.take_turn.Tie as tie
+
+read-between-requires : tie.Need-read-between-requires
+read-between-requires c κs = (omega arith, omega arith)
+
+enum-known-n : tie.Need-enum-known-n
+enum-known-n c = search needs
+
+-- what a read of some bytes has brought
+some : (c : tie.After-known-told) → (0 < c .before .n .given .0 .0) × (c .before .n .given .0 .0 ≤ 16384 - c .before .before .before .before .before .before .before .before .before .before .args .kept)
+some c = bytes-brought _ _ _ (c .before .n .given .1) (c .before .before .before .before .before .read-between .ensures .0)
+
+add-have : tie.Need-add-have
+add-have c = omega (arith, some c)
+
+slice-reshare-prefix-put-answers : tie.Need-slice-reshare-prefix-put-answers
+slice-reshare-prefix-put-answers c = omega (arith, some c)
+
+slice-aggregate-put-answers : tie.Need-slice-aggregate-put-answers
+slice-aggregate-put-answers c = sym (length-take-le (c .before .before .before .before .before .before .before .before .before .before .before .args .kept + c .before .before .n .given .0 .0) (c .before .before .before .before .before .before .read-between .last .0) (omega (arith, some (c .before))))
+
+put-answers-requires : tie.Need-put-answers-requires
+put-answers-requires c κs = (c .before .before .before .before .before .before .before .before .before .before .before .before .pre .0, omega (arith, some (c .before .before), length-take-le (c .before .before .before .before .before .before .before .before .before .before .before .before .args .kept + c .before .before .before .n .given .0 .0) (c .before .before .before .before .before .before .before .read-between .last .0) (omega (arith, some (c .before .before)))))
+
+keep-rest-requires : tie.Need-keep-rest-requires
+keep-rest-requires c κs = omega (arith, some (c .before .before .before .before .before .before))
+
+enum-told : tie.Need-enum-told
+enum-told c = search needs
+
+slice-reshare-prefix-put-ending : tie.Need-slice-reshare-prefix-put-ending
+slice-reshare-prefix-put-ending c = omega arith
+
+slice-aggregate-put-ending : tie.Need-slice-aggregate-put-ending
+slice-aggregate-put-ending c = sym (length-take-le (c .before .before .before .before .before .before .before .before .before .before .args .kept) (c .before .before .before .before .before .read-between .last .0) (omega arith))
+
+put-ending-requires : tie.Need-put-ending-requires
+put-ending-requires c κs = omega arith
+
+enum-told-2 : tie.Need-enum-told-2
+enum-told-2 c = search needs
+
+same-length : tie.Need-same-length
+same-length c = search needs
+
+same-length-2 : tie.Need-same-length-2
+same-length-2 c = search needs
+
+returns : tie.Need-returns
+returns c =
+    let read = c .before .before .before .before .before .before .before .before .before .before .before .before .before .before .read-between in
+    let kept = c .before .before .keep-rest in
+    let came = some (c .before .before .before .before .before .before .before .before .before) in
+    turn-more _ _ (read .last .0) _ _ _ _ (read .ensures .1) (omega arith) (omega arith) (c .before .before .before .before .before .before .before .before .before .before .n .given .0 .0) _ (came .0) (omega arith) (c .before .before .before .before .before .before .put-answers .ensures) (kept .ensures .0) (kept .ensures .1)
+
+same-length-3 : tie.Need-same-length-3
+same-length-3 c = search needs
+
+same-length-4 : tie.Need-same-length-4
+same-length-4 c = search needs
+
+returns-2 : tie.Need-returns-2
+returns-2 c =
+    let read = c .before .before .before .before .before .before .before .before .before .read-between in
+    turn-ended _ _ (read .last .0) (read .last .0) _ _ _ (read .ensures .1) (omega arith) (omega arith) (c .before .before .put-ending .ensures)
+
+same-length-5 : tie.Need-same-length-5
+same-length-5 c = search needs
+
+returns-3 : tie.Need-returns-3
+returns-3 c =
+    let read = c .before .before .before .before .read-between in
+    turn-failed _ _ (read .last .0) (read .last .0) _ _ 0 (read .ensures .1) (omega arith) (omega arith)
+
+pub take-turn-spec : {M : Type 1} → statement M
+take-turn-spec =
+    tie.close
+    (tie.spec
+    read-between-requires
+    enum-known-n
+    add-have
+    slice-reshare-prefix-put-answers
+    slice-aggregate-put-answers
+    put-answers-requires
+    keep-rest-requires
+    enum-told
+    slice-reshare-prefix-put-ending
+    slice-aggregate-put-ending
+    put-ending-requires
+    enum-told-2
+    same-length
+    same-length-2
+    returns
+    same-length-3
+    same-length-4
+    returns-2
+    same-length-5
+    returns-3)

@@ -1,0 +1,25 @@
+// Standard output.
+use crate::again::retry;
+use libc::STDOUT_FILENO;
+
+// Writes all of the bytes and tells that it did, or says on standard error why it could not.
+pub(crate) fn write_all(bytes: &[u8]) -> bool {
+    let mut rest = bytes;
+    let mut tries = u64::MAX;
+    while 0 < tries {
+        if rest.len() == 0 {
+            return true;
+        }
+        let answer = libc::write(STDOUT_FILENO, rest);
+        if answer < 0 {
+            if !retry() {
+                break;
+            }
+        }
+        let done = io::count(answer, rest);
+        rest = &rest[done..];
+        tries -= 1;
+    }
+    os::fail(b"permit: standard output");
+    false
+}
