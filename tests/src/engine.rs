@@ -21,9 +21,14 @@ impl Engine {
         Engine { permit: env::var_os("PERMIT").map_or(crate_folder.join(PERMIT), PathBuf::from) }
     }
 
+    /// The program, to be started.
+    pub fn program(&self) -> Command {
+        Command::new(&self.permit)
+    }
+
     /// The program, started, with its input and output at hand.
     pub fn start(&self) -> Child {
-        Command::new(&self.permit)
+        self.program()
             .stdin(Stdio::piped())
             .stdout(Stdio::piped())
             .spawn()

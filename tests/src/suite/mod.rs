@@ -7,7 +7,9 @@ mod program;
 mod random;
 mod reached;
 mod round_trip;
+mod streams;
 mod sweep;
+mod watched;
 mod worked;
 
 use crate::runner::{Cases, Run};
@@ -18,8 +20,13 @@ fn differential() -> Vec<Cases> {
 }
 
 pub fn all(run: &mut Run) {
-    for test in
-        worked::TESTS.iter().chain(&differential()).chain(round_trip::TESTS).chain(order::TESTS).chain(program::TESTS)
+    for test in worked::TESTS
+        .iter()
+        .chain(&differential())
+        .chain(round_trip::TESTS)
+        .chain(order::TESTS)
+        .chain(program::TESTS)
+        .chain(streams::TESTS)
     {
         run.cases(test);
     }

@@ -2,6 +2,7 @@
 
 use super::both;
 use crate::compare::{Outcome, Pair};
+use crate::draft::{allow, constraint, group, Draft};
 use crate::sample::{query, EMPTY, QUERIES, SAMPLE};
 use mungaite::Query;
 
@@ -20,6 +21,10 @@ pub const ROWS: &[Row] = &[
     ("7 bytes left", || input(&[QUERIES[0]], &[0; 7]), "P 0\nR 15 0\n"),
     ("1 byte left", || input(&[], &[9]), "R 15 0\n"),
     ("an UnKnown", unknown, "U 1 1\n"),
+    ("the last field of the longest image, 1024", || longest_with(55_559, &[4, 0]), "R 6 55559\n"),
+    ("the last record of the longest image, of another kind", || longest_with(55_519, &[1]), "R 5 55518\n"),
+    ("a basic type at place 9,999 that does not rise", || longest_with(9_999, &[0, 0]), "R 6 9999\n"),
+    ("a basic type at place 10,001 that does not rise", || longest_with(10_001, &[0, 0]), "R 6 10001\n"),
 ];
 
 /// How many queries the program is given at once: more bytes than a pipe or a buffer holds.
@@ -46,6 +51,19 @@ pub fn many(pair: &Pair, _: u64) -> Outcome {
 fn input(queries: &[Query], left: &[u8]) -> Vec<u8> {
     let queries: Vec<u8> = queries.iter().flat_map(|query| query.to_bytes()).collect();
     [&SAMPLE[..], &queries, left].concat()
+}
+
+/// The longest image, 55,561 bytes, with these bytes at a place: 256 groups of 130 bytes from 9 on, 1,024 rules of 11, and
+/// 256 constraints of 43, the last at 55,518.
+fn longest_with(place: usize, bytes: &[u8]) -> Vec<u8> {
+    let draft = Draft {
+        groups: vec![group(&(100..164).collect::<Vec<u16>>()); 256],
+        rules: vec![allow(1, 2, 8, 9, 1); 1024],
+        constraints: vec![constraint(8, 7, 1, 2, 2, &[3; 16]); 256],
+    };
+    let mut image = draft.image();
+    image[place..place + bytes.len()].copy_from_slice(bytes);
+    image
 }
 
 /// The sample with allow 10 to 30, class 5, action 3, on, as its rule 4, and the query 20, 30, 5, 2.
