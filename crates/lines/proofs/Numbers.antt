@@ -53,6 +53,12 @@ fewest-same n j k f g = go (ltb j k) refl (ltb k j) refl
     go false e true q = absurd (not-more n k j g f (ltb-true k j q))
     go false e false q = omega (arith, ltb-false j k e, ltb-false k j q)
 
+pub decimal-one : (n : ℕ) → n < 10 → decimal n ≡ (48 + n) ∷ []
+unfolding width widthFrom
+decimal-one n h =
+    let r : n % 10 ≡ n = omega arith in
+    rw (lt-ltb n 10 h, r, lt-ltb n 10 h) refl
+
 width-most : (m n : ℕ) → widthFrom m n ≤ suc m
 unfolding widthFrom
 width-most zero n = omega arith

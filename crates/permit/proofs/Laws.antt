@@ -13,7 +13,7 @@ use Rattle.decision.specs.declared.Query.{Query}
 use Rattle.decision.specs.declared.Answer.{Answer}
 use Rattle.decision.specs.Decide.{answer, answerOutcome}
 use Rattle.io.specs.Digits.{digits, Fewest}
-use Rattle.lines.proofs.Numbers.{decimal-fewest, fewest-same}
+use Rattle.lines.proofs.Numbers.{decimal-fewest, fewest-same, decimal-one}
 use Rattle.lines.specs.Lines.{width, decimal, pairLine, line, queryAt, linesFrom, lines}
 use Rattle.lines.specs.Output.{restOf, ending}
 use Rattle.permit.specs.Inner.Put.{Put, Front}
@@ -54,6 +54,9 @@ pub put-all :
     (l l' s : List ℕ) (at i : ℕ) → i ≡ length s → Put l l' at (at + i) (take i s) → Put l l' at (at + length s) s
 put-all l l' s at i e p =
     subst (λ x. Put l l' at (at + length s) x) (take-length s) (subst (λ k. Put l l' at (at + k) (take k s)) e p)
+
+pub put-digit : {l l' : List ℕ} {at to : ℕ} (n : ℕ) → n < 10 → Put l l' at to ((48 + n) ∷ []) → Put l l' at to (decimal n)
+put-digit {l} {l'} {at} {to} n h p = subst (λ x. Put l l' at to x) (sym (decimal-one n h)) p
 
 -- a number, where its digits are the fewest
 pub put-decimal :

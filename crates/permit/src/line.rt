@@ -29,11 +29,14 @@ fn put_bytes(bytes: &[u8], output: &mut [u8], at: usize) -> usize
     at + bytes.len()
 }
 
-// A number in decimal.
+// A number in decimal. Most have one digit, and that is put at once.
 fn put_number(n: usize, output: &mut [u8], at: usize) -> usize
     requires { ⌜ at + 20 ≤ length (now output) ⌝ }
     ensures { λ r. ⌜ Put (now (output .entry)) (now (output .exit)) at r (decimal n) × (r ≤ at + 20) ⌝ }
 {
+    if n < 10 {
+        return put_byte(b'0' + n as u8, output, at);
+    }
     let mut digits = [0u8; 20];
     let count = io::decimal(n as u64, &mut digits);
     put_bytes(&digits[..count], output, at)
