@@ -4,8 +4,9 @@ use mathlib.Core.Path.{_≡_, refl, ap, _∙_}
 use mathlib.Core.List.{List, [], _∷_, _++_, flatten, List·Memᴰ, List·Memᴰ·head, List·Memᴰ·tail}
 use mathlib.Core.Bool.{Bool, true, _&&_}
 use native.Mathlib.Omega.{arith}
-use lib.ListN.{length, getD, take, drop, length-drop}
-use lib.Seq.{getD-drop, drop-cons}
+use native.Mathlib.Nat.{add-assoc}
+use lib.ListN.{length, getD, take, drop, length-drop, List·getD-append}
+use lib.Seq.{getD-take, getD-drop, drop-cons}
 use lib.Dec.{ltb}
 use borrow.Author.Tests.{ltb-true}
 use Rattle.format.specs.Bytes.{Bytes, wordAt, words, putWord}
@@ -70,6 +71,19 @@ word-at l at = refl
 
 pub word-small : (l : List ℕ) → Bytes l → (at : ℕ) → wordAt l at < 65536
 word-small l b at = omega (arith, word-at l at, b at, b (at + 1))
+
+-- a word of a part of a list
+pub word-drop : (n : ℕ) (l : List ℕ) (i : ℕ) → wordAt (drop n l) i ≡ wordAt l (n + i)
+unfolding wordAt
+word-drop n l i = rw (getD-drop n l i 0, getD-drop n l (i + 1) 0, add-assoc)
+
+pub word-take : (n : ℕ) (l : List ℕ) (i : ℕ) → i + 1 < n → wordAt (take n l) i ≡ wordAt l i
+unfolding wordAt
+word-take n l i h = rw (getD-take n l i 0 (omega arith), getD-take n l (i + 1) 0 h)
+
+pub word-append : (l t : List ℕ) (i : ℕ) → i + 1 < length l → wordAt (l ++ t) i ≡ wordAt l i
+unfolding wordAt
+word-append l t i h = rw (List·getD-append l t 0 i (omega arith), List·getD-append l t 0 (i + 1) h)
 
 pub length-words : (l : List ℕ) → length (words l) ≡ length l / 2
 unfolding words

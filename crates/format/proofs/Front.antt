@@ -4,6 +4,7 @@
 --     front-length        and as many as that field says
 --     front-count         with the buffer's own counts
 --     leading-check       the check of the leading bytes is the check of the front
+--     leading-taken, leading-whole, leading-short   of the bytes that an image takes, or of a header alone
 --     front-of, image-in-of   an accepted image with bytes behind it is an accepted front, and that image
 use Prim.Native.Nat.{ℕ, _+_, _≤_, _<_}
 use mathlib.Core.Path.{_≡_, refl, sym, ap, _∙_}
@@ -12,9 +13,9 @@ use mathlib.Core.Option.{Option, none}
 use mathlib.Core.List.{List, _++_}
 use native.Mathlib.Omega.{arith}
 use lib.ListN.{length, getD, take, drop, length-append, take-append-drop, List·getD-append}
-use lib.Seq.{getD-take, length-take-le, take-at}
+use lib.Seq.{getD-take, length-take-le, take-at, take-take}
 use lib.Dec.{leb, eqb}
-use borrow.Author.Tests.{leb-true, leb-false, le-leb, eq-eqb, ne-eqb}
+use borrow.Author.Tests.{leb-true, leb-false, le-leb, lt-leb, eq-eqb, ne-eqb}
 use Rattle.format.specs.declared.Section.{Section}
 use Rattle.format.specs.declared.Section.the-variants.{Groups, Rules, Constraints}
 use Rattle.format.specs.declared.Refusal.{Refusal}
@@ -24,7 +25,7 @@ use Rattle.format.specs.Format.{knownVersion, countPlace, countOf}
 use Rattle.format.specs.Check.{countFault, headerFault, bodyFault, check, imageIn, checkFront, leading}
 use Rattle.format.proofs.Tests.{both, and-true, true-not-false}
 use Rattle.format.proofs.Chain.{orElse-split, orElse-none}
-use Rattle.format.proofs.Bytes.{bytes-take}
+use Rattle.format.proofs.Bytes.{bytes-take, word-take}
 use Rattle.format.proofs.Accepted.{Header, header-holds, holds-header, accepted-header, accepted-length, accepted-body}
 
 -- two lists with the same header
@@ -162,3 +163,36 @@ unfolding leading
 leading-image b e =
     let h = front-header b e in
     rw (and-true (and-true (le-leb 9 (length b) (h .long)) (le-leb 9 (wordAt b 1) (h .least))) (h .fit))
+
+-- ---- of a part of a buffer
+
+module _ (b : List ℕ) where
+  -- an image and what stands behind it
+  pub leading-taken : 9 ≤ wordAt b 1 → wordAt b 1 ≤ length b → leading (take (wordAt b 1) b) ≡ imageIn b
+  unfolding leading imageIn
+  leading-taken w f =
+      let n : length (take (wordAt b 1) b) ≡ wordAt b 1 = length-take-le (wordAt b 1) b f in
+      rw (word-take (wordAt b 1) b 1 (omega arith), n, le-leb 9 (wordAt b 1) w, le-leb (wordAt b 1) (wordAt b 1) (omega arith))
+      (take-take (wordAt b 1) (wordAt b 1) b (omega arith))
+
+  pub leading-whole : 9 ≤ wordAt b 1 → wordAt b 1 ≤ length b → leading b ≡ imageIn b
+  unfolding leading
+  leading-whole w f =
+      rw (le-leb 9 (length b) (omega arith), le-leb 9 (wordAt b 1) w, le-leb (wordAt b 1) (length b) f) refl
+
+  -- a length field below 9 is refused, whatever stands behind the header
+  pub leading-short : 9 ≤ length b → wordAt b 1 < 9 → check (leading (take 9 b)) ≡ check (leading b)
+  unfolding leading check headerFault need _orElse_
+  leading-short h s =
+      let n : length (take 9 b) ≡ 9 = length-take-le 9 b h in
+      let l = le-leb 9 (length b) h in
+      let f = lt-leb 9 (wordAt b 1) s in
+      let t = word-take 9 b 1 (omega arith) in
+      let v = getD-take 9 b 0 0 (omega arith) in
+      go l f n t v (knownVersion (getD b 0 0)) refl
+    where
+      go :
+          leb 9 (length b) ≡ true → leb 9 (wordAt b 1) ≡ false → length (take 9 b) ≡ 9 → wordAt (take 9 b) 1 ≡ wordAt b 1
+          → getD (take 9 b) 0 0 ≡ getD b 0 0 → (x : Bool) → knownVersion (getD b 0 0) ≡ x → check (leading (take 9 b)) ≡ check (leading b)
+      go l f n t v true e = simp (n, t, v, l, f, e)
+      go l f n t v false e = simp (n, t, v, l, f, e)

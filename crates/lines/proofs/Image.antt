@@ -4,21 +4,19 @@
 --     size-whole    and where it is not
 --     image-taken   the check of the image that an input starts with is that of those bytes
 --     image-front   where it is accepted, those bytes are that image, up to the length field
-use Prim.Native.Nat.{ℕ, _+_, _≤_, _<_}
+use Prim.Native.Nat.{ℕ, _≤_, _<_}
 use native.Mathlib.Omega.{arith}
 use mathlib.Core.Path.{_≡_, refl, sym, ap, _∙_}
-use mathlib.Core.Bool.{Bool, true, false, _&&_}
+use mathlib.Core.Bool.{Bool, true, false}
 use mathlib.Core.Option.{none}
 use mathlib.Core.List.{List}
-use lib.ListN.{length, getD, take}
-use lib.Seq.{getD-take, length-take-le, take-all, take-take}
+use lib.ListN.{length, take}
+use lib.Seq.{take-all}
 use lib.Dec.{leb}
 use borrow.Author.Tests.{leb-true, leb-false, le-leb, lt-leb}
 use Rattle.format.specs.Bytes.{wordAt}
-use Rattle.format.specs.Refusals.{need, _orElse_}
-use Rattle.format.specs.Format.{knownVersion}
-use Rattle.format.specs.Check.{headerFault, check, imageIn, checkFront, leading}
-use Rattle.format.proofs.Front.{front-header, leading-check, leading-image}
+use Rattle.format.specs.Check.{check, imageIn, checkFront, leading}
+use Rattle.format.proofs.Front.{front-header, leading-check, leading-taken, leading-whole, leading-short}
 use Rattle.lines.specs.Output.{imageSize}
 
 module _ (b : List ℕ) where
@@ -34,40 +32,6 @@ module _ (b : List ℕ) where
   unfolding imageSize
   size-whole h w = rw (le-leb 9 (length b) h, le-leb 9 (wordAt b 1) w) refl
 
-  pub word-taken : (n at : ℕ) → at + 1 < n → wordAt (take n b) at ≡ wordAt b at
-  unfolding wordAt
-  word-taken n at h = rw (getD-take n b at 0 (omega arith), getD-take n b (at + 1) 0 h)
-
-  -- an image and what stands behind it
-  leading-taken : 9 ≤ wordAt b 1 → wordAt b 1 ≤ length b → leading (take (wordAt b 1) b) ≡ imageIn b
-  unfolding leading imageIn
-  leading-taken w f =
-      let n : length (take (wordAt b 1) b) ≡ wordAt b 1 = length-take-le (wordAt b 1) b f in
-      rw (word-taken (wordAt b 1) 1 (omega arith), n, le-leb 9 (wordAt b 1) w, le-leb (wordAt b 1) (wordAt b 1) (omega arith))
-      (take-take (wordAt b 1) (wordAt b 1) b (omega arith))
-
-  leading-whole : 9 ≤ wordAt b 1 → wordAt b 1 ≤ length b → leading b ≡ imageIn b
-  unfolding leading
-  leading-whole w f =
-      rw (le-leb 9 (length b) (omega arith), le-leb 9 (wordAt b 1) w, le-leb (wordAt b 1) (length b) f) refl
-
-  -- a length field below 9 is refused, whatever stands behind the header
-  check-short : 9 ≤ length b → wordAt b 1 < 9 → check (leading (take 9 b)) ≡ check (leading b)
-  unfolding leading check headerFault need _orElse_
-  check-short h s =
-      let n : length (take 9 b) ≡ 9 = length-take-le 9 b h in
-      let l = le-leb 9 (length b) h in
-      let f = lt-leb 9 (wordAt b 1) s in
-      let t = word-taken 9 1 (omega arith) in
-      let v = getD-take 9 b 0 0 (omega arith) in
-      go l f n t v (knownVersion (getD b 0 0)) refl
-    where
-      go :
-          leb 9 (length b) ≡ true → leb 9 (wordAt b 1) ≡ false → length (take 9 b) ≡ 9 → wordAt (take 9 b) 1 ≡ wordAt b 1
-          → getD (take 9 b) 0 0 ≡ getD b 0 0 → (x : Bool) → knownVersion (getD b 0 0) ≡ x → check (leading (take 9 b)) ≡ check (leading b)
-      go l f n t v true e = simp (n, t, v, l, f, e)
-      go l f n t v false e = simp (n, t, v, l, f, e)
-
 pub image-taken : (i : List ℕ) → check (leading (take (imageSize i) i)) ≡ checkFront i
 image-taken i = go (leb 9 (length i)) refl (leb 9 (wordAt i 1)) refl (leb (wordAt i 1) (length i)) refl ∙ leading-check i
   where
@@ -80,7 +44,7 @@ image-taken i = go (leb 9 (length i)) refl (leb 9 (wordAt i 1)) refl (leb (wordA
     go true e false p z q =
         let h = leb-true 9 (length i) e in
         let s = leb-false 9 (wordAt i 1) p in
-        ap (λ n. check (leading (take n i))) (size-short i h s) ∙ check-short i h s
+        ap (λ n. check (leading (take n i))) (size-short i h s) ∙ leading-short i h s
     go true e true p false q =
         let h = leb-true 9 (length i) e in
         let w = leb-true 9 (wordAt i 1) p in

@@ -9,7 +9,7 @@ use mathlib.Core.Path.{_≡_, refl, sym, ap, _∙_}
 use mathlib.Core.List.{List, [], _∷_, _++_, append-assoc}
 use lib.ListN.{length, getD, drop, length-append, length-drop, List·getD-append}
 use lib.Seq.{getD-drop, drop-append-le}
-use Rattle.format.specs.Bytes.{wordAt}
+use Rattle.format.proofs.Bytes.{word-drop, word-append}
 use Rattle.decision.specs.Decide.{answer}
 use Rattle.lines.specs.Lines.{line, queryAt, linesFrom, lines}
 use Rattle.lines.specs.Output.{restOf, ending}
@@ -20,26 +20,16 @@ lines-few l b h = let z : length b / 8 ≡ 0 = omega arith in rw z refl
 
 -- ---- the same bytes, the same queries
 
-word-drop : (b : List ℕ) (n at : ℕ) → wordAt b (n + at) ≡ wordAt (drop n b) at
-unfolding wordAt
-word-drop b n at =
-    let s : n + at + 1 ≡ n + (at + 1) = omega arith in
-    rw (getD-drop n b at 0, getD-drop n b (at + 1) 0, s)
-
-word-front : (b t : List ℕ) (at : ℕ) → at + 1 < length b → wordAt (b ++ t) at ≡ wordAt b at
-unfolding wordAt
-word-front b t at h = rw (List·getD-append b t 0 at (omega arith), List·getD-append b t 0 (at + 1) h)
-
 query-drop : (b : List ℕ) (n at : ℕ) → queryAt b (n + at) ≡ queryAt (drop n b) at
 query-drop b n at =
     let two : n + at + 2 ≡ n + (at + 2) = omega arith in
     let four : n + at + 4 ≡ n + (at + 4) = omega arith in
     let six : n + at + 6 ≡ n + (at + 6) = omega arith in
-    rw (two, four, six, word-drop b n at, word-drop b n (at + 2), word-drop b n (at + 4), word-drop b n (at + 6))
+    rw (two, four, six, ← word-drop n b at, ← word-drop n b (at + 2), ← word-drop n b (at + 4), ← word-drop n b (at + 6))
 
 query-front : (b t : List ℕ) (at : ℕ) → at + 8 ≤ length b → queryAt (b ++ t) at ≡ queryAt b at
 query-front b t at h =
-    rw (word-front b t at (omega arith), word-front b t (at + 2) (omega arith), word-front b t (at + 4) (omega arith), word-front b t (at + 6) (omega arith))
+    rw (word-append b t at (omega arith), word-append b t (at + 2) (omega arith), word-append b t (at + 4) (omega arith), word-append b t (at + 6) (omega arith))
 
 -- ---- lines from a place on
 

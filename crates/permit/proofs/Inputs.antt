@@ -15,7 +15,8 @@ use borrow.Author.Tests.{ltb-true, ltb-false, leb-true, leb-false, le-leb, ne-eq
 use Rattle.io.specs.Counts.{clamped}
 use Rattle.format.specs.Bytes.{wordAt}
 use Rattle.lines.specs.Output.{imageSize}
-use Rattle.lines.proofs.Image.{size-none, size-short, size-whole, word-taken}
+use Rattle.format.proofs.Bytes.{word-take}
+use Rattle.lines.proofs.Image.{size-none, size-short, size-whole}
 use Rattle.permit.specs.declared.source.Got.{Got}
 use Rattle.permit.specs.declared.source.Got.the-variants as got
 use Rattle.permit.specs.declared.source.Stop.the-variants as stop
@@ -93,7 +94,7 @@ size-more l l' have more h t k f s = go (leb 9 have) refl
     go true e =
         let many = leb-true 9 have e in
         let w : wordAt (take more l') 1 ≡ wordAt (take have l) 1 =
-        word-taken l' more 1 (omega arith) ∙ sym (word-taken l' have 1 (omega arith)) ∙ ap (λ x. wordAt x 1) t in
+        word-take more l' 1 (omega arith) ∙ sym (word-take have l' 1 (omega arith)) ∙ ap (λ x. wordAt x 1) t in
         omega (arith, size-same (take have l) (take more l') (omega (arith, length-take-le have l h)) (omega (arith, length-take-le more l' f)) w)
 
 module _ (l : List ℕ) (have : ℕ) (few : have < 65536) (fits : have ≤ length l) where

@@ -12,11 +12,25 @@ fn is_again(error: i32) -> bool
     error == libc::EAGAIN
 }
 
+// Waits a millisecond, or less where a signal comes. The one function of the program over a struct behind a reference, which
+// the C library's nanosleep asks for: its proof walks the code by hand.
+fn pause() {
+    let asked = libc::types::timespec {
+        tv_sec: 0,
+        tv_nsec: 1000000,
+    };
+    let mut left = libc::types::timespec {
+        tv_sec: 0,
+        tv_nsec: 0,
+    };
+    libc::nanosleep(&asked, &mut left);
+}
+
 // After a call that failed: waits a little and tells that the call may be made again, or tells that it may not.
 pub(crate) fn retry() -> bool {
     let again = is_again(os::errno());
     if again {
-        libc::sched_yield();
+        pause();
     }
     again
 }

@@ -1,6 +1,6 @@
 -- `word_at` meets its contract. Assumes nothing.
 use borrow.Author.Needs.{needs}
-use Rattle.format.specs.Bytes.{wordAt}
+use Rattle.format.proofs.Bytes.{word-at}
 use Rattle.permit.proofs.word.word_at.Statement.{statement}
 use Rattle.permit.proofs.word.word_at.Tie as tie
 
@@ -17,8 +17,7 @@ word-requires : tie.Need-word-requires
 word-requires c κs = search needs
 
 returns : tie.Need-returns
-unfolding wordAt
-returns c = c .word .ensures
+returns c = rw word-at (c .word .ensures)
 
 pub word-at-spec : {M : Type 1} → statement M
 word-at-spec =
