@@ -12,6 +12,11 @@ use Rattle.decision.proofs.Tepla as tepla
 use Rattle.decision.proofs.Order as order
 use Rattle.decision.proofs.Growth as growth
 use Rattle.decision.proofs.Cases as cases
+use Rattle.lines.proofs.Numbers as numbers
+use Rattle.lines.proofs.Output as output
+use Rattle.lines.proofs.Worked as worked
+use Rattle.mungaite.proofs.Whole as whole
+use Rattle.mungaite.proofs.Host as host
 use Rattle.claims.specs.Promises.{Promises}
 
 pub promises : Promises
@@ -59,5 +64,24 @@ promises =
         added-order = growth.added-order;
         same-rules = growth.same-rules;
         rules-reordered = growth.rules-reordered;
+      };
+      printing = record {
+        decimal-fewest = numbers.decimal-fewest;
+        decimal-read = numbers.decimal-read;
+        any-reads = output.any-reads;
+        worked-lines = worked.worked-lines;
+        worked-runs = worked.worked-runs;
+      };
+      calling = record {
+        check-whole = whole.check-whole;
+        decide-whole = whole.decide-whole;
+        record-whole = whole.record-whole;
+        add-whole = whole.add-whole;
+        parts-whole = whole.parts-whole;
+        parts-read = whole.parts-read;
+        check-read = host.check-read;
+        decide-read = host.decide-read;
+        record-read = host.record-read;
+        add-read = host.add-read;
       };
     }

@@ -11,6 +11,9 @@ use Rattle.decision.specs.Tepla.{PublishedMeaning, PublishedAnswer, PublishedOr
 use Rattle.decision.specs.Order.{Decided, DecidedOnly, OrderRule, QueryOrder, NonDecreasing}
 use Rattle.decision.specs.Growth.{AddedGrows, AddedOrder, SameRules, RulesReordered, MemberOrder}
 use Rattle.decision.specs.Cases.{MarkedCases, MarkedAdds, MarkedOrder}
+use Rattle.lines.specs.Claims.{DecimalFewest, DecimalRead, AnyReads}
+use Rattle.lines.specs.Worked.{WorkedLines, WorkedRuns}
+use Rattle.mungaite.specs.Claims.{CheckWhole, DecideWhole, RecordWhole, AddWhole, PartsWhole, PartsRead, CheckRead, DecideRead, RecordRead, AddRead}
 
 -- Demand 1: every policy that meets the layout is accepted with all its records, the last included; everything else is refused.
 pub record Reading : Type 0 where
@@ -59,8 +62,31 @@ pub record Ordering : Type 0 where
   pub same-rules : SameRules
   pub rules-reordered : RulesReordered
 
+-- The program's lines: a number has the fewest digits, and no cut of the input changes the output.
+pub record Printing : Type 0 where
+  pub decimal-fewest : DecimalFewest
+  pub decimal-read : DecimalRead
+  pub any-reads : AnyReads
+  pub worked-lines : WorkedLines
+  pub worked-runs : WorkedRuns
+
+-- The C interface's numbers: no part is cut, and what a host reads from them is the answer.
+pub record Calling : Type 0 where
+  pub check-whole : CheckWhole
+  pub decide-whole : DecideWhole
+  pub record-whole : RecordWhole
+  pub add-whole : AddWhole
+  pub parts-whole : PartsWhole
+  pub parts-read : PartsRead
+  pub check-read : CheckRead
+  pub decide-read : DecideRead
+  pub record-read : RecordRead
+  pub add-read : AddRead
+
 pub record Promises : Type 0 where
   pub reading : Reading
   pub adding : Adding
   pub deciding : Deciding
   pub ordering : Ordering
+  pub printing : Printing
+  pub calling : Calling
