@@ -66,7 +66,7 @@ module _ (l : List ℕ) where
 
 pub rest-length : (b : List ℕ) → length (restOf b) ≡ length b % 8
 unfolding restOf
-rest-length b = length-drop (8 * (length b / 8)) b ∙ omega arith
+rest-length b = simp length-drop (omega arith)
 
 pub lines-append : (l b t : List ℕ) → lines l (b ++ t) ≡ lines l b ++ lines l (restOf b ++ t)
 unfolding lines restOf

@@ -9,6 +9,9 @@ ghost use Rattle.lines.specs.Output.{imageSize, restOf};
 ghost use Rattle.permit.specs.Inner.Put.{Front};
 ghost use Rattle.permit.specs.Inner.Input.{broughtBy, Brings, ImageRead};
 
+// An image's header: the version, the length field and three counts.
+const HEADER: usize = 9;
+
 // What a read brought: some bytes, the end of the input, or an error.
 pub(crate) enum Got {
     Bytes(usize),
@@ -76,12 +79,12 @@ pub(crate) fn read_between(buffer: &mut [u8], from: usize, to: usize) -> Got
 fn image_size(bytes: &[u8]) -> usize
     ensures { λ r. ⌜ (r ≡ imageSize (now (bytes .entry))) × (r < 65536) ⌝ }
 {
-    if bytes.len() < 9 {
-        return 9;
+    if bytes.len() < HEADER {
+        return HEADER;
     }
     let size = word_at(bytes, 1) as usize;
-    if size < 9 {
-        return 9;
+    if size < HEADER {
+        return HEADER;
     }
     size
 }

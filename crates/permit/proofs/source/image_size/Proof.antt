@@ -1,13 +1,12 @@
 -- `image_size` meets its contract. Assumes nothing.
 use native.Mathlib.Omega.{arith}
-use mathlib.Core.Path.{_≡_, sym, _∙_}
 use Rattle.lines.proofs.Image.{size-none, size-short, size-whole}
 use borrow.Author.Needs.{needs}
 use Rattle.permit.proofs.source.image_size.Statement.{statement}
 use Rattle.permit.proofs.source.image_size.Tie as tie
 
 returns : tie.Need-returns
-returns c = (sym (size-none _ (c .if1 .taken)), omega arith)
+returns c = (omega (arith, size-none (c .before .before .args .bytes .now) (omega arith)), omega arith)
 
 word-at-requires : tie.Need-word-at-requires
 word-at-requires c κs = search needs
@@ -16,10 +15,10 @@ cast-size : tie.Need-cast-size
 cast-size c = search needs
 
 returns-2 : tie.Need-returns-2
-returns-2 c = (sym (size-short _ (omega arith) (omega (arith, c .before .word-at .ensures))), omega arith)
+returns-2 c = (omega (arith, size-short (c .before .before .before .before .args .bytes .now) (omega arith) (omega (arith, c .before .word-at .ensures))), omega arith)
 
 returns-3 : tie.Need-returns-3
-returns-3 c = (c .before .word-at .ensures ∙ sym (size-whole _ (omega arith) (omega (arith, c .before .word-at .ensures))), omega arith)
+returns-3 c = (omega (arith, c .before .word-at .ensures, size-whole (c .before .before .before .before .args .bytes .now) (omega arith) (omega (arith, c .before .word-at .ensures))), omega arith)
 
 pub image-size-spec : {M : Type 1} → statement M
 image-size-spec = tie.close (tie.spec returns word-at-requires cast-size returns-2 returns-3)
