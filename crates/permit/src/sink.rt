@@ -2,7 +2,8 @@
 use crate::again::retry;
 use libc::STDOUT_FILENO;
 
-// Writes all of the bytes and tells that it did, or says on standard error why it could not.
+// Writes all of the bytes and tells that it did, or says on standard error why it could not. A write that takes nothing is one
+// that failed.
 pub(crate) fn write_all(bytes: &[u8]) -> bool {
     let mut rest = bytes;
     let mut tries = u64::MAX;
@@ -11,7 +12,7 @@ pub(crate) fn write_all(bytes: &[u8]) -> bool {
             return true;
         }
         let answer = libc::write(STDOUT_FILENO, rest);
-        if answer < 0 {
+        if answer <= 0 {
             if !retry() {
                 break;
             }
