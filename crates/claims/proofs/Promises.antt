@@ -33,10 +33,14 @@ promises =
         longest-image = images.longest-image;
         longest-reached = longest.longest-reached;
         sample-accepted = sample.sample-accepted;
+        refusal-cases = cases.refusal-cases;
       };
       adding = record {
         added-accepted = adds.added-accepted;
+        number-named = adds.number-named;
         groups-kept = adds.groups-kept;
+        rest-stays = adds.rest-stays;
+        refused-unchanged = adds.refused-unchanged;
         round-trip = trip.round-trip;
         round-trip-exact = trip.round-trip-exact;
       };
@@ -53,7 +57,7 @@ promises =
         published-order = tepla.published-order;
         marked-cases = cases.marked-cases;
         marked-adds = cases.marked-adds;
-        marked-order = cases.marked-order;
+        clause-cases = cases.clause-cases;
       };
       ordering = record {
         order-rule = order.order-rule;
@@ -64,6 +68,7 @@ promises =
         added-order = growth.added-order;
         same-rules = growth.same-rules;
         rules-reordered = growth.rules-reordered;
+        marked-order = cases.marked-order;
       };
       printing = record {
         decimal-fewest = numbers.decimal-fewest;

@@ -1,83 +1,137 @@
--- Everything that is claimed of the definitions, on one page: a field for each claim, which its own crate states and proves. The one
--- proof of all is `promises` (proofs/Promises.antt). That the code answers what the definitions say is each function's contract,
--- beside its body in src/. docs/CLAIMS.md leads from each sentence of the documents to its claim or contract.
+-- Everything that is claimed of the definitions, on one page: a field for each claim, which its own crate states and proves, with what
+-- it says beside it. The one proof of all is `promises` (proofs/Promises.antt), and specs/Terms.antt says what meets the claims' terms.
+--
+-- What is not here: that the code answers what the definitions say. That is each function's contract, above its body in src/:
+-- `check`, `record`, `add`, `decide` and those for C each give, for every input, the answer and the bytes that a definition gives
+-- (`check`, `givenRecord`, `bufferAfter`, `answer`, `decisionCode`, ..). docs/CLAIMS.md leads from each sentence of the documents to its
+-- claim or its contract.
 use Rattle.format.specs.Claims.{AcceptedIsWellFormed, WellFormedIsAccepted, RecordsGiven, AllGiven, NoneGiven, EmptyTells, ReferencesHeld}
 use Rattle.format.specs.Longest.{LongestImage, LongestReached}
 use Rattle.format.specs.Sample.{SampleAccepted}
-use Rattle.extension.specs.Claims.{AddedAccepted, GroupsKept, RoundTrip, RoundTripExact}
+use Rattle.extension.specs.Claims.{AddedAccepted, NumberNamed, GroupsKept, RestStays, RefusedUnchanged, RoundTrip, RoundTripExact}
 use Rattle.decision.specs.Filled.{TypesFilled, FieldsFilled}
 use Rattle.decision.specs.Lowest.{LowestNamed, NamedAlone, LowestAnswered}
 use Rattle.decision.specs.Tepla.{PublishedMeaning, PublishedAnswer, PublishedOrder}
 use Rattle.decision.specs.Order.{Decided, DecidedOnly, OrderRule, QueryOrder, NonDecreasing}
 use Rattle.decision.specs.Growth.{AddedGrows, AddedOrder, SameRules, RulesReordered, MemberOrder}
 use Rattle.decision.specs.Cases.{MarkedCases, MarkedAdds, MarkedOrder}
+use Rattle.decision.specs.Clauses.{ClauseCases, RefusalCases}
 use Rattle.lines.specs.Claims.{DecimalFewest, DecimalRead, AnyReads}
 use Rattle.lines.specs.Worked.{WorkedLines, WorkedRuns}
 use Rattle.mungaite.specs.Claims.{CheckWhole, DecideWhole, RecordWhole, AddWhole, PartsWhole, PartsRead, CheckRead, DecideRead, RecordRead, AddRead}
 
 -- Demand 1: every policy that meets the layout is accepted with all its records, the last included; everything else is refused.
 pub record Reading : Type 0 where
+  -- an accepted image is the image of a policy that meets the layout, in plain numbers
   pub accepted-is-well-formed : AcceptedIsWellFormed
+  -- and the image of every such policy is accepted, and gives that policy back
   pub well-formed-is-accepted : WellFormedIsAccepted
+  -- record n of a section is the policy's nth, and a part of the image
   pub records-given : RecordsGiven
+  -- the records given one after the other are the section's, the last included
   pub all-given : AllGiven
+  -- past the last there is none: 14
   pub none-given : NoneGiven
+  -- the bytes given are none exactly where the call is refused
   pub empty-tells : EmptyTells
+  -- a type field is a basic type, or names a group that the image has
   pub references-held : ReferencesHeld
+  -- an accepted image has at most 55,561 bytes
   pub longest-image : LongestImage
+  -- and one has them
   pub longest-reached : LongestReached
+  -- the sample sheet and the empty policy are accepted
   pub sample-accepted : SampleAccepted
+  -- one refusal of each number, with its place
+  pub refusal-cases : RefusalCases
 
--- Demand 2, its second sentence: adding a policy's records in order gives it back byte for byte.
+-- Demand 1, its last words, and demand 2, its second sentence: what adding does.
 pub record Adding : Type 0 where
+  -- an accepted add leaves an accepted image, whose policy has the record last in its section and is otherwise the same
   pub added-accepted : AddedAccepted
+  -- that record has the number that is answered
+  pub number-named : NumberNamed
+  -- groups keep their numbers
   pub groups-kept : GroupsKept
+  -- bytes past the new image stay
+  pub rest-stays : RestStays
+  -- a refused add changes no byte
+  pub refused-unchanged : RefusedUnchanged
+  -- adding an accepted policy's records in order to the empty policy gives it byte for byte
   pub round-trip : RoundTrip
+  -- in a buffer that has just the space, too
   pub round-trip-exact : RoundTripExact
 
 -- Demands 1 and 2: every valid query gets a decision, TEpla's, with the lowest rule and the lowest constraint.
 pub record Deciding : Type 0 where
+  -- every valid query on an accepted image gets one of the three decisions
   pub decided : Decided
+  -- and nothing else does
   pub decided-only : DecidedOnly
+  -- no set is empty
   pub types-filled : TypesFilled
   pub fields-filled : FieldsFilled
+  -- the decision names the lowest rule that covers and the lowest constraint that fails
   pub lowest-named : LowestNamed
+  -- and no other decision does
   pub named-alone : NamedAlone
+  -- and so does the engine's answer
   pub lowest-answered : LowestAnswered
+  -- TEpla's own evaluation, as the papers have it, gives the same decision
   pub published-meaning : PublishedMeaning
+  -- and so on every valid query of an accepted image
   pub published-answer : PublishedAnswer
+  -- the order on decisions is the papers'
   pub published-order : PublishedOrder
+  -- document 01's marked cases, as one table, and that their adds are accepted
   pub marked-cases : MarkedCases
   pub marked-adds : MarkedAdds
-  pub marked-order : MarkedOrder
+  -- clauses that no marked case meets, as a second table
+  pub clause-cases : ClauseCases
 
 -- Demand 3: the order rule, what the papers say of it, and what meets its terms.
 pub record Ordering : Type 0 where
+  -- a policy and a query that extend others are never decided lower
   pub order-rule : OrderRule
+  -- on one policy, a query within another is decided no lower: the paper's order preservation
   pub query-order : QueryOrder
+  -- one query, a policy that grows: the paper's non-decreasing property
   pub non-decreasing : NonDecreasing
+  -- a query on a group is decided no higher than one on a member of it
   pub member-order : MemberOrder
+  -- every accepted add meets the rule's terms
   pub added-grows : AddedGrows
+  -- so a query that was decided is decided after it, and no lower
   pub added-order : AddedOrder
+  -- policies that hold each other's rules and constraints decide equally high, companions or not
   pub same-rules : SameRules
+  -- such as one with its rules and its constraints in another order
   pub rules-reordered : RulesReordered
+  -- and the sample with a record added
+  pub marked-order : MarkedOrder
 
--- The program's lines: a number has the fewest digits, and no cut of the input changes the output.
+-- The program's output.
 pub record Printing : Type 0 where
+  -- a number has the fewest digits that hold it, and they read back as that number
   pub decimal-fewest : DecimalFewest
   pub decimal-read : DecimalRead
+  -- however reads cut the input, the output is the same
   pub any-reads : AnyReads
+  -- lines and whole outputs, written out from document 01
   pub worked-lines : WorkedLines
   pub worked-runs : WorkedRuns
 
--- The C interface's numbers: no part is cut, and what a host reads from them is the answer.
+-- The C interface's numbers.
 pub record Calling : Type 0 where
+  -- no part of an answer is cut
   pub check-whole : CheckWhole
   pub decide-whole : DecideWhole
   pub record-whole : RecordWhole
   pub add-whole : AddWhole
+  -- parts that fit are in the number as they are, and are read back from it
   pub parts-whole : PartsWhole
   pub parts-read : PartsRead
+  -- so what a host reads from the number is the answer
   pub check-read : CheckRead
   pub decide-read : DecideRead
   pub record-read : RecordRead

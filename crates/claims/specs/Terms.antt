@@ -1,68 +1,159 @@
--- What meets the claims' terms: of each claim that has terms, something that the engine does, named with it. proofs/Terms.antt derives all
--- of this from the statement alone (`terms-met : Promises → TermsMet`), so a claim whose terms were made narrower, or whose conclusion was made
--- less, would no longer give it.
---     query s d c a     a query
---     NotRevoked l q    its answer on l is not NotPermitted
---     sampleAnd r       the sample with the record r added
---     TermsMet          the empty policy, the sample and the longest image, and the marked cases' adds, put to each claim
-use Prim.Native.Nat.{ℕ, _≤_}
+-- What meets the claims' terms: for each claim that has terms, something that the engine does, and what the claim then says of it. The
+-- proof (proofs/Terms.antt, `terms-met : Promises → TermsMet`) takes the statement and cites no claim's proof, which tests/layers.sh
+-- tests: so a claim whose terms are made narrower, or that says less, no longer gives what is here.
+--     query s d c a       a query
+--     sampleAnd r         the sample with the record r added
+--     AtLeast n l q       a decision on l is at least so high: 1 is Permitted, 2 UnKnown
+--     ReadingMet, AddingMet, DecidingMet, OrderingMet   by the parts of the statement
+use Prim.Native.Nat.{ℕ, suc, _+_, _≤_}
 use mathlib.Core.Path.{_≡_}
+use mathlib.Core.Bool.{true, false}
 use mathlib.Core.Option.{none, some}
-use mathlib.Core.List.{List, [], _∷_, _++_}
-use lib.ListN.{length, replicate}
+use mathlib.Core.List.{List, [], _∷_, _++_, map, List·Memᴰ}
+use lib.ListN.{length, getD, take, drop, replicate}
 use Rattle.format.specs.declared.Section.{Section}
+use Rattle.format.specs.declared.Section.the-variants.{Rules}
+use Rattle.format.specs.Bytes.{Bytes}
 use Rattle.format.specs.Refusals.{refusal}
 use Rattle.format.specs.Format.{limitOf}
-use Rattle.format.specs.Policy.{recordsOf, imageOf, policyOf}
+use Rattle.format.specs.Policy.{recordsOf, imageOf, policyOf, placeOf}
 use Rattle.format.specs.Check.{check, imageIn}
-use Rattle.format.specs.Answers.{gives}
-use Rattle.format.specs.Give.{giveFault}
-use Rattle.format.specs.Claims.{WellFormed, givenFrom}
+use Rattle.format.specs.Answers.{refused, gives}
+use Rattle.format.specs.Give.{giveFault, givenRecord}
+use Rattle.format.specs.Claims.{IsType, typeFields, WellFormed, givenFrom}
 use Rattle.format.specs.Sample.{sample, empty}
 use Rattle.format.specs.Longest.{longest}
+use Rattle.extension.specs.Add.{addFault, bufferAfter}
 use Rattle.extension.specs.Claims.{addAll, allRecords}
 use Rattle.decision.specs.declared.Query.{Query}
-use Rattle.decision.specs.Decide.{Decision, notPermitted, answer}
-use Rattle.decision.specs.Order.{height}
-use Rattle.decision.specs.Growth.{reordered}
-use Rattle.decision.specs.Cases.{g0, allow, companion, extended}
-use Rattle.decision.specs.Tepla.{Dcs, evalQuery}
+use Rattle.decision.specs.Sets.{anyOf, isIn, setOf, within}
+use Rattle.decision.specs.Decide.{Rule, ruleOf, Constraint, Request, requestOf, covers, Decision, notPermitted, permitted, unknown, judge, answer}
+use Rattle.decision.specs.Order.{height, Keeps}
+use Rattle.decision.specs.Growth.{reordered, DecidedAbove}
+use Rattle.decision.specs.Cases.{g0, allow, companion, oneMember, extended, cases}
+use Rattle.decision.specs.Tepla.{Dcs, compareDecisions, forget, evalPolicy, evalQuery}
 
 abbrev pub query : ℕ → ℕ → ℕ → ℕ → Query
 query s d c a = record { source = s; dest = d; class = c; action = a }
 
-abbrev pub NotRevoked : List ℕ → Query → Type 0
-NotRevoked l q = answer l q ≡ gives notPermitted → ⊥
-
 abbrev pub sampleAnd : List ℕ → List ℕ
 sampleAnd r = extended sample r
 
-pub record TermsMet : Type 0 where
-  -- AcceptedIsWellFormed: the sample, the empty policy, the longest image; the sample is the image of its policy
+abbrev pub AtLeast : ℕ → List ℕ → Query → Type 0
+AtLeast n l q = (d : Decision) → answer l q ≡ gives d → n ≤ height d
+
+pub record ReadingMet : Type 0 where
+  -- AcceptedIsWellFormed: the sample, which is the image of its policy; the empty policy; the longest image
   pub sample-well-formed : WellFormed (policyOf sample)
   pub sample-image : imageOf (policyOf sample) ≡ sample
   pub empty-well-formed : WellFormed (policyOf empty)
   pub longest-well-formed : WellFormed longest
-  -- WellFormedIsAccepted: the longest policy, as it is read back
+  -- WellFormedIsAccepted: the longest policy, whose image is of bytes, and as it is read back
+  pub longest-bytes : Bytes (imageOf longest)
   pub longest-accepted : check (imageOf longest) ≡ none
   pub longest-policy : policyOf (imageOf longest) ≡ longest
   -- LongestImage: the longest policy's image is not longer
   pub longest-most : length (imageOf longest) ≤ 55561
-  -- RecordsGiven, AllGiven: every record of the longest image; NoneGiven: the number past the last
+  -- RecordsGiven: the last record of each section, a part of the image at its place
+  pub last-given :
+      (l : List ℕ) → check l ≡ none → (s : Section) (n : ℕ) → length (recordsOf (policyOf l) s) ≡ suc n
+      → (givenRecord l s n ≡ take (length (givenRecord l s n)) (drop (placeOf l s n) l))
+      × (placeOf l s n + length (givenRecord l s n) ≤ length l)
+  -- AllGiven: every record of the longest image, and they are those given; NoneGiven: the number past the last
   pub longest-given : (s : Section) → givenFrom (imageOf longest) s 0 (limitOf s) ≡ recordsOf longest s
+  pub one-by-one : (l : List ℕ) (s : Section) (k : ℕ) → givenFrom l s k 1 ≡ givenRecord l s k ∷ []
   pub longest-past : (s : Section) → giveFault (imageOf longest) s (limitOf s) ≡ some (refusal 14 0)
+  -- EmptyTells: where nothing is refused there is a byte; of an image that is refused there is none
+  pub given-some : (l : List ℕ) (s : Section) (n : ℕ) → giveFault l s n ≡ none → 1 ≤ length (givenRecord l s n)
+  pub nothing-given : (s : Section) (n : ℕ) → givenRecord (take 79 sample) s n ≡ []
+  -- ReferencesHeld: a rule's two types, and a roster's list, are type fields
+  pub rule-fields : typeFields (allow 14 g0 7 7) ≡ 14 ∷ g0 ∷ []
+  pub roster-fields : typeFields (13 ∷ 4 ∷ 0 ∷ 5 ∷ 0 ∷ 1 ∷ 0 ∷ 10 ∷ 0 ∷ 21 ∷ 2 ∷ 0 ∷ 11 ∷ []) ≡ 10 ∷ 21 ∷ 11 ∷ []
+
+pub record AddingMet : Type 0 where
+  -- AddedAccepted: a companion added to the sample is its last constraint
+  pub companion-last : policyOf (imageIn (sampleAnd companion)) .constraints ≡ policyOf sample .constraints ++ (companion ∷ [])
+  -- NumberNamed: and it is constraint 2
+  pub companion-two : getD (policyOf (imageIn (sampleAnd companion)) .constraints) 2 [] ≡ companion
+  -- GroupsKept: the last group too
+  pub last-group :
+      (b r : List ℕ) → Bytes b → Bytes r → addFault b r ≡ none → (n : ℕ) → length (policyOf (imageIn b) .groups) ≡ suc n
+      → getD (policyOf (imageIn (bufferAfter b r)) .groups) n [] ≡ getD (policyOf (imageIn b) .groups) n []
+  -- RestStays: the buffer of an accepted add has its length
+  pub companion-length : length (sampleAnd companion) ≡ 91
+  -- RefusedUnchanged: no room
+  pub no-room : bufferAfter sample companion ≡ sample
   -- RoundTrip: the sample in a buffer of one byte more; RoundTripExact: the longest image, and no byte more
   pub sample-rebuilt : addAll (empty ++ replicate 72 9) (allRecords (policyOf sample)) ≡ sample ++ (9 ∷ [])
   pub longest-rebuilt : addAll (empty ++ replicate 55552 0) (allRecords longest) ≡ imageOf longest
-  -- OrderRule: a rule added, and a member of the group for the group; NonDecreasing: a rule added
-  pub order-met : NotRevoked (sampleAnd (allow 14 g0 7 7)) (query 10 21 5 1)
-  pub rule-added : NotRevoked (sampleAnd (allow 14 g0 7 7)) (query 10 21 5 1)
-  -- QueryOrder, MemberOrder: a member of the group for the group
-  pub member-met : NotRevoked sample (query 10 21 5 1)
-  -- AddedAccepted, AddedGrows, AddedOrder: a constraint added, a companion even
-  pub companion-added : NotRevoked (imageIn (sampleAnd companion)) (query 10 21 5 1)
-  -- SameRules, RulesReordered: with that companion, the rules in another order, each twice
+
+pub record DecidingMet : Type 0 where
+  -- Decided: where there is no group, and on a group
+  pub empty-decided : (d : Decision) × (answer empty (query 0 0 0 0) ≡ gives d)
+  pub group-decided : (d : Decision) × (answer sample (query 10 g0 5 1) ≡ gives d)
+  -- TypesFilled, FieldsFilled
+  pub types-some : (l : List ℕ) → check l ≡ none → (t : ℕ) → IsType (length (policyOf l .groups)) t → 1 ≤ length (setOf (policyOf l .groups) t)
+  pub fields-some :
+      (l : List ℕ) → check l ≡ none → (s : Section) (r : List ℕ) → List·Memᴰ r (recordsOf (policyOf l) s)
+      → (t : ℕ) → List·Memᴰ t (typeFields r) → 1 ≤ length (setOf (policyOf l .groups) t)
+  -- LowestNamed, NamedAlone: NotPermitted where no rule covers, and only there
+  pub judge-covers : (rs : List Rule) (cs : List Constraint) (a : Request) → judge rs cs a ≡ notPermitted → anyOf (covers a) rs ≡ false
+  pub none-covers : (rs : List Rule) (cs : List Constraint) (a : Request) → anyOf (covers a) rs ≡ false → judge rs cs a ≡ notPermitted
+  -- LowestAnswered: of an UnKnown, no rule before the one named covers
+  pub lowest-unknown :
+      (l : List ℕ) (q : Query) (r c : ℕ) → answer l q ≡ gives (unknown r c)
+      → anyOf (covers (requestOf (policyOf l .groups) q)) (take r (map (ruleOf (policyOf l .groups)) (policyOf l .rules))) ≡ false
+  -- PublishedMeaning: where there is no constraint; PublishedOrder: UnKnown is above Permitted
+  pub no-constraints : (rs : List Rule) (a : Request) → evalPolicy rs [] a ≡ forget (judge rs [] a)
+  pub unknown-above : compareDecisions Dcs.UnKnown Dcs.Permitted ≡ false
+  -- DecidedOnly, PublishedAnswer: a rule added, and the roster fails; a query on a group
+  pub published-unknown : evalQuery (policyOf (sampleAnd (allow 14 g0 7 7))) (query 10 21 5 1) ≡ Dcs.UnKnown
+  pub published-group : evalQuery (policyOf sample) (query 10 g0 5 1) ≡ Dcs.Permitted
+  -- MarkedCases: all of them; the transition's, of another class and action; the last refusal
+  pub cases-all : length cases ≡ 14
+  pub other-class : answer sample (query 12 20 9 9) ≡ gives (permitted 2)
+  pub no-group-1 : answer sample (query 32769 21 5 1) ≡ refused (refusal 8 0)
+
+pub record OrderingMet : Type 0 where
+  -- OrderRule: a rule added, and a member of the group for the group; a new group for it; what is UnKnown with a companion stays so
+  pub order-met : AtLeast 1 (sampleAnd (allow 14 g0 7 7)) (query 10 21 5 1)
+  pub new-group-met : AtLeast 1 (sampleAnd oneMember) (query 10 0x8001 5 1)
+  pub unknown-stays : AtLeast 2 (sampleAnd companion) (query 10 21 5 1)
+  -- QueryOrder: types that stand for the same set are decided equally high
+  pub same-sets :
+      (l : List ℕ) (s s′ d d′ c a : ℕ) (d₁ d₂ : Decision) → answer l (query s d c a) ≡ gives d₁ → answer l (query s′ d′ c a) ≡ gives d₂
+      → setOf (policyOf l .groups) s ≡ setOf (policyOf l .groups) s′ → setOf (policyOf l .groups) d ≡ setOf (policyOf l .groups) d′
+      → within (setOf (policyOf l .groups) s) (setOf (policyOf l .groups) s) ≡ true
+      → within (setOf (policyOf l .groups) d) (setOf (policyOf l .groups) d) ≡ true
+      → height d₁ ≡ height d₂
+  -- NonDecreasing: a rule added, for a query on a member and one on the group
+  pub rule-added : AtLeast 1 (sampleAnd (allow 14 g0 7 7)) (query 10 21 5 1)
+  pub group-not-lower : AtLeast 1 (sampleAnd (allow 14 g0 7 7)) (query 10 g0 5 1)
+  -- MemberOrder: 21 for group 0; every basic type may be the member
+  pub member-met : AtLeast 1 sample (query 10 21 5 1)
+  pub any-member :
+      (l : List ℕ) (s d m n c a : ℕ) (d₁ d₂ : Decision) → answer l (query s d c a) ≡ gives d₁ → answer l (query m n c a) ≡ gives d₂
+      → m ≤ 1023 → n ≤ 1023 → isIn m (setOf (policyOf l .groups) s) ≡ true → isIn n (setOf (policyOf l .groups) d) ≡ true → height d₁ ≤ height d₂
+  -- AddedGrows: groups too
+  pub added-keeps :
+      (b r : List ℕ) → Bytes b → Bytes r → addFault b r ≡ none
+      → Keeps (policyOf (imageIn b) .groups) (policyOf (imageIn (bufferAfter b r)) .groups)
+  -- AddedOrder: a constraint added, a companion even; a rule where there is no companion
+  pub companion-added : DecidedAbove (imageIn (sampleAnd companion)) (query 10 21 5 1) (permitted 0)
+  pub companion-lowest : AtLeast 1 (imageIn (sampleAnd companion)) (query 10 21 5 1)
+  pub rule-added-order : DecidedAbove (imageIn (sampleAnd (allow 14 g0 7 7))) (query 10 21 5 1) (permitted 0)
+  -- SameRules: every rule once more
+  pub rules-twice :
+      (l₁ l₂ : List ℕ) (q : Query) (d₁ d₂ : Decision) → answer l₁ q ≡ gives d₁ → answer l₂ q ≡ gives d₂
+      → policyOf l₁ .groups ≡ policyOf l₂ .groups → policyOf l₁ .constraints ≡ policyOf l₂ .constraints
+      → policyOf l₂ .rules ≡ policyOf l₁ .rules ++ policyOf l₁ .rules → height d₁ ≡ height d₂
+  -- RulesReordered: with a companion; of every policy of at most 512 rules
   pub companion-reordered :
       (d : Decision) → answer (imageOf (reordered (policyOf (sampleAnd companion)))) (query 10 21 5 1) ≡ gives d → height d ≡ 2
-  -- Decided, DecidedOnly, PublishedAnswer: a rule added, and the roster fails
-  pub published-unknown : evalQuery (policyOf (sampleAnd (allow 14 g0 7 7))) (query 10 21 5 1) ≡ Dcs.UnKnown
+  pub half-reordered : (l : List ℕ) → Bytes l → check l ≡ none → length (policyOf l .rules) ≤ 512 → check (imageOf (reordered (policyOf l))) ≡ none
+
+pub record TermsMet : Type 0 where
+  pub reading : ReadingMet
+  pub adding : AddingMet
+  pub deciding : DecidingMet
+  pub ordering : OrderingMet

@@ -1,29 +1,32 @@
--- The marked cases, by computation: claims MarkedCases, MarkedAdds, MarkedOrder. Assumes nothing.
-use Prim.Native.Nat.{ℕ, _<_}
+-- The marked cases and the clauses' cases, by computation: claims MarkedCases, MarkedAdds, MarkedOrder, ClauseCases, RefusalCases.
+-- Assumes nothing.
+use Prim.Native.Nat.{ℕ, zero, suc, _<_}
 use native.Mathlib.Omega.{arith}
 use mathlib.Core.Path.{_≡_, refl, sym, ap, _∙_}
 use mathlib.Core.Logic.{inl, ⊎-elim}
 use mathlib.Core.List.{List, [], _∷_, flatten, map, List·Memᴰ·not-nil, List·Memᴰ·cases-cons, Memᴰ·append-left}
-use lib.ListN.{getD}
+use lib.ListN.{length, getD}
 use Rattle.format.specs.Bytes.{wordAt, words, putWord}
-use Rattle.format.specs.Refusals.{need, _orElse_, unlessRefused}
+use Rattle.format.specs.Refusals.{refusal, need, _orElse_, unlessRefused}
 use Rattle.format.specs.Format.{knownVersion, limitOf, countPlace, countOf, kindIn, lengthOk, isType, isCondition, listOk, firstRecord, shapeOk, badMember, badType, badGroup, badAllow, badTransition, badConstraint, badField}
 use Rattle.format.specs.Policy.{bodyOf, imageOf, recordAt, placeAfter, recordsAt, startOf, placeOf, endOf, policyOf}
 use Rattle.format.specs.Check.{readFields, readOf, readFault, sectionFault, countFault, headerFault, bodyFault, check, imageIn, checkFront}
-use Rattle.format.specs.Answers.{Outcome, gives}
+use Rattle.format.specs.Answers.{Outcome, refused, gives}
 use Rattle.format.specs.Sample.{sample, empty}
 use Rattle.extension.specs.Add.{sectionOf, withRecord, fieldFault, newNumber, ownFault, addFault, newImage, overwrite, bufferAfter}
 use Rattle.decision.specs.declared.Query.{Query}
 use Rattle.decision.specs.Sets.{anyOf, allOf, isIn, setOf, unionOf, within, touches, sameSet}
 use Rattle.decision.specs.Decide.{ruleOf, constraintOf, requestOf, live, tests, covers, reaches, separationBroken, rosterBroken, companionBroken, broken, fails, firstAt, Decision, notPermitted, permitted, unknown, decisionOf, judge, decide, queryFault, answerFault, answer}
 use Rattle.decision.specs.Order.{NoCompanion}
-use Rattle.decision.specs.Cases.{withSpace, extended, g0, allow, companion, ask, cases, given, expectedOf, MarkedCases, MarkedAdds, MarkedOrder}
+use Rattle.decision.specs.Cases.{withSpace, extended, g0, allow, companion, oneMember, banned, ask, cases, given, expectedOf, MarkedCases, MarkedAdds, MarkedOrder}
+use Rattle.decision.specs.Clauses.{separation, allowGroup, companionOfGroup, rosterOfGroup, backTransition, longRoster, clauseCases, ClauseCases, RefusalCases}
+use Rattle.decision.specs.Growth.{reordered}
 
 -- a predicate that is no companion
 other : (n : ℕ) → n ≡ 3 → n < 3 → ⊥
 other n e h = omega arith
 
-computed : MarkedCases × MarkedAdds × MarkedOrder
+computed : MarkedCases × MarkedAdds × MarkedOrder × ClauseCases × RefusalCases
 unfolding
     flatten wordAt words putWord need _orElse_ unlessRefused
     knownVersion limitOf countPlace countOf kindIn lengthOk isType isCondition listOk firstRecord shapeOk badMember badType badGroup badAllow badTransition badConstraint badField
@@ -32,14 +35,39 @@ unfolding
     sample empty sectionOf withRecord fieldFault newNumber ownFault addFault newImage overwrite bufferAfter
     anyOf allOf isIn setOf unionOf within touches sameSet
     ruleOf constraintOf requestOf live tests covers reaches separationBroken rosterBroken companionBroken broken fails firstAt decisionOf judge decide queryFault answerFault answer
-    withSpace extended g0 allow companion ask cases given expectedOf
-computed = (refl, record { separated = refl; rostered = refl; companied = refl; helped = refl; rules-stay = refl }, order)
+    withSpace extended g0 allow companion oneMember banned separation allowGroup backTransition longRoster companionOfGroup rosterOfGroup ask cases clauseCases given expectedOf reordered
+computed = (refl, adds, order, refl, refusals)
   where
+    adds : MarkedAdds
+    adds = record { separated = refl; rostered = refl; companied = refl; helped = refl; numbered = refl; rules-stay = refl }
+
+    refusals : RefusalCases
+    refusals =
+        record {
+          short = refl;
+          version-two = refl;
+          cut = refl;
+          rules-1025 = refl;
+          cut-said = refl;
+          condition-two = refl;
+          more = refl;
+          shape-first = refl;
+          field = refl;
+          no-room = refl;
+        }
+
     no-companion : NoCompanion (policyOf sample .constraints)
     no-companion c m e =
         ⊎-elim (λ k. other 2 (sym (ap (λ (r : List ℕ). getD r 10 0) k) ∙ e) (omega arith))
         (λ n. ⊎-elim (λ k. other 1 (sym (ap (λ (r : List ℕ). getD r 10 0) k) ∙ e) (omega arith)) List·Memᴰ·not-nil (List·Memᴰ·cases-cons n))
         (List·Memᴰ·cases-cons m)
+
+    ban-no-companion : NoCompanion (banned ∷ [])
+    ban-no-companion c m e = ⊎-elim (λ k. other 0 (sym (ap (λ (r : List ℕ). getD r 10 0) k) ∙ e) (omega arith)) List·Memᴰ·not-nil (List·Memᴰ·cases-cons m)
+
+    kept : (i : ℕ) → i < length (policyOf sample .groups) → getD (policyOf sample .groups) i [] ≡ getD (policyOf (extended sample oneMember) .groups) i []
+    kept zero h = refl
+    kept (suc i) h = absurd (omega arith)
 
     order : MarkedOrder
     order =
@@ -59,6 +87,17 @@ computed = (refl, record { separated = refl; rostered = refl; companied = refl; 
           no-companion = no-companion;
           itself = refl;
           member = refl;
+          turned = refl;
+          turned-constraints = refl;
+          new-group = record {
+            policy = record { rules = λ r m. m; constraints = λ r m. m; groups = record { count = omega arith; same = kept } };
+            class = refl;
+            action = refl;
+            source = refl;
+            dest = refl;
+            companions = inl no-companion;
+          };
+          ban-no-companion = ban-no-companion;
         }
 
 pub marked-cases : MarkedCases
@@ -70,19 +109,31 @@ marked-adds = computed .1
 pub marked-order : MarkedOrder
 marked-order = computed .2
 
--- the table's answers on 10, 21, 5, 1 and 10, g0, 5, 1, each by itself
-abbrev asked : ℕ → Query
-asked d = record { source = 10; dest = d; class = 5; action = 1 }
+pub clause-cases : ClauseCases
+clause-cases = computed .3
+
+pub refusal-cases : RefusalCases
+refusal-cases = computed .4
+
+-- some of the table's answers, each by itself
+abbrev asked : ℕ → ℕ → ℕ → ℕ → Query
+asked s d c a = record { source = s; dest = d; class = c; action = a }
 
 pub record Answers : Type 0 where
-  pub member : answer sample (asked 21) ≡ gives (permitted 0)
-  pub group : answer sample (asked g0) ≡ gives (permitted 0)
-  pub rostered : answer (extended sample (allow 14 g0 7 7)) (asked 21) ≡ gives (unknown 0 0)
-  pub companied : answer (extended sample companion) (asked 21) ≡ gives (unknown 0 2)
+  pub member : answer sample (asked 10 21 5 1) ≡ gives (permitted 0)
+  pub group : answer sample (asked 10 g0 5 1) ≡ gives (permitted 0)
+  pub transition : answer sample (asked 12 20 9 9) ≡ gives (permitted 2)
+  pub rostered : answer (extended sample (allow 14 g0 7 7)) (asked 10 21 5 1) ≡ gives (unknown 0 0)
+  pub companied : answer (extended sample companion) (asked 10 21 5 1) ≡ gives (unknown 0 2)
+  pub no-group-1 : answer sample (asked 32769 21 5 1) ≡ refused (refusal 8 0)
 
 pub marked-answers : MarkedCases → Answers
 unfolding cases given expectedOf ask
-marked-answers e = record { member = row 0; group = row 1; rostered = row 6; companied = row 8 }
+marked-answers e = record { member = row 0; group = row 1; transition = row 3; rostered = row 6; companied = row 8; no-group-1 = row 12 }
   where
     row : (n : ℕ) → getD (map given cases) n (gives notPermitted) ≡ getD (map expectedOf cases) n (gives notPermitted)
     row n = ap (λ (xs : List (Outcome Decision)). getD xs n (gives notPermitted)) e
+
+pub cases-many : length cases ≡ 14
+unfolding cases
+cases-many = refl

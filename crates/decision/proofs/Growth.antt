@@ -83,17 +83,17 @@ added-order b r by bytes e n q d a =
 -- ---- the same rules
 
 pub same-rules : SameRules
-same-rules l₁ l₂ q d₁ d₂ e₁ e₂ g c there back =
+same-rules l₁ l₂ q d₁ d₂ e₁ e₂ g c c′ there back =
     let grows : Grows (policyOf l₁) (policyOf l₂) =
     record {
       rules = there;
-      constraints = λ x m. subst (List·Memᴰ x) c m;
+      constraints = c;
       groups = subst (Keeps (policyOf l₁ .groups)) g (keeps-same (policyOf l₁ .groups));
     } in
     let shrinks : Grows (policyOf l₂) (policyOf l₁) =
     record {
       rules = back;
-      constraints = λ x m. subst (List·Memᴰ x) (sym c) m;
+      constraints = c′;
       groups = subst (Keeps (policyOf l₂ .groups)) (sym g) (keeps-same (policyOf l₂ .groups));
     } in
     let up = grown-order l₁ l₂ q d₁ d₂ e₁ e₂ grows (inr back) in
@@ -107,6 +107,13 @@ reverse-mem x (y ∷ xs) ys m =
     (λ k. inl (List·Memᴰ·tail k))
     (λ k. ⊎-elim (λ e. inl (List·Memᴰ·head e)) inr (List·Memᴰ·cases-cons k))
     (reverse-mem x xs (y ∷ ys) m)
+
+mem-reverse : (x : List ℕ) (xs ys : List (List ℕ)) → List·Memᴰ x xs ⊎ List·Memᴰ x ys → List·Memᴰ x (reverseAux xs ys)
+mem-reverse x [] ys (inl m) = absurd (List·Memᴰ·not-nil m)
+mem-reverse x [] ys (inr m) = m
+mem-reverse x (y ∷ xs) ys (inl m) =
+    mem-reverse x xs (y ∷ ys) (⊎-elim (λ e. inr (List·Memᴰ·head e)) inl (List·Memᴰ·cases-cons m))
+mem-reverse x (y ∷ xs) ys (inr m) = mem-reverse x xs (y ∷ ys) (inr (List·Memᴰ·tail m))
 
 length-aux : (xs ys : List (List ℕ)) → length (reverseAux xs ys) ≡ length xs + length ys
 length-aux [] ys = omega arith
@@ -123,6 +130,14 @@ module _ (p : Policy) where
       ⊎-elim (λ k. ⊎-elim (λ j. j) (λ j. absurd (List·Memᴰ·not-nil j)) (reverse-mem x (p .rules) [] k)) (λ k. k)
       (List·Memᴰ·append-cases (reverse (p .rules)) m)
 
+  reordered-constraints : Holds (p .constraints) (reordered p .constraints)
+  unfolding reordered
+  reordered-constraints x m = mem-reverse x (p .constraints) [] (inl m)
+
+  constraints-back : Holds (reordered p .constraints) (p .constraints)
+  unfolding reordered
+  constraints-back x m = ⊎-elim (λ j. j) (λ j. absurd (List·Memᴰ·not-nil j)) (reverse-mem x (p .constraints) [] m)
+
   -- what holds of each record holds of each record still
   reordered-all :
       (P : Section → List ℕ → Type 0) → ((s : Section) (r : List ℕ) → List·Memᴰ r (recordsOf p s) → P s r)
@@ -130,7 +145,8 @@ module _ (p : Policy) where
   unfolding reordered
   reordered-all P h Groups r m = h Groups r (rw (records-of-groups p) (rw (records-of-groups (reordered p)) at m))
   reordered-all P h Rules r m = h Rules r (rw (records-of-rules p) (reordered-back r (rw (records-of-rules (reordered p)) at m)))
-  reordered-all P h Constraints r m = h Constraints r (rw (records-of-constraints p) (rw (records-of-constraints (reordered p)) at m))
+  reordered-all P h Constraints r m =
+      h Constraints r (rw (records-of-constraints p) (constraints-back r (rw (records-of-constraints (reordered p)) at m)))
 
   reordered-formed : WellFormed p → length (p .rules) + length (p .rules) ≤ 1024 → WellFormed (reordered p)
   unfolding reordered
@@ -139,7 +155,7 @@ module _ (p : Policy) where
         version = w .version;
         few-groups = w .few-groups;
         few-rules = omega (arith, length-append (reverse (p .rules)) (p .rules), length-aux (p .rules) []);
-        few-constraints = w .few-constraints;
+        few-constraints = omega (arith, w .few-constraints, length-aux (p .constraints) []);
         records = reordered-all (λ s r. _) (w .records);
         bytes = reordered-all (λ s r. Bytes r) (w .bytes);
       }
@@ -147,10 +163,6 @@ module _ (p : Policy) where
   reordered-groups : reordered p .groups ≡ p .groups
   unfolding reordered
   reordered-groups = refl
-
-  reordered-constraints : reordered p .constraints ≡ p .constraints
-  unfolding reordered
-  reordered-constraints = refl
 
 pub rules-reordered : RulesReordered
 rules-reordered l by e h = (ok .1, level)
@@ -175,7 +187,8 @@ rules-reordered l by e h = (ok .1, level)
           answered = still .1;
           level =
               same-rules l l₂ q d (still .0) a (still .1) groups-same
-              (sym (ap (λ (x : Policy). x .constraints) (ok .2) ∙ reordered-constraints p))
+              (subst (λ (x : Policy). Holds (p .constraints) (x .constraints)) (sym (ok .2)) (reordered-constraints p))
+              (subst (λ (x : Policy). Holds (x .constraints) (p .constraints)) (sym (ok .2)) (constraints-back p))
               (subst (λ (x : Policy). Holds (p .rules) (x .rules)) (sym (ok .2)) (reordered-holds p))
               (subst (λ (x : Policy). Holds (x .rules) (p .rules)) (sym (ok .2)) (reordered-back p));
         }

@@ -282,7 +282,7 @@ query-order l q₁ q₂ d₁ d₂ e₁ e₂ c a s d =
     })
 
 -- a set is within itself
-within-refl : (s : List ℕ) → within s s ≡ true
+pub within-refl : (s : List ℕ) → within s s ≡ true
 unfolding within isIn
 within-refl s = allOf-intro (λ x. anyOf (eqb x) s) s (λ x m. anyOf-intro (eqb x) m (eq-eqb x x refl))
 

@@ -137,3 +137,7 @@ published-order (unknown r c) (unknown s d) = refl
 pub forget-unknown : (r c : ℕ) → forget (unknown r c) ≡ Dcs.UnKnown
 unfolding forget
 forget-unknown r c = refl
+
+pub forget-permitted : (r : ℕ) → forget (permitted r) ≡ Dcs.Permitted
+unfolding forget
+forget-permitted r = refl

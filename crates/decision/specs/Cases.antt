@@ -1,12 +1,16 @@
 -- The marked cases of the sample sheet (document 01), as one table with one claim. The images with records added are those
 -- that adding gives, in a buffer that has just the space.
+--     g0                the type field of group 0
+--     allow, companion, oneMember, banned   records
 --     withSpace l r     the image l in a buffer that has just the space for the record r as well
 --     extended l r      the buffer after adding r to it
---     cases             the table: image, query, and the answer that document 01 gives
+--     Case, ask         a row: image, query, and the answer that document 01 gives
+--     cases             the table
+--     given, expectedOf what the definitions give, and the row's answer
 --     MarkedCases       the definitions give these answers
 --     MarkedAdds        and the adds in it are accepted
 --     MarkedOrder       the sample and a rule more, and a query on group 0 and one on its member, meet the order rule's terms;
---                       the sample has no companion, and 21 is a member of its group
+--                       so does a query on a new group; the sample has no companion, and 21 is a member of its group
 use Prim.Native.Nat.{ℕ, _/_, _%_}
 use mathlib.Core.Path.{_≡_}
 use mathlib.Core.Bool.{true}
@@ -19,11 +23,12 @@ use Rattle.format.specs.Format.{countOf}
 use Rattle.format.specs.Policy.{policyOf}
 use Rattle.format.specs.Answers.{Outcome, refused, gives}
 use Rattle.format.specs.Sample.{sample, empty}
-use Rattle.extension.specs.Add.{addFault, bufferAfter}
+use Rattle.extension.specs.Add.{addFault, newNumber, bufferAfter}
 use Rattle.decision.specs.declared.Query.{Query}
 use Rattle.decision.specs.Sets.{isIn, setOf}
-use Rattle.decision.specs.Decide.{Decision, notPermitted, permitted, unknown, answer}
+use Rattle.decision.specs.Decide.{Decision, notPermitted, permitted, unknown, decide, answer}
 use Rattle.decision.specs.Order.{NoCompanion, Extends}
+use Rattle.decision.specs.Growth.{reordered}
 
 unfoldable pub withSpace : List ℕ → List ℕ → List ℕ
 withSpace l r = l ++ replicate (length r) 0
@@ -40,6 +45,14 @@ allow s d c a = 11 ∷ 2 ∷ 0 ∷ s ∷ d / 256 ∷ d % 256 ∷ 0 ∷ c ∷ 0 �
 
 unfoldable pub companion : List ℕ
 companion = 11 ∷ 4 ∷ 0 ∷ 5 ∷ 0 ∷ 1 ∷ 0 ∷ 10 ∷ 0 ∷ 21 ∷ 3 ∷ []
+
+-- a group of one member, 21
+unfoldable pub oneMember : List ℕ
+oneMember = 4 ∷ 1 ∷ 0 ∷ 21 ∷ []
+
+-- a ban on class 5, action 1, arguments 10 and 21
+unfoldable pub banned : List ℕ
+banned = 11 ∷ 4 ∷ 0 ∷ 5 ∷ 0 ∷ 1 ∷ 0 ∷ 10 ∷ 0 ∷ 21 ∷ 0 ∷ []
 
 pub record Case : Type 0 where
   pub image : List ℕ
@@ -81,7 +94,8 @@ pub record MarkedAdds : Type 0 where
   pub rostered : addFault (withSpace sample (allow 14 g0 7 7)) (allow 14 g0 7 7) ≡ none
   pub companied : addFault (withSpace sample companion) companion ≡ none
   pub helped : addFault (withSpace (extended sample companion) (allow 21 10 5 9)) (allow 21 10 5 9) ≡ none
-  -- a constraint leaves the rules
+  -- the companion is constraint 2, and leaves the rules
+  pub numbered : newNumber (withSpace sample companion) companion ≡ 2
   pub rules-stay : countOf (extended sample companion) Rules ≡ 4
 
 pub record MarkedOrder : Type 0 where
@@ -91,3 +105,13 @@ pub record MarkedOrder : Type 0 where
   pub no-companion : NoCompanion (policyOf sample .constraints)
   pub itself : isIn 10 (setOf (policyOf sample .groups) 10) ≡ true
   pub member : isIn 21 (setOf (policyOf sample .groups) g0) ≡ true
+  -- the other order is another: rule 0 is then rule 3, and constraint 1 constraint 0
+  pub turned : decide (reordered (policyOf sample)) (record { source = 10; dest = 21; class = 5; action = 1 }) ≡ permitted 3
+  pub turned-constraints :
+      decide (reordered (policyOf (extended sample (allow 10 30 5 3)))) (record { source = 20; dest = 30; class = 5; action = 2 }) ≡ unknown 3 0
+  -- the second query may name a group that only the second policy has
+  pub new-group :
+      Extends (policyOf sample) (record { source = 10; dest = g0; class = 5; action = 1 })
+      (policyOf (extended sample oneMember)) (record { source = 10; dest = 0x8001; class = 5; action = 1 })
+  -- a policy with a ban has no companion
+  pub ban-no-companion : NoCompanion (banned ∷ [])

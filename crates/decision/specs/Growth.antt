@@ -45,13 +45,14 @@ AddedOrder =
 abbrev pub SameRules : Type 0
 SameRules =
     (l₁ l₂ : List ℕ) (q : Query) (d₁ d₂ : Decision) → answer l₁ q ≡ gives d₁ → answer l₂ q ≡ gives d₂
-    → policyOf l₁ .groups ≡ policyOf l₂ .groups → policyOf l₁ .constraints ≡ policyOf l₂ .constraints
+    → policyOf l₁ .groups ≡ policyOf l₂ .groups → Holds (policyOf l₁ .constraints) (policyOf l₂ .constraints)
+    → Holds (policyOf l₂ .constraints) (policyOf l₁ .constraints)
     → Holds (policyOf l₁ .rules) (policyOf l₂ .rules) → Holds (policyOf l₂ .rules) (policyOf l₁ .rules)
     → height d₁ ≡ height d₂
 
 unfoldable pub reordered : Policy → Policy
 reordered p =
-    record { version = p .version; groups = p .groups; rules = reverse (p .rules) ++ p .rules; constraints = p .constraints }
+    record { version = p .version; groups = p .groups; rules = reverse (p .rules) ++ p .rules; constraints = reverse (p .constraints) }
 
 -- the same height on two images
 pub record DecidedLevel (l : List ℕ) (q : Query) (d : Decision) : Type 0 where

@@ -6,3 +6,4 @@ pub mod Growth
 pub mod Filled
 pub mod Tepla
 pub mod Cases
+pub mod Clauses

@@ -7,7 +7,8 @@
 --     with-sound           a sound policy with one formed record more is sound
 --     add-image            adding to an image with bytes behind it
 --     buffer-inserted      the buffer after adding, as the bytes are moved and written
---     added-accepted, groups-kept   claims AddedAccepted and GroupsKept
+--     added-accepted, number-named, groups-kept, rest-stays, refused-unchanged   claims AddedAccepted, NumberNamed, GroupsKept,
+--                          RestStays, RefusedUnchanged
 use Prim.Native.Nat.{ℕ, _+_, _-_, _≤_, _<_}
 use mathlib.Core.Path.{_≡_, refl, sym, subst, ap, _∙_}
 use mathlib.Core.Logic.{_⊎_, inl, inr, ⊎-elim}
@@ -15,8 +16,8 @@ use mathlib.Core.Bool.{true}
 use mathlib.Core.Option.{Option, none, some}
 use mathlib.Core.List.{List, [], _∷_, _++_, List·Memᴰ, Memᴰ·append-left, List·Memᴰ·append-cases, List·Memᴰ·eq-of-singleton}
 use native.Mathlib.Omega.{arith}
-use lib.ListN.{length, getD, drop, length-append, List·getD-append}
-use lib.Seq.{drop-append-add}
+use lib.ListN.{length, getD, drop, length-append, length-drop, List·getD-append}
+use lib.Seq.{drop-append-add, drop-at, getD-append-add}
 use lib.Dec.{leb, ltb}
 use borrow.Author.Tests.{leb-true, ltb-true, eq-eqb, ne-eqb, le-leb, lt-ltb}
 use Rattle.format.specs.declared.Section.{Section}
@@ -36,7 +37,7 @@ use Rattle.format.proofs.Images.{Sound, policy-sound, image-of-policy, policy-o
 use Rattle.format.proofs.Front.{front-accepted, front-length, front-count, front-split, front-bytes, front-of, image-in-of, front-of-length, front-of-count}
 use Rattle.extension.specs.Add.{sectionOf, withRecord, fieldFault, newNumber, ownFault, addFault, newImage, overwrite, bufferAfter}
 use Rattle.extension.specs.Inner.Splice.{inserted, endOfSection}
-use Rattle.extension.specs.Claims.{AddedAccepted, GroupsKept}
+use Rattle.extension.specs.Claims.{AddedAccepted, NumberNamed, GroupsKept, RestStays, RefusedUnchanged}
 use Rattle.extension.proofs.Splices.{before, section-end, length-with, inserted-image}
 
 -- ---- the section of a record
@@ -324,6 +325,23 @@ module _ (b r : List ℕ) (by : Bytes b) (e : addFault b r ≡ none) where
       ∙ inserted-image s p r t
       ∙ sym buffer-image
 
+  -- the new image and what lies past it
+  after-is : bufferAfter b r ≡ newImage b r ++ drop (length (newImage b r)) b
+  unfolding bufferAfter overwrite
+  after-is = unless-accepted _ _ e
+
+  new-fits : length (newImage b r) ≤ length b
+  unfolding newImage p s
+  new-fits = omega (arith, with-length s p r, room, ap length buffer-is)
+
+  after-rest : (drop (length (newImage b r)) (bufferAfter b r) ≡ drop (length (newImage b r)) b) × (length (bufferAfter b r) ≡ length b)
+  after-rest =
+      let n : ℕ = length (newImage b r) in
+      let h = new-fits in (
+        ap (drop n) after-is ∙ drop-at (newImage b r) (drop n b) n refl,
+        ap length after-is ∙ length-append (newImage b r) (drop n b) ∙ rw (length-drop n b) (omega arith),
+      )
+
   module _ (bytes : Bytes r) where
     with-accepted : check (imageOf (withRecord s p r)) ≡ none
     with-accepted = image-accepted (withRecord s p r) (with-sound p r s sound formed bytes few)
@@ -343,6 +361,25 @@ module _ (b r : List ℕ) (by : Bytes b) (e : addFault b r ≡ none) where
         rw buffer-image
         (ap policyOf (image-in-of (imageOf (withRecord s p r)) (drop (length r) t) with-accepted)
         ∙ policy-of-image (withRecord s p r) (with-sound p r s sound formed bytes few))
+
+    after-number : getD (recordsOf (policyOf (imageIn (bufferAfter b r))) s) (newNumber b r) [] ≡ r
+    unfolding newNumber s
+    after-number =
+        let k : countOf b s ≡ length (recordsOf p s) + 0 = omega (arith, counts s) in
+        ap (λ (q : Policy). getD (recordsOf q s) (countOf b s) []) after-policy
+        ∙ ap (λ (xs : List (List ℕ)). getD xs (countOf b s) []) (with-records p r s)
+        ∙ ap (λ (n : ℕ). getD (recordsOf p s ++ (r ∷ [])) n []) k
+        ∙ getD-append-add (recordsOf p s) (r ∷ []) 0 []
+
+pub number-named : NumberNamed
+unfolding s
+number-named b r by bytes e = after-number b r by e bytes
+
+pub rest-stays : RestStays
+rest-stays b r by e = after-rest b r by e
+
+pub refused-unchanged : RefusedUnchanged
+refused-unchanged b r f e = buffer-refused b r f e
 
 pub added-accepted : AddedAccepted
 unfolding p s

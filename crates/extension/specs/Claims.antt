@@ -3,20 +3,24 @@
 --     allRecords p      the records of a policy in order: groups, rules, constraints
 --     AddedAccepted     adding to an accepted image gives an accepted image, whose policy has the record last in its
 --                       section and is otherwise the same; and of bytes it makes bytes
---     GroupsKept        and whose groups have their old numbers
+--     NumberNamed       that record's number is the one answered
+--     GroupsKept        groups have their old numbers
+--     RestStays         the bytes past the new image stay, and the buffer is as long as it was
+--     RefusedUnchanged  a refused add changes no byte
 --     RoundTrip         adding an accepted policy's records in order to the empty policy, in a buffer that holds it,
 --                       gives it byte for byte, and the bytes past it stay
 --     RoundTripExact    a buffer that has just the space is enough
 use Prim.Native.Nat.{ℕ, _≤_, _<_}
 use mathlib.Core.Path.{_≡_}
-use mathlib.Core.Option.{none}
+use mathlib.Core.Option.{none, some}
 use mathlib.Core.List.{List, [], _∷_, _++_}
-use lib.ListN.{length, getD}
+use lib.ListN.{length, getD, drop}
+use Rattle.format.specs.declared.Refusal.{Refusal}
 use Rattle.format.specs.Bytes.{Bytes}
-use Rattle.format.specs.Policy.{Policy, policyOf}
+use Rattle.format.specs.Policy.{Policy, recordsOf, policyOf}
 use Rattle.format.specs.Check.{imageIn, check, checkFront}
 use Rattle.format.specs.Sample.{empty}
-use Rattle.extension.specs.Add.{sectionOf, withRecord, addFault, bufferAfter, overwrite}
+use Rattle.extension.specs.Add.{sectionOf, withRecord, addFault, newNumber, newImage, bufferAfter, overwrite}
 
 unfoldable pub addAll : List ℕ → List (List ℕ) → List ℕ
 addAll b [] = b
@@ -37,6 +41,19 @@ GroupsKept =
     (b r : List ℕ) → Bytes b → Bytes r → addFault b r ≡ none
     → (n : ℕ) → n < length (policyOf (imageIn b) .groups)
     → getD (policyOf (imageIn (bufferAfter b r)) .groups) n [] ≡ getD (policyOf (imageIn b) .groups) n []
+
+abbrev pub NumberNamed : Type 0
+NumberNamed =
+    (b r : List ℕ) → Bytes b → Bytes r → addFault b r ≡ none
+    → getD (recordsOf (policyOf (imageIn (bufferAfter b r))) (sectionOf (getD r 1 0))) (newNumber b r) [] ≡ r
+
+abbrev pub RestStays : Type 0
+RestStays =
+    (b r : List ℕ) → Bytes b → addFault b r ≡ none
+    → (drop (length (newImage b r)) (bufferAfter b r) ≡ drop (length (newImage b r)) b) × (length (bufferAfter b r) ≡ length b)
+
+abbrev pub RefusedUnchanged : Type 0
+RefusedUnchanged = (b r : List ℕ) (f : Refusal) → addFault b r ≡ some f → bufferAfter b r ≡ b
 
 abbrev pub RoundTrip : Type 0
 RoundTrip =

@@ -33,7 +33,7 @@ use Rattle.format.specs.Check.{sectionFault, countFault, headerFault, bo
 use Rattle.format.specs.Give.{giveFault, givenRecord}
 use Rattle.format.specs.Claims.{GivenAt, RecordsGiven, givenFrom, AllGiven, NoneGiven, EmptyTells}
 use Rattle.format.proofs.Tests.{both, and-true}
-use Rattle.format.proofs.Chain.{orElse-split, orElse-none, orElse-next, need-true, need-none, need-some}
+use Rattle.format.proofs.Chain.{orElse-split, orElse-none, orElse-next, orElse-first, need-true, need-none, need-some}
 use Rattle.format.specs.Inner.Places.{Stands}
 use Rattle.format.proofs.Shapes.{Formed, stands, record-part}
 use Rattle.format.proofs.Records.{place-snoc, place-least, records-length, records-nth, section-formed, section-rest}
@@ -246,3 +246,14 @@ given-none l s n e = rw e
 
 pub empty-tells : EmptyTells
 empty-tells = record { given = λ l s n e. given-at l s n e .nonempty; refused = λ l s n f e. given-none l s n e }
+
+-- ---- for callers above
+
+pub given-one : (l : List ℕ) (s : Section) (k : ℕ) → givenFrom l s k 1 ≡ givenRecord l s k ∷ []
+unfolding givenFrom
+given-one l s k = refl
+
+-- a refused image gives nothing, for the image's own cause
+pub give-image : (l : List ℕ) (s : Section) (n : ℕ) {f : Refusal} → check l ≡ some f → giveFault l s n ≡ some f
+unfolding giveFault
+give-image l s n e = orElse-first _ e

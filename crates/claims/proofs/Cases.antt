@@ -1,0 +1,73 @@
+-- Facts of values that are written out, by computation. Assumes nothing.
+use Prim.Native.Nat.{ℕ}
+use native.Mathlib.Omega.{arith}
+use mathlib.Core.Path.{_≡_, refl, sym, _∙_}
+use mathlib.Core.Option.{none}
+use mathlib.Core.List.{List, [], _∷_}
+use lib.ListN.{length, getD, replicate}
+use Rattle.format.specs.declared.Section.the-variants.{Rules, Constraints}
+use Rattle.format.specs.Bytes.{Bytes, wordAt, words}
+use Rattle.format.specs.Check.{check, imageIn}
+use Rattle.format.specs.Claims.{typeFields}
+use Rattle.format.specs.Sample.{sample, empty}
+use Rattle.format.proofs.ByCase.{kind-constraints}
+use Rattle.format.proofs.Bytes.{bytes-of}
+use Rattle.format.proofs.Front.{image-in-of}
+use Rattle.extension.specs.Add.{sectionOf}
+use Rattle.extension.proofs.Adds.{section-of}
+use Rattle.decision.specs.Cases.{g0, allow, companion, withSpace}
+
+pub empty-nine : length empty ≡ 9
+unfolding empty
+empty-nine = refl
+
+pub rule-fields : typeFields (allow 14 g0 7 7) ≡ 14 ∷ g0 ∷ []
+unfolding typeFields wordAt words allow g0
+rule-fields = refl
+
+pub roster-fields : typeFields (13 ∷ 4 ∷ 0 ∷ 5 ∷ 0 ∷ 1 ∷ 0 ∷ 10 ∷ 0 ∷ 21 ∷ 2 ∷ 0 ∷ 11 ∷ []) ≡ 10 ∷ 21 ∷ 11 ∷ []
+unfolding typeFields wordAt words
+roster-fields = refl
+
+-- ---- the companion
+
+pub companion-bytes : Bytes companion
+unfolding companion
+companion-bytes = bytes-of companion refl
+
+pub companion-space : Bytes (withSpace sample companion)
+unfolding withSpace sample companion
+companion-space = bytes-of (withSpace sample companion) refl
+
+pub companion-image : check sample ≡ none → imageIn (withSpace sample companion) ≡ sample
+unfolding withSpace
+companion-image e = image-in-of sample (replicate (length companion) 0) e
+
+pub companion-length : length (withSpace sample companion) ≡ 91
+unfolding withSpace sample companion
+companion-length = refl
+
+pub companion-section : sectionOf (getD companion 1 0) ≡ Constraints
+unfolding companion
+companion-section = section-of Constraints 4 (kind-constraints 4 refl)
+
+-- a constraint is no rule
+pub companion-no-rule : sectionOf (getD companion 1 0) ≡ Rules → ⊥
+companion-no-rule e = no-rule (sym companion-section ∙ e)
+  where
+    no-rule : Constraints ≡ Rules → ⊥
+    no-rule k = (let z : _≡_ {A = ℕ} 0 1 = cc in omega arith)
+
+-- ---- the rule
+
+pub rule-bytes : Bytes (allow 14 g0 7 7)
+unfolding allow g0
+rule-bytes = bytes-of (allow 14 g0 7 7) refl
+
+pub rule-space : Bytes (withSpace sample (allow 14 g0 7 7))
+unfolding withSpace sample allow g0
+rule-space = bytes-of (withSpace sample (allow 14 g0 7 7)) refl
+
+pub rule-image : check sample ≡ none → imageIn (withSpace sample (allow 14 g0 7 7)) ≡ sample
+unfolding withSpace
+rule-image e = image-in-of sample (replicate (length (allow 14 g0 7 7)) 0) e

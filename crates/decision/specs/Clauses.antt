@@ -1,0 +1,79 @@
+-- Clauses of document 01 that no marked case meets, as a second table, and one refusal of each number. Worked out by hand from the
+-- clauses; `crates/cases` and `tests/` run these and more.
+--     separation, allowGroup, companionOfGroup, rosterOfGroup, backTransition, longRoster   records
+--     clauseCases       a ban; a companion and a roster that touch; 9, 8 before 9, 1 before both; a separation by one rule, and by sources
+--                       that are the same set and not only within one another; a transition that is not live; a list of two types
+--     ClauseCases       the definitions give these answers
+--     RefusalCases      document 01's unmarked refusals, and one of each number that the check and adding have
+use Prim.Native.Nat.{ℕ}
+use mathlib.Core.Path.{_≡_}
+use mathlib.Core.Option.{some}
+use mathlib.Core.List.{List, [], _∷_, _++_, map}
+use lib.ListN.{take, set}
+use Rattle.format.specs.Refusals.{refusal}
+use Rattle.format.specs.Check.{check}
+use Rattle.format.specs.Answers.{refused, gives}
+use Rattle.format.specs.Sample.{sample}
+use Rattle.extension.specs.Add.{addFault}
+use Rattle.decision.specs.Decide.{permitted, unknown}
+use Rattle.decision.specs.Cases.{g0, allow, companion, oneMember, banned, extended, Case, ask, given, expectedOf}
+
+-- a separation on class 5, action 4, of 20 and 21: rule 0 (10 to g0) reaches both
+unfoldable pub separation : List ℕ
+separation = 11 ∷ 4 ∷ 0 ∷ 5 ∷ 0 ∷ 4 ∷ 0 ∷ 20 ∷ 0 ∷ 21 ∷ 1 ∷ []
+
+-- an allow rule from group n to a basic type, class 5, action 3
+unfoldable pub allowGroup : ℕ → ℕ → List ℕ
+allowGroup n d = 11 ∷ 2 ∷ 128 ∷ n ∷ 0 ∷ d ∷ 0 ∷ 5 ∷ 0 ∷ 3 ∷ 1 ∷ []
+
+-- a companion on class 5, action 1, of 10 and g0, and a roster of 10, of 10 and g0
+unfoldable pub companionOfGroup : List ℕ
+companionOfGroup = 11 ∷ 4 ∷ 0 ∷ 5 ∷ 0 ∷ 1 ∷ 0 ∷ 10 ∷ 128 ∷ 0 ∷ 3 ∷ []
+
+unfoldable pub rosterOfGroup : List ℕ
+rosterOfGroup = 13 ∷ 4 ∷ 0 ∷ 5 ∷ 0 ∷ 1 ∷ 0 ∷ 10 ∷ 128 ∷ 0 ∷ 2 ∷ 0 ∷ 10 ∷ []
+
+-- a transition 21 to 10
+unfoldable pub backTransition : List ℕ
+backTransition = 8 ∷ 3 ∷ 0 ∷ 21 ∷ 0 ∷ 10 ∷ 0 ∷ 5 ∷ []
+
+-- a roster on class 5, action 1, arguments 12 and 20, of 10 and 14
+unfoldable pub longRoster : List ℕ
+longRoster = 15 ∷ 4 ∷ 0 ∷ 5 ∷ 0 ∷ 1 ∷ 0 ∷ 12 ∷ 0 ∷ 20 ∷ 2 ∷ 0 ∷ 10 ∷ 0 ∷ 14 ∷ []
+
+unfoldable pub clauseCases : List Case
+clauseCases =
+    ask (extended sample banned) 10 21 5 1 (gives (unknown 0 2))
+    ∷ ask (extended sample banned) 10 g0 5 1 (gives (permitted 0))
+    ∷ ask (extended (extended sample companion) (allowGroup 0 10)) 10 21 5 1 (gives (permitted 0))
+    ∷ ask (extended (extended sample companionOfGroup) (allow 21 10 7 9)) 10 21 5 1 (gives (permitted 0))
+    ∷ ask (extended (extended sample rosterOfGroup) (allow 14 21 7 7)) 10 21 5 1 (gives (unknown 0 0))
+    ∷ ask (extended (extended sample rosterOfGroup) (allow 14 20 7 7)) 10 21 5 1 (gives (unknown 0 2))
+    ∷ ask sample 10 1024 5 1 (refused (refusal 9 0))
+    ∷ ask sample 1024 1024 5 1 (refused (refusal 8 0))
+    ∷ ask (5 ∷ []) 1024 1024 5 1 (refused (refusal 1 0))
+    ∷ ask (extended (extended sample (allow 20 21 5 4)) separation) 20 21 5 4 (gives (unknown 4 2))
+    ∷ ask (extended (extended sample (allowGroup 0 30)) (allow 21 20 5 3)) 20 30 5 2 (gives (permitted 1))
+    ∷ ask (extended (extended sample (allowGroup 0 20)) (allow 21 30 5 3)) 20 30 5 2 (gives (permitted 1))
+    ∷ ask (extended (extended (extended sample oneMember) (allowGroup 1 20)) (allow 21 30 5 3)) 20 30 5 2 (gives (unknown 1 1))
+    ∷ ask (extended sample backTransition) 10 21 5 1 (gives (permitted 0))
+    ∷ ask (extended (extended sample backTransition) companion) 10 21 5 1 (gives (unknown 0 2))
+    ∷ ask (extended (extended sample (allow 14 g0 7 7)) longRoster) 12 20 5 1 (gives (permitted 2))
+    ∷ ask (extended (extended sample (allow 15 g0 7 7)) longRoster) 12 20 5 1 (gives (unknown 2 2))
+    ∷ ask (extended (extended sample oneMember) (allow 14 0x8001 7 7)) 10 21 5 1 (gives (unknown 0 0))
+    ∷ []
+
+abbrev pub ClauseCases : Type 0
+ClauseCases = map given clauseCases ≡ map expectedOf clauseCases
+
+pub record RefusalCases : Type 0 where
+  pub short : check (take 8 sample) ≡ some (refusal 1 0)
+  pub version-two : check (set sample 0 2) ≡ some (refusal 2 0)
+  pub cut : check (take 79 sample) ≡ some (refusal 3 0)
+  pub rules-1025 : check (set (set sample 5 4) 6 1) ≡ some (refusal 4 5)
+  pub cut-said : check (take 79 (set sample 2 79)) ≡ some (refusal 5 69)
+  pub condition-two : check (set sample 25 2) ≡ some (refusal 6 25)
+  pub more : check (set sample 2 81 ++ (0 ∷ [])) ≡ some (refusal 7 80)
+  pub shape-first : addFault sample (set companion 0 12) ≡ some (refusal 10 0)
+  pub field : addFault sample (set companion 10 4) ≡ some (refusal 11 10)
+  pub no-room : addFault sample companion ≡ some (refusal 13 0)
