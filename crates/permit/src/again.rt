@@ -12,9 +12,9 @@ fn is_again(error: i32) -> bool
     error == libc::EAGAIN
 }
 
-// Waits a millisecond, or less where a signal comes. The one function of the program over a struct behind a reference, which
-// the C library's nanosleep asks for: its proof walks the code by hand.
-fn pause() {
+// Waits a millisecond, or less where a signal comes. It lends structs by reference, as the C library's nanosleep asks for: its
+// proof walks the code by hand.
+fn wait() {
     let asked = libc::types::timespec {
         tv_sec: 0,
         tv_nsec: 1000000,
@@ -30,7 +30,7 @@ fn pause() {
 pub(crate) fn retry() -> bool {
     let again = is_again(os::errno());
     if again {
-        pause();
+        wait();
     }
     again
 }

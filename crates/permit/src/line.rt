@@ -52,7 +52,7 @@ fn put_field(n: usize, output: &mut [u8], at: usize) -> usize
 }
 
 // A line of a letter and two numbers.
-fn put_pair(letter: u8, a: usize, b: usize, output: &mut [u8], at: usize) -> usize
+pub(crate) fn put_pair(letter: u8, a: usize, b: usize, output: &mut [u8], at: usize) -> usize
     requires { ⌜ at + 44 ≤ length (now output) ⌝ }
     ensures { λ r. ⌜ Put (now (output .entry)) (now (output .exit)) at r (pairLine letter a b) × (r ≤ at + 44) ⌝ }
 {

@@ -8,7 +8,8 @@ mod line; // line.rt: an answer as a line
 mod again; // again.rt: a call that failed
 mod source; // source.rt: what standard input holds
 mod sink; // sink.rt: standard output
-mod serve; // serve.rt: a line for each query
+mod answers; // answers.rt: the lines of queries and of what is left
+mod serve; // serve.rt: one turn after the other
 
 use crate::serve::refuse;
 use crate::serve::serve;

@@ -1,23 +1,18 @@
-// A line for each query, on an image that was checked once.
-use crate::line::put_line;
+// One turn after the other: a read, and the lines for it, on an image that was checked once.
+use crate::answers::put_answers;
+use crate::answers::put_ending;
+use crate::answers::put_refusal;
 use crate::sink::write_all;
 use crate::source::Got;
 use crate::source::keep_rest;
 use crate::source::read_between;
-use crate::word::word_at;
-use decision::Answer;
-use decision::Query;
 use format::Refusal;
 use format::Starts;
 ghost use mathlib.Core.Path.{_≡_};
-ghost use Prim.Native.Nat.{_+_, _*_, _≤_, _<_};
+ghost use Prim.Native.Nat.{_<_};
 ghost use lib.ListN.{length, take};
-ghost use Rattle.format.specs.Answers.{refused};
 ghost use Rattle.decide.specs.Ready.{Ready};
-ghost use Rattle.lines.specs.Lines.{queryAt, line, lines};
-ghost use Rattle.lines.specs.Output.{ending};
-ghost use Rattle.permit.specs.Inner.Put.{Front};
-ghost use Rattle.permit.specs.Inner.Turn.{Turned};
+ghost use Rattle.permit.specs.Inner.Turn.{Turned, Faulty};
 
 // Whether there may be more queries.
 pub(crate) enum Next {
@@ -31,66 +26,6 @@ pub(crate) struct Turn {
     pub kept: usize,
     pub end: usize,
     pub next: Next,
-}
-
-// The query at a place.
-fn query_at(input: &[u8], at: usize) -> Query
-    requires { ⌜ at + 7 < length (now input) ⌝ }
-    ensures { λ r. ⌜ r ≡ queryAt (now (input .entry)) at ⌝ }
-{
-    Query {
-        source: word_at(input, at),
-        dest: word_at(input, at + 2),
-        class: word_at(input, at + 4),
-        action: word_at(input, at + 6),
-    }
-}
-
-// Puts the lines of the input's whole queries at the front of the output, one behind the other, and tells how many bytes
-// they are. A line has at most 44 bytes, fewer than 6 for each byte of its query.
-fn put_answers(
-    image: &[u8],
-    groups: &[usize; 256],
-    s: Starts,
-    input: &[u8],
-    output: &mut [u8],
-) -> usize
-    requires { ⌜ Ready (now image) (now groups) s × (6 * length (now input) ≤ length (now output)) ⌝ }
-    ensures { λ r. ⌜ Front (now (output .exit)) r (lines (now (image .entry)) (now (input .entry))) ⌝ }
-{
-    let mut at: usize = 0;
-    let mut end: usize = 0;
-    while 8 <= input.len() - at {
-        let answer = decide::decide_prepared(image, groups, s, query_at(input, at));
-        end = put_line(answer, output, end);
-        at += 8;
-    }
-    end
-}
-
-// The line of a refusal.
-fn put_refusal(f: Refusal, output: &mut [u8]) -> usize
-    requires { ⌜ 44 ≤ length (now output) ⌝ }
-    ensures { λ r. ⌜ Front (now (output .exit)) r (line (refused f)) ⌝ }
-{
-    put_line(Answer::Refused(f), output, 0)
-}
-
-// The last line, where the input has ended and these bytes are left as a query.
-fn put_ending(left: &[u8], output: &mut [u8]) -> usize
-    requires { ⌜ 44 ≤ length (now output) ⌝ }
-    ensures { λ r. ⌜ Front (now (output .exit)) r (ending (now (left .entry))) ⌝ }
-{
-    if left.len() % 8 == 0 {
-        return 0;
-    }
-    put_refusal(
-        Refusal {
-            number: 15,
-            place: 0,
-        },
-        output,
-    )
 }
 
 // Reads once, behind the bytes that were kept, and makes the lines that are to be written for it. The whole queries' lines
@@ -176,8 +111,10 @@ pub(crate) fn serve(image: &[u8], groups: &[usize; 256], s: Starts)
     }
 }
 
-// Writes the line of a refusal.
-pub(crate) fn refuse(f: Refusal) {
+// Writes the line of an image's refusal.
+pub(crate) fn refuse(f: Refusal)
+    requires { ⌜ Faulty f ⌝ }
+{
     let mut text = [0u8; 44];
     let end = put_refusal(f, &mut text);
     write_all(&text[..end]);

@@ -1,10 +1,13 @@
 // Standard output.
 use crate::again::retry;
 use libc::STDOUT_FILENO;
+ghost use Rattle.permit.specs.Inner.Turn.{Due};
 
 // Writes all of the bytes and tells that it did, or says on standard error why it could not. A write that takes nothing is one
 // that failed.
-pub(crate) fn write_all(bytes: &[u8]) -> bool {
+pub(crate) fn write_all(bytes: &[u8]) -> bool
+    requires { ⌜ Due (now bytes) ⌝ }
+{
     let mut rest = bytes;
     let mut tries = u64::MAX;
     while 0 < tries {

@@ -3,6 +3,7 @@ use native.Mathlib.Omega.{arith}
 use mathlib.Core.Path.{sym}
 use lib.Seq.{length-take-le}
 use Rattle.decide.proofs.EngineLaws.{prepares-ready}
+use Rattle.permit.proofs.Turns.{faulty}
 use borrow.Author.Needs.{needs}
 use Rattle.permit.proofs.main.Statement.{statement}
 use Rattle.permit.proofs.main.Tie as tie
@@ -38,7 +39,7 @@ enum-known-sections : tie.Need-enum-known-sections
 enum-known-sections c = search needs
 
 refuse-requires : tie.Need-refuse-requires
-refuse-requires c κs = search needs
+refuse-requires c κs = faulty _ _ _ (c .before .before .before .before .prepare .ensures) (c .before .sections .given .1)
 
 enum-known-sections-2 : tie.Need-enum-known-sections-2
 enum-known-sections-2 c = search needs

@@ -2,6 +2,7 @@
 use native.Mathlib.Omega.{arith}
 use mathlib.Core.Path.{sym}
 use lib.Seq.{length-take-le}
+use Rattle.permit.proofs.Turns.{due-fault}
 use borrow.Author.Needs.{needs}
 use Rattle.permit.proofs.serve.refuse.Statement.{statement}
 use Rattle.permit.proofs.serve.refuse.Tie as tie
@@ -19,7 +20,7 @@ slice-aggregate-write-all : tie.Need-slice-aggregate-write-all
 slice-aggregate-write-all c = sym (length-take-le (c .before .before .put-refusal .result) (c .before .before .put-refusal .last .1 .0) (omega arith))
 
 write-all-requires : tie.Need-write-all-requires
-write-all-requires c κs = search needs
+write-all-requires c κs = due-fault _ (c .before .before .before .before .pre) (c .before .before .put-refusal .ensures .bytes)
 
 returns : tie.Need-returns
 returns c = search needs

@@ -5,11 +5,13 @@ use Prim.Native.Nat.{_<_}
 use mathlib.Core.Path.{_≡_, sym}
 use lib.ListN.{length}
 use lib.Seq.{length-take-le}
+use Rattle.permit.specs.Inner.Turn.{Left}
+use Rattle.permit.proofs.Turns.{left-none, left-more, due-turn}
 use Rattle.permit.proofs.serve.serve.Statement.{statement}
 use Rattle.permit.proofs.serve.serve.Tie as tie
 
 abbrev Inv-loop : tie.InvT-loop
-Inv-loop image groups s input₀ output₀ kept₀ turns₀ input output kept turns = (kept < 8) × (16384 ≡ length input) × (98304 ≡ length output)
+Inv-loop image groups s input₀ output₀ kept₀ turns₀ input output kept turns = (kept < 8) × (16384 ≡ length input) × (98304 ≡ length output) × Left input kept
 
 abbrev μ-loop : tie.MeasureT-loop
 μ-loop image groups s input₀ output₀ kept₀ turns₀ input output kept turns = turns
@@ -21,7 +23,7 @@ output-space-requires : tie.Need-output-space-requires Inv-loop μ-loop
 output-space-requires c κs = search needs
 
 loop-holds : tie.Need-loop-holds Inv-loop μ-loop
-loop-holds c = (omega arith, omega arith, omega arith)
+loop-holds c = (omega arith, omega arith, omega arith, left-none _)
 
 slice-aggregate-take-turn : tie.Need-slice-aggregate-take-turn Inv-loop μ-loop
 slice-aggregate-take-turn c = search needs
@@ -39,7 +41,7 @@ slice-aggregate-write-all : tie.Need-slice-aggregate-write-all Inv-loop μ-loop
 slice-aggregate-write-all c = sym (length-take-le (c .before .before .before .take-turn .result .end) (c .before .before .before .take-turn .last .1 .1 .1 .1 .1 .0) (omega (arith, c .before .before .before .take-turn .ensures .written .fits)))
 
 write-all-requires : tie.Need-write-all-requires Inv-loop μ-loop
-write-all-requires c κs = search needs
+write-all-requires c κs = due-turn (c .before .before .before .take-turn .ensures)
 
 returns : tie.Need-returns Inv-loop μ-loop
 returns c = tt
@@ -66,7 +68,7 @@ loop-less : tie.Need-loop-less Inv-loop μ-loop
 loop-less c = search needs
 
 loop-again : tie.Need-loop-again Inv-loop μ-loop
-loop-again c = (omega (arith, c .before .before .before .before .before .before .before .take-turn .ensures .few), omega arith, omega arith)
+loop-again c = (omega (arith, c .before .before .before .before .before .before .before .take-turn .ensures .few), omega arith, omega arith, left-more (c .before .before .before .before .before .before .before .take-turn .ensures) (c .enum-told .given .1))
 
 returns-4 : tie.Need-returns-4 Inv-loop μ-loop
 returns-4 c = tt

@@ -6,8 +6,8 @@ use mathlib.Core.List.{_++_}
 use lib.ListN.{length, take}
 use Rattle.lines.specs.Lines.{linesFrom, lines}
 use Rattle.permit.proofs.Laws.{lines-start, lines-next, lines-end}
-use Rattle.permit.proofs.serve.put_answers.Statement.{statement}
-use Rattle.permit.proofs.serve.put_answers.Tie as tie
+use Rattle.permit.proofs.answers.put_answers.Statement.{statement}
+use Rattle.permit.proofs.answers.put_answers.Tie as tie
 
 abbrev Inv-loop : tie.InvT-loop
 Inv-loop image groups s input output₀ at₀ end₀ output at end = (at ≤ length input) × (end ≤ 6 * at) × (length output ≡ length output₀) × (lines image input ≡ take end output ++ linesFrom image input ((length input - at) / 8) at)

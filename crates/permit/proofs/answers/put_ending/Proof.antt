@@ -2,8 +2,8 @@
 use borrow.Author.Needs.{needs}
 use native.Mathlib.Omega.{arith}
 use Rattle.permit.proofs.Laws.{ending-none, ending-some}
-use Rattle.permit.proofs.serve.put_ending.Statement.{statement}
-use Rattle.permit.proofs.serve.put_ending.Tie as tie
+use Rattle.permit.proofs.answers.put_ending.Statement.{statement}
+use Rattle.permit.proofs.answers.put_ending.Tie as tie
 
 returns : tie.Need-returns
 returns c = ending-none _ _ (c .if1 .taken)

@@ -1,8 +1,6 @@
--- `pause` meets its contract: a walk of its MIR, by hand. Two structs are made in locals. One is lent as `&` and the other as
--- `&mut`, each for a lifetime that the walk makes, and both references are passed to `libc::nanosleep`. Once the call has
--- returned the lifetimes are ended, and the memory of both locals is back: of the second at some value z, of which the contract
--- of `nanosleep` says nothing. All that the proof knows of `nanosleep` is that it meets its contract, which libc assumes. Assumes
--- nothing else.
+-- `wait` meets its contract: a walk of its MIR, by hand. Two structs are made in locals. One is lent as `&` and the other as `&mut`, each for a lifetime that the walk makes, and both references are passed to `libc::nanosleep`. Once the call has returned the lifetimes are ended, and the memory of both locals is back: of the second at some value z, of which the contract of `nanosleep` says nothing.
+-- All that the proof knows of `nanosleep` is that it meets its contract, which libc assumes.
+-- Assumes nothing else.
 use mathlib.Core.Path.{refl}
 use Prim.Native.Nat.{ℕ, _<_, _^_}
 use mathlib.Core.List.{List, [], _∷_}
@@ -49,10 +47,10 @@ use Rattle.libc.proofs.nanosleep as sleep
 use Rattle.libc.proofs.nanosleep.Symbol as sleep-def
 use Rattle.libc.proofs.nanosleep.Symbol.{name as #libc·nanosleep}
 use Rattle.libc.proofs.nanosleep.Met as sleep-thm
-use Rattle.permit.proofs.again.pause.Key.{name as #permit·pause}
-use Rattle.permit.proofs.again.pause as pause
-use Rattle.permit.proofs.again.pause.Statement as stated
-use Rattle.permit.proofs.again.pause.Code as code
+use Rattle.permit.proofs.again.wait.Key.{name as #permit·again·wait}
+use Rattle.permit.proofs.again.wait as wait
+use Rattle.permit.proofs.again.wait.Statement as stated
+use Rattle.permit.proofs.again.wait.Code as code
 
 -- the operand `intBig w n`
 big-lit : {M : Type 1} {𝓤 : URA M} {H : Heap 𝓤} {A : Atoms 𝓤} {K : Type 0} {W : Given 𝓤 H A} {Γ : List (Item 𝓤)} {E : Env 𝓤 H} → K → {w : Width} {n : ℕ} → Fits w n → Opd K W Γ E (intBig w n) (vint w n)
@@ -75,10 +73,10 @@ module _ {M : Type 1} (𝓤 : URA M) (H : Heap 𝓤) (A : Atoms 𝓤) (at-mem : 
 
 module _ {M : Type 1} (𝓤 : URA M) (H : Heap 𝓤) (A : Atoms 𝓤) (W : Given 𝓤 H A) (at-mem : Memory → SProp 𝓤) (run : Routine → Fun 𝓤) where
   abbrev Post : Val → SProp 𝓤
-  Post = walkOf 𝓤 H A pause.ended tt (pause.clauses 𝓤 H A at-mem run) .post ((tt, tt, tt, tt, tt), tt)
+  Post = walkOf 𝓤 H A wait.ended tt (wait.clauses 𝓤 H A at-mem run) .post ((tt, tt, tt, tt, tt), tt)
 
   exits : ent 𝓤 (emp 𝓤) (Post vunit)
-  exits = qed W [] ∵ suffices ! _ (ends-at 𝓤 H A pause.ended tt (pause.clauses 𝓤 H A at-mem run) W ((tt, tt, tt, tt, tt), tt) vunit tt tt tt) $
+  exits = qed W [] ∵ suffices ! _ (ends-at 𝓤 H A wait.ended tt (wait.clauses 𝓤 H A at-mem run) W ((tt, tt, tt, tt, tt), tt) vunit tt tt tt) $
       feqI ! (List Val) (vunit ∷ []) (vunit ∷ []) refl $ nothing ! $ join ! $ nothing ! $ join ! $ frame ! $ done !
 
   -- a cell that holds a span lies there as a `timespec`
@@ -140,18 +138,18 @@ module _ {M : Type 1} (𝓤 : URA M) (H : Heap 𝓤) (A : Atoms 𝓤) (W : Given
         move ! (12 ∷ 13 ∷ []) $ free1 ! $ move ! (3 ∷ 11 ∷ []) $ free1 ! $ move ! (0 ∷ 9 ∷ []) $ free1 ! $ move ! (6 ∷ 7 ∷ []) $ free1 ! $ move ! (4 ∷ 5 ∷ []) $ free1 ! $ move ! (2 ∷ 3 ∷ []) $ free1 ! $ free0 ! $
         keep ! [] $ by ! exits))))))))))))))
 
-  pause-walks : (C : Calls 𝓤 H) (Λ : Loops 𝓤 H) → FmC 𝓤 H (W .laws) C → Triple 𝓤 (C #libc·nanosleep) (Sleep 𝓤 H A at-mem run) → Walks 𝓤 H A pause.ended tt (WpFn 𝓤 H C Λ code.function) (pause.clauses 𝓤 H A at-mem run)
-  pause-walks C Λ fm known = walked 𝓤 H A pause.ended tt (pause.clauses 𝓤 H A at-mem run) (WpFn 𝓤 H C Λ code.function) (λ κs. tt) (λ κs. tt) (λ κs qs bounds a g are. via 𝓤 (sep 𝓤 (emp 𝓤) (emp 𝓤)) (fst∗ 𝓤 _ (emp 𝓤)) (walk C Λ fm known))
+  wait-walks : (C : Calls 𝓤 H) (Λ : Loops 𝓤 H) → FmC 𝓤 H (W .laws) C → Triple 𝓤 (C #libc·nanosleep) (Sleep 𝓤 H A at-mem run) → Walks 𝓤 H A wait.ended tt (WpFn 𝓤 H C Λ code.function) (wait.clauses 𝓤 H A at-mem run)
+  wait-walks C Λ fm known = walked 𝓤 H A wait.ended tt (wait.clauses 𝓤 H A at-mem run) (WpFn 𝓤 H C Λ code.function) (λ κs. tt) (λ κs. tt) (λ κs qs bounds a g are. via 𝓤 (sep 𝓤 (emp 𝓤) (emp 𝓤)) (fst∗ 𝓤 _ (emp 𝓤)) (walk C Λ fm known))
 
-pause-meets : {M : Type 1} (𝓤 : URA M) (H : Heap 𝓤) (A : Atoms 𝓤) (W : Given 𝓤 H A) (at-mem : Memory → SProp 𝓤) (run : Routine → Fun 𝓤) (𝓣 : Tables 𝓤 H) → Triple 𝓤 (𝓣 .C #libc·nanosleep) (Sleep 𝓤 H A at-mem run)
-    → Meets 𝓤 H A pause.signature (WpFn 𝓤 H (𝓣 .C) (𝓣 .Λ) code.function) (pause.spec 𝓤 H A at-mem run)
-pause-meets 𝓤 H A W at-mem run 𝓣 known = walk-meets 𝓤 H A pause.ended tt W tt (pause.clauses 𝓤 H A at-mem run) (WpFn 𝓤 H (𝓣 .C) (𝓣 .Λ) code.function) (WpFn-mono 𝓤 H (W .laws) 𝓣 code.function)
-    (pause-walks 𝓤 H A W at-mem run (𝓣 .C) (𝓣 .Λ) (fmOf 𝓤 H (W .laws) 𝓣) known)
+wait-meets : {M : Type 1} (𝓤 : URA M) (H : Heap 𝓤) (A : Atoms 𝓤) (W : Given 𝓤 H A) (at-mem : Memory → SProp 𝓤) (run : Routine → Fun 𝓤) (𝓣 : Tables 𝓤 H) → Triple 𝓤 (𝓣 .C #libc·nanosleep) (Sleep 𝓤 H A at-mem run)
+    → Meets 𝓤 H A wait.signature (WpFn 𝓤 H (𝓣 .C) (𝓣 .Λ) code.function) (wait.spec 𝓤 H A at-mem run)
+wait-meets 𝓤 H A W at-mem run 𝓣 known = walk-meets 𝓤 H A wait.ended tt W tt (wait.clauses 𝓤 H A at-mem run) (WpFn 𝓤 H (𝓣 .C) (𝓣 .Λ) code.function) (WpFn-mono 𝓤 H (W .laws) 𝓣 code.function)
+    (wait-walks 𝓤 H A W at-mem run (𝓣 .C) (𝓣 .Λ) (fmOf 𝓤 H (W .laws) 𝓣) known)
 
-pub pause-spec : {M : Type 1} → stated.statement M
+pub wait-spec : {M : Type 1} → stated.statement M
 unfolding code.routine tablesOf
-pause-spec 𝓤 H 𝓜 𝓖 𝓡 =
-    entered 𝓤 H (tripleOf 𝓤 H (𝓖 .A) pause.signature (pause.spec 𝓤 H (𝓖 .A) (𝓜 .mem) (𝓡 .run)))
-    (tables 𝓤 H 𝓜 𝓡 code.env .C) (tables 𝓤 H 𝓜 𝓡 code.env .Λ) #permit·pause code.function (code.unfolded 𝓤 H 𝓜 𝓡)
-    (pause-meets 𝓤 H (𝓖 .A) (givenOf 𝓤 H 𝓜 𝓖) (𝓜 .mem) (𝓡 .run) (tablesOf 𝓤 H 𝓜 (tables 𝓤 H 𝓜 𝓡 code.env))
+wait-spec 𝓤 H 𝓜 𝓖 𝓡 =
+    entered 𝓤 H (tripleOf 𝓤 H (𝓖 .A) wait.signature (wait.spec 𝓤 H (𝓖 .A) (𝓜 .mem) (𝓡 .run)))
+    (tables 𝓤 H 𝓜 𝓡 code.env .C) (tables 𝓤 H 𝓜 𝓡 code.env .Λ) #permit·again·wait code.function (code.unfolded 𝓤 H 𝓜 𝓡)
+    (wait-meets 𝓤 H (𝓖 .A) (givenOf 𝓤 H 𝓜 𝓖) (𝓜 .mem) (𝓡 .run) (tablesOf 𝓤 H 𝓜 (tables 𝓤 H 𝓜 𝓡 code.env))
     (cited 𝓤 H (Sleep 𝓤 H (𝓖 .A) (𝓜 .mem) (𝓡 .run)) 𝓜 𝓡 code.env #libc·nanosleep sleep-def.routine code.calls-libc·nanosleep (sleep-thm.met 𝓤 H 𝓜 𝓖 𝓡)))

@@ -1,7 +1,7 @@
 -- `query_at` meets its contract: a number for each field. Assumes nothing.
 use borrow.Author.Needs.{needs}
-use Rattle.permit.proofs.serve.query_at.Statement.{statement}
-use Rattle.permit.proofs.serve.query_at.Tie as tie
+use Rattle.permit.proofs.answers.query_at.Statement.{statement}
+use Rattle.permit.proofs.answers.query_at.Tie as tie
 
 word-at-requires : tie.Need-word-at-requires
 word-at-requires c κs = search needs
