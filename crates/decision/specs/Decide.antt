@@ -4,10 +4,12 @@
 --     live r              document 01's "live": an allow rule that is on
 --     tests a r           the tests that a rule makes of a query, in order; it covers the query where all pass
 --     covers a r          document 01's "covers"
+--     reaches s r         a live rule whose destination touches a set
 --     broken rs c         the predicate byte's part of a predicate is false, by the rules rs: `separationBroken`,
 --                         `rosterBroken`, `companionBroken`, and ban always
 --     fails rs a c        the constraint applies to the query, and its predicate is false
 --     firstAt f n l       the number, counted from n, of the first element that passes a test
+--     Decision, decisionOf   the three decisions, from the rule and the constraint that were found
 --     judge rs cs a       the decision: the lowest rule that covers the query, the lowest constraint that fails
 --     decide p q          the decision of a policy
 --     queryFault g q      refusals 8 and 9, where there are g groups

@@ -2,8 +2,10 @@
 --     AddedGrows        every accepted add does: nothing that the policy held is lost, and groups keep their numbers
 --     AddedOrder        so, after an accepted add, a query that had a decision has one that is no lower, if the policy has no companion
 --                       or the record is no rule
---     SameRules         policies of the same groups and constraints that hold each other's rules decide equally high, companions or not
---     reordered p       the policy p with its rules in the opposite order and then in their own, so that each stands twice
+--     DecidedAbove l q d   the query has a decision on l, and it is no lower than d; DecidedLevel: as high as d
+--     SameRules         policies of the same groups that hold each other's rules and constraints decide equally high, companions or not
+--     reordered p       the policy p with its rules in the opposite order and then in their own, so that each stands twice, and its
+--                       constraints in the opposite order
 --     RulesReordered    it is accepted where these are not too many, and decides equally high
 --     MemberOrder       a query on a group is decided no higher than one on a member of it
 use Prim.Native.Nat.{ℕ, _+_, _≤_, _<_}
@@ -54,7 +56,7 @@ unfoldable pub reordered : Policy → Policy
 reordered p =
     record { version = p .version; groups = p .groups; rules = reverse (p .rules) ++ p .rules; constraints = reverse (p .constraints) }
 
--- the same height on two images
+-- a decision on an image, as high as another
 pub record DecidedLevel (l : List ℕ) (q : Query) (d : Decision) : Type 0 where
   pub now : Decision
   pub answered : answer l q ≡ gives now

@@ -2,11 +2,13 @@
 -- document 01's sets, predicates, transitions and conditions for what the paper leaves to parameters. Lines of the two
 -- documents' texts are cited as 000:149.
 --     Dcs, compareDecisions, maximalDcs, maximum   decisions without numbers, their order, the greater, the greatest
+--     allows, transits         what an allow rule and a transition ask of a query
 --     evalRule a r             a query against a rule: R_EvalTE
 --     prdct rs a c             a constraint's predicate: true where it is satisfied
 --     evalConstraint rs a c    a query against a constraint: CSTE_EvalTE
 --     maximalPolicy d e        the combination: constraints play no part where no rule permits
 --     evalPolicy rs cs a       a query against a policy: TEPLCY_EvalTE
+--     evalQuery p q            the same, of a policy's records
 --     forget d                 our decision, its numbers forgotten
 --     PublishedMeaning         the two decide alike, for all rules, constraints and queries
 --     PublishedAnswer          and so the engine answers every valid query on an accepted policy

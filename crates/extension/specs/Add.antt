@@ -1,5 +1,6 @@
 -- Adding a record to the image that a buffer starts with (document 01, "Adding and giving records").
---     sectionOf k          the section of a record's kind
+--     sectionOf k          the section of a record's kind (of an unknown one, which 10 refuses first, the rules)
+--     fieldFault o         11, for a bad field
 --     withRecord s p r     the policy p with the record r at the end of a section
 --     addFault b r         refusals 1 to 7, then 10 to 13
 --     ownFault b r         10 to 13: the causes of the call's own
