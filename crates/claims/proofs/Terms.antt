@@ -1,12 +1,12 @@
 -- What meets the claims' terms, from the statement: no claim's own proof is cited here. Assumes nothing.
-use Prim.Native.Nat.{ℕ, suc, _+_, _≤_}
+use Prim.Native.Nat.{ℕ, _+_, _≤_}
 use native.Mathlib.Omega.{arith}
 use mathlib.Core.Path.{_≡_, refl, sym, subst, ap, ap₂, _∙_}
 use mathlib.Core.Logic.{inl, inr, ⊎-elim}
 use mathlib.Core.Bool.{true, false}
-use mathlib.Core.Option.{none, some}
-use mathlib.Core.List.{List, [], _∷_, _++_, map, List·Memᴰ, Memᴰ·append-left, List·Memᴰ·append-cases}
-use lib.ListN.{length, getD, take, drop, replicate, length-append, length-replicate}
+use mathlib.Core.Option.{some}
+use mathlib.Core.List.{List, [], _∷_, _++_, List·Memᴰ, Memᴰ·append-left, List·Memᴰ·append-cases}
+use lib.ListN.{length, getD, take, replicate, length-append, length-replicate}
 use lib.Dec.{leb}
 use Rattle.format.specs.declared.Section.{Section}
 use Rattle.format.specs.declared.Section.the-variants.{Rules, Constraints}
@@ -14,9 +14,9 @@ use Rattle.format.specs.Bytes.{Bytes}
 use Rattle.format.specs.Refusals.{refusal}
 use Rattle.format.specs.Format.{limitOf, countOf}
 use Rattle.format.specs.Policy.{Policy, recordsOf, imageOf, policyOf}
-use Rattle.format.specs.Check.{check, imageIn}
+use Rattle.format.specs.Check.{imageIn}
 use Rattle.format.specs.Answers.{gives}
-use Rattle.format.specs.Give.{giveFault, givenRecord}
+use Rattle.format.specs.Give.{giveFault}
 use Rattle.format.specs.Claims.{WellFormed, givenFrom}
 use Rattle.format.specs.Sample.{sample, empty}
 use Rattle.format.specs.Longest.{longest}
@@ -24,16 +24,16 @@ use Rattle.format.proofs.ByCase.{records-of-rules, records-of-constraints}
 use Rattle.format.proofs.Fields.{is-type}
 use Rattle.format.proofs.Accepted.{records-count, given-one, give-image}
 use Rattle.format.proofs.Longest.{longest-full}
-use Rattle.extension.specs.Add.{sectionOf, withRecord, newNumber, bufferAfter}
+use Rattle.extension.specs.Add.{sectionOf, withRecord, bufferAfter}
 use Rattle.extension.specs.Claims.{addAll, allRecords}
 use Rattle.extension.proofs.Adds.{with-records}
 use Rattle.extension.proofs.Trip.{overwrite-is}
 use Rattle.decision.specs.declared.Query.{Query}
-use Rattle.decision.specs.Sets.{anyOf, setOf, within}
-use Rattle.decision.specs.Decide.{Rule, ruleOf, Constraint, Request, requestOf, covers, Decision, notPermitted, permitted, unknown, judge, answer}
+use Rattle.decision.specs.Sets.{setOf, within}
+use Rattle.decision.specs.Decide.{Decision, notPermitted, permitted, unknown, answer}
 use Rattle.decision.specs.Order.{height}
 use Rattle.decision.specs.Lowest.{Names}
-use Rattle.decision.specs.Tepla.{Dcs, compareDecisions, forget, evalPolicy, evalQuery}
+use Rattle.decision.specs.Tepla.{Dcs, compareDecisions, forget, evalQuery}
 use Rattle.decision.specs.Growth.{reordered, DecidedAbove}
 use Rattle.decision.specs.Cases.{g0, allow, companion, oneMember, withSpace, extended}
 use Rattle.decision.proofs.Order.{height-permitted, height-unknown, keeps-same, within-refl}

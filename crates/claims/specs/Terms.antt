@@ -12,7 +12,6 @@ use mathlib.Core.Option.{none, some}
 use mathlib.Core.List.{List, [], _∷_, _++_, map, List·Memᴰ}
 use lib.ListN.{length, getD, take, drop, replicate}
 use Rattle.format.specs.declared.Section.{Section}
-use Rattle.format.specs.declared.Section.the-variants.{Rules}
 use Rattle.format.specs.Bytes.{Bytes}
 use Rattle.format.specs.Refusals.{refusal}
 use Rattle.format.specs.Format.{limitOf}

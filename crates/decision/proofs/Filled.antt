@@ -1,5 +1,5 @@
 -- No set is empty. Claims TypesFilled, FieldsFilled. Assumes nothing.
-use Prim.Native.Nat.{ℕ, _+_, _-_, _*_, _≤_, _<_}
+use Prim.Native.Nat.{ℕ, _-_, _<_}
 use native.Mathlib.Omega.{arith}
 use mathlib.Core.Path.{_≡_, subst}
 use mathlib.Core.Logic.{inl, inr}
@@ -12,14 +12,14 @@ use Rattle.format.specs.Bytes.{words}
 use Rattle.format.specs.Format.{countOf}
 use Rattle.format.specs.Policy.{policyOf, recordAt, placeOf}
 use Rattle.format.specs.Check.{check}
-use Rattle.format.specs.Claims.{IsType, IsGroup}
+use Rattle.format.specs.Claims.{IsGroup}
 use Rattle.format.proofs.Bytes.{length-words}
 use Rattle.format.proofs.Fields.{formed-is, record-group}
 use Rattle.format.proofs.Accepted.{record-formed, group-nth}
 use Rattle.format.proofs.Images.{group-count}
 use Rattle.format.proofs.References.{references-held}
 use Rattle.decision.specs.Sets.{setOf}
-use Rattle.decision.specs.Filled.{Filled, TypesFilled, FieldsFilled}
+use Rattle.decision.specs.Filled.{TypesFilled, FieldsFilled}
 
 group-filled : (r : List ℕ) (n : ℕ) → IsGroup r n → 0 < length (words (drop 2 r))
 group-filled r n g = omega (arith, g .size .1, g .some, length-words (drop 2 r), length-drop 2 r)

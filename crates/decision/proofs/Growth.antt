@@ -1,11 +1,11 @@
 -- What meets the order rule's terms. Claims AddedGrows, AddedOrder, SameRules, RulesReordered, MemberOrder. Assumes nothing.
-use Prim.Native.Nat.{ℕ, zero, suc, _+_, _≤_, _<_}
+use Prim.Native.Nat.{ℕ, _+_, _≤_, _<_}
 use native.Mathlib.Omega.{arith}
 use mathlib.Core.Path.{_≡_, refl, sym, subst, ap, _∙_}
 use mathlib.Core.Logic.{_⊎_, inl, inr, ⊎-elim}
 use mathlib.Core.Bool.{true}
 use mathlib.Core.Option.{none}
-use mathlib.Core.List.{List, [], _∷_, _++_, reverse, reverseAux, List·Memᴰ, List·Memᴰ·head, List·Memᴰ·tail, List·Memᴰ·not-nil, List·Memᴰ·cases-cons, Memᴰ·append-right, List·Memᴰ·append-cases}
+use mathlib.Core.List.{List, [], _∷_, reverse, reverseAux, List·Memᴰ, List·Memᴰ·head, List·Memᴰ·tail, List·Memᴰ·not-nil, List·Memᴰ·cases-cons, Memᴰ·append-right, List·Memᴰ·append-cases}
 use lib.ListN.{length, getD, length-append}
 use borrow.Author.Tests.{lt-ltb}
 use Rattle.format.specs.declared.Section.{Section}
@@ -25,9 +25,9 @@ use Rattle.extension.proofs.Adds.{with-groups, with-rules, with-constraints, ru
 use Rattle.decision.specs.declared.Query.{Query}
 use Rattle.decision.specs.Sets.{isIn, setOf, allOf, within}
 use Rattle.decision.specs.Decide.{Decision, answer}
-use Rattle.decision.specs.Order.{height, Holds, Keeps, Grows, NoCompanion}
-use Rattle.decision.specs.Growth.{AddedGrows, DecidedAbove, AddedOrder, SameRules, reordered, DecidedLevel, RulesReordered, MemberOrder}
-use Rattle.decision.proofs.Order.{answer-accepted, answer-types, keeps-same, grown-order, query-order, decided}
+use Rattle.decision.specs.Order.{Holds, Keeps, Grows}
+use Rattle.decision.specs.Growth.{AddedGrows, AddedOrder, SameRules, reordered, DecidedLevel, RulesReordered, MemberOrder}
+use Rattle.decision.proofs.Order.{answer-types, keeps-same, grown-order, query-order, decided}
 
 -- ---- adding
 

@@ -5,7 +5,6 @@ use Prim.Native.Nat.{ℕ, zero, suc, _+_, _*_, _≤_, _<_}
 use mathlib.Core.Path.{_≡_, refl, sym, subst, ap, _∙_}
 use mathlib.Core.Logic.{⊎-elim}
 use mathlib.Core.Bool.{true}
-use mathlib.Core.Option.{none}
 use mathlib.Core.List.{List, [], _∷_, _++_, flatten, List·Memᴰ, List·Memᴰ·not-nil, List·Memᴰ·cases-cons}
 use native.Mathlib.Omega.{arith}
 use lib.ListN.{length, replicate, length-append, length-replicate}
@@ -15,7 +14,7 @@ use Rattle.format.specs.declared.Section.the-variants.{Groups, Rules, Co
 use Rattle.format.specs.Bytes.{Bytes, wordAt, words, putWord}
 use Rattle.format.specs.Refusals.{need, _orElse_}
 use Rattle.format.specs.Format.{knownVersion, limitOf, kindIn, lengthOk, isType, isCondition, listOk, shapeOk, badMember, badType, badGroup, badAllow, badConstraint, badField}
-use Rattle.format.specs.Policy.{recordsOf, bodyOf, imageOf}
+use Rattle.format.specs.Policy.{recordsOf, bodyOf}
 use Rattle.format.specs.Longest.{rising, longGroup, longGroups, longRule, longConstraint, longest, LongestReached}
 use Rattle.format.proofs.Bytes.{bytes-nil, bytes-cons, bytes-append, bytes-word, word-back}
 use Rattle.format.proofs.Shapes.{Formed}

@@ -1,15 +1,14 @@
 -- However reads cut the input, the output is the same: claim AnyReads. Assumes nothing.
-use Prim.Native.Nat.{ℕ, _+_, _*_, _/_, _%_, _≤_, _<_}
+use Prim.Native.Nat.{ℕ, _+_, _<_}
 use native.Mathlib.Omega.{arith}
 use mathlib.Core.Path.{_≡_, refl, sym, ap, _∙_}
 use mathlib.Core.Option.{Option, none, some}
 use mathlib.Core.List.{List, [], _∷_, _++_, append-assoc, append-nil, flatten}
 use lib.ListN.{length, take, drop}
 use Rattle.format.specs.declared.Refusal.{Refusal}
-use Rattle.format.specs.Bytes.{wordAt}
-use Rattle.format.specs.Check.{check, imageIn, checkFront, leading}
+use Rattle.format.specs.Check.{imageIn, checkFront, leading}
 use Rattle.lines.specs.Lines.{lines}
-use Rattle.lines.specs.Output.{imageSize, restOf, ending, saidUnless, printed, served, ran}
+use Rattle.lines.specs.Output.{imageSize, restOf, ending, printed, served, ran}
 use Rattle.lines.specs.Claims.{AnyReads}
 use Rattle.lines.proofs.Queries.{lines-few, rest-length, lines-append, ending-append}
 use Rattle.lines.proofs.Image.{image-taken, image-size, image-front}

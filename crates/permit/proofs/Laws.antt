@@ -1,11 +1,11 @@
 -- Laws of the lines, and of what is put into a buffer. Assumes nothing.
-use Prim.Native.Nat.{ℕ, zero, suc, _+_, _-_, _*_, _/_, _%_, _^_, _≤_, _<_}
+use Prim.Native.Nat.{ℕ, suc, _+_, _-_, _*_, _/_, _%_, _^_, _≤_, _<_}
 use native.Mathlib.Numerals.{add-one}
 use native.Mathlib.Omega.{arith}
 use mathlib.Core.Path.{_≡_, refl, sym, subst, ap, _∙_}
 use mathlib.Core.List.{List, [], _∷_, _++_, append-assoc, append-nil}
-use lib.ListN.{length, getD, set, take, drop, length-append, length-drop, length-set}
-use lib.Seq.{append-snoc, drop-cons, getD-set-same, getD-set-other, getD-drop, drop-set-lt, take-suc, take-suc-set, take-add, take-length, length-take-le, drop-at}
+use lib.ListN.{length, getD, set, take, drop, length-append, length-drop}
+use lib.Seq.{getD-set-other, getD-drop, take-suc, take-suc-set, take-add, take-length, length-take-le, drop-at}
 use borrow.Author.Tests.{eq-eqb, ne-eqb}
 use Rattle.format.specs.Refusals.{refusal}
 use Rattle.format.specs.Answers.{refused}

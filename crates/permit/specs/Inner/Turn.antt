@@ -6,7 +6,7 @@
 --     Left input kept  what is kept between turns is what is left of bytes that came
 --     Faulty f         f is the refusal of an image
 --     Due s            s is to be written: it is what a turn says, or the line of an image's refusal
-use Prim.Native.Nat.{ℕ, _≤_, _<_}
+use Prim.Native.Nat.{ℕ, _<_}
 use mathlib.Core.Path.{_≡_}
 use mathlib.Core.Option.{some}
 use mathlib.Core.List.{List, [], _++_}

@@ -1,6 +1,5 @@
 -- `write_all` is safe and ends. Assumes nothing.
 use borrow.Author.Needs.{needs}
-use native.Mathlib.Omega.{arith}
 use Rattle.permit.proofs.sink.write_all.Statement.{statement}
 use Rattle.permit.proofs.sink.write_all.Tie as tie
 
