@@ -14,7 +14,8 @@ use Rattle.format.specs.Policy.{policyOf}
 use Rattle.format.specs.Answers.{gives}
 use Rattle.decision.specs.declared.Query.{Query}
 use Rattle.decision.specs.Sets.{anyOf}
-use Rattle.decision.specs.Decide.{Rule, ruleOf, Constraint, constraintOf, Request, requestOf, covers, fails, Decision, notPermitted, permitted, unknown, judge, answer}
+use Rattle.decision.specs.Decide.{Rule, ruleOf, Constraint, constraintOf, Request, requestOf, covers, fails}
+use Rattle.decision.specs.Decide.{Decision, notPermitted, permitted, unknown, judge, answer}
 
 module _ {A : Type 0} where
   pub record Lowest (f : A → Bool) (xs : List A) (n : ℕ) : Type 0 where
@@ -35,4 +36,5 @@ NamedAlone = (rs : List Rule) (cs : List Constraint) (a : Request) (d : Decision
 abbrev pub LowestAnswered : Type 0
 LowestAnswered =
     (l : List ℕ) (q : Query) (d : Decision) → answer l q ≡ gives d
-    → Names (map (ruleOf (policyOf l .groups)) (policyOf l .rules)) (map (constraintOf (policyOf l .groups)) (policyOf l .constraints)) (requestOf (policyOf l .groups) q) d
+    → Names (map (ruleOf (policyOf l .groups)) (policyOf l .rules)) (map (constraintOf (policyOf l .groups)) (policyOf l .constraints))
+    (requestOf (policyOf l .groups) q) d
