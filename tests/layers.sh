@@ -6,7 +6,8 @@
 #   image those of format, extend of extension, decide of decision, permit of lines. All else is cited by laws. Free are
 #   values that are written out (the sample, the empty policy, the marked cases' records), and the tables of worked cases,
 #   whose proof is that they are computed.
-# - what meets the claims' terms (crates/claims/proofs/Terms.antt) cites no claim's own proof, but the statement's fields.
+# - what meets the claims' terms (crates/claims/proofs, *Terms.antt and Cases.antt) cites no claim's own proof, but the
+#   statement's fields.
 # Prints file:line for each place that breaks one of these.
 bad=0
 fails() {
@@ -80,6 +81,7 @@ fails "$(find crates -path '*/src/*.rt' -exec awk "$brought"'
 claims=$(sed -nE 's/^ +[a-z0-9-]+ = [a-z]+\.([a-z0-9-]+);$/\1/p' crates/claims/proofs/Promises.antt)
 fails "$(awk -v claims="$claims" '
     BEGIN { n = split(claims, names, /\n/); for (i = 1; i <= n; i++) claim[names[i]] = 1; if (n < 40) print "no claims found" }
+    /^use Rattle·/ && /\.proofs\./ && !/\{/ { print FILENAME ":" FNR ": brings in a whole proof file" }
     /^use Rattle·/ && /\.proofs\./ {
         part = $0
         sub(/^[^{]*\{/, "", part)
@@ -87,5 +89,5 @@ fails "$(awk -v claims="$claims" '
         n = split(part, names, /, */)
         for (i = 1; i <= n; i++) if (names[i] in claim) print FILENAME ":" FNR ": cites the proof of " names[i]
     }
-' crates/claims/proofs/Terms.antt)"
+' crates/claims/proofs/*Terms.antt crates/claims/proofs/Cases.antt)"
 exit "$bad"

@@ -1,10 +1,10 @@
 -- Facts of values that are written out, by computation. Assumes nothing.
 use Prim.Native.Nat.{ℕ}
 use native.Mathlib.Omega.{arith}
-use mathlib.Core.Path.{_≡_, refl, sym, _∙_}
+use mathlib.Core.Path.{_≡_, refl, sym, ap, _∙_}
 use mathlib.Core.Option.{none}
-use mathlib.Core.List.{[], _∷_}
-use lib.ListN.{length, getD, replicate}
+use mathlib.Core.List.{List, [], _∷_, _++_, flatten, map}
+use lib.ListN.{length, getD, take, drop, replicate}
 use Rattle.format.specs.declared.Section.the-variants.{Rules, Constraints}
 use Rattle.format.specs.Bytes.{Bytes, wordAt, words}
 use Rattle.format.specs.Check.{check, imageIn}
@@ -15,7 +15,13 @@ use Rattle.format.proofs.Bytes.{bytes-of}
 use Rattle.format.proofs.Front.{image-in-of}
 use Rattle.extension.specs.Add.{sectionOf}
 use Rattle.extension.proofs.Adds.{section-of}
+use Rattle.format.specs.Answers.{gives}
+use Rattle.decision.specs.Decide.{unknown}
 use Rattle.decision.specs.Cases.{g0, allow, companion, withSpace}
+use Rattle.lines.specs.Lines.{line}
+use Rattle.lines.specs.Output.{imageSize, printed}
+use Rattle.lines.specs.Worked.{ascii, workedLines, lineOf, lineSaid, WorkedLines, asked, workedRuns, runOf, runSaid, WorkedRuns}
+use Rattle.claims.specs.Terms.{threeQueries, threeSaid, byBytes, tooShort}
 
 pub empty-nine : length empty ≡ 9
 unfolding empty
@@ -71,3 +77,65 @@ rule-space = bytes-of (withSpace sample (allow 14 g0 7 7)) refl
 pub rule-image : check sample ≡ none → imageIn (withSpace sample (allow 14 g0 7 7)) ≡ sample
 unfolding withSpace
 rule-image e = image-in-of sample (replicate (length (allow 14 g0 7 7)) 0) e
+
+pub cut-bytes : Bytes (take 79 sample)
+unfolding sample
+cut-bytes = bytes-of (take 79 sample) refl
+
+-- ---- the program's input and output
+
+abbrev behind : List ℕ → List ℕ
+behind i = drop (imageSize i) i
+
+pub bytes-behind : flatten (byBytes threeQueries) ≡ behind (sample ++ threeQueries)
+unfolding flatten wordAt words sample asked imageSize
+bytes-behind = refl
+
+pub two-behind : flatten (take 5 threeQueries ∷ [] ∷ drop 5 threeQueries ∷ []) ≡ behind (sample ++ threeQueries)
+unfolding flatten wordAt words sample asked imageSize
+two-behind = refl
+
+pub once-behind : flatten (threeQueries ∷ []) ≡ behind (sample ++ threeQueries)
+unfolding flatten wordAt words sample asked imageSize
+once-behind = refl
+
+pub none-behind : flatten {A = ℕ} [] ≡ behind empty
+unfolding flatten wordAt words empty imageSize
+none-behind = refl
+
+pub short-behind : flatten (drop 9 tooShort ∷ []) ≡ behind tooShort
+unfolding flatten wordAt words imageSize
+short-behind = refl
+
+pub header-nine : imageSize (take 8 sample) ≡ 9
+unfolding sample imageSize
+header-nine = refl
+
+pub lines-many : length workedLines ≡ 8
+unfolding workedLines
+lines-many = refl
+
+pub runs-many : length workedRuns ≡ 15
+unfolding workedRuns
+runs-many = refl
+
+module _ (e : WorkedLines) where
+  pub unknown-line : line (gives (unknown 1023 255)) ≡ ascii "U 1023 255\n"
+  unfolding workedLines lineOf lineSaid
+  unknown-line = ap (λ (xs : List (List ℕ)). getD xs 4 []) e
+
+module _ (e : WorkedRuns) where
+  run-row : (n : ℕ) → getD (map runOf workedRuns) n [] ≡ getD (map runSaid workedRuns) n []
+  run-row n = ap (λ (xs : List (List ℕ)). getD xs n []) e
+
+  pub empty-printed : printed empty ≡ []
+  unfolding workedRuns runOf runSaid ascii
+  empty-printed = run-row 2
+
+  pub short-printed : printed tooShort ≡ ascii "R 3 0\n"
+  unfolding workedRuns runOf runSaid
+  short-printed = run-row 12
+
+  pub three-printed : printed (sample ++ threeQueries) ≡ ascii threeSaid
+  unfolding workedRuns runOf runSaid
+  three-printed = run-row 14

@@ -1,3 +1,6 @@
 pub mod Promises
 pub mod Cases
+pub mod ReadingTerms
+pub mod DecidingTerms
+pub mod CallingTerms
 pub mod Terms

@@ -4,33 +4,45 @@
 --     query s d c a       a query
 --     sampleAnd r         the sample with the record r added
 --     AtLeast n l q       a decision on l is at least so high: 1 is Permitted, 2 UnKnown
---     ReadingMet, AddingMet, DecidingMet, OrderingMet   by the parts of the statement
-use Prim.Native.Nat.{ℕ, suc, _+_, _≤_}
+--     threeQueries        document 01's first, third and fourth query, and what the program prints for them
+--     byBytes b           reads that bring one byte each
+--     ReadingMet, AddingMet, DecidingMet, OrderingMet, PrintingMet, CallingMet   by the parts of the statement
+use Prim.Native.Nat.{ℕ, suc, _+_, _*_, _/_, _%_, _≤_}
+use Prim.Native.String.{String}
 use mathlib.Core.Path.{_≡_}
 use mathlib.Core.Bool.{true, false}
 use mathlib.Core.Option.{none, some}
 use mathlib.Core.List.{List, [], _∷_, _++_, map, List·Memᴰ}
 use lib.ListN.{length, getD, take, drop, replicate}
 use Rattle.format.specs.declared.Section.{Section}
+use Rattle.format.specs.declared.Section.the-variants.{Groups, Rules, Constraints}
+use Rattle.format.specs.declared.Refusal.{Refusal}
 use Rattle.format.specs.Bytes.{Bytes}
 use Rattle.format.specs.Refusals.{refusal}
 use Rattle.format.specs.Format.{limitOf}
 use Rattle.format.specs.Policy.{recordsOf, imageOf, policyOf, placeOf}
 use Rattle.format.specs.Check.{check, imageIn}
-use Rattle.format.specs.Answers.{refused, gives}
+use Rattle.format.specs.Answers.{refused, gives, outcome, extent}
 use Rattle.format.specs.Give.{giveFault, givenRecord}
 use Rattle.format.specs.Claims.{IsType, typeFields, WellFormed, givenFrom}
 use Rattle.format.specs.Sample.{sample, empty}
 use Rattle.format.specs.Longest.{longest}
-use Rattle.extension.specs.Add.{addFault, bufferAfter}
+use Rattle.extension.specs.Add.{addFault, newNumber, bufferAfter}
 use Rattle.extension.specs.Claims.{addAll, allRecords}
 use Rattle.decision.specs.declared.Query.{Query}
 use Rattle.decision.specs.Sets.{anyOf, isIn, setOf, within}
 use Rattle.decision.specs.Decide.{Rule, ruleOf, Constraint, Request, requestOf, covers, Decision, notPermitted, permitted, unknown, judge, answer}
 use Rattle.decision.specs.Order.{height, Keeps}
 use Rattle.decision.specs.Growth.{reordered, DecidedAbove}
-use Rattle.decision.specs.Cases.{g0, allow, companion, oneMember, extended, cases}
+use Rattle.decision.specs.Cases.{g0, allow, companion, oneMember, withSpace, extended, cases}
 use Rattle.decision.specs.Tepla.{Dcs, compareDecisions, forget, evalPolicy, evalQuery}
+use Rattle.io.specs.Digits.{Fewest}
+use Rattle.lines.specs.Lines.{width, decimal, line}
+use Rattle.lines.specs.Output.{imageSize, printed, ran}
+use Rattle.lines.specs.Claims.{readFrom}
+use Rattle.lines.specs.Worked.{ascii, workedLines, asked, workedRuns}
+use Rattle.mungaite.specs.Code.{partsOf, faultCode, decisionCode, recordCode, addCode}
+use Rattle.mungaite.specs.Host.{hostChecked, hostDecision, hostFound, hostAdded}
 
 abbrev pub query : ℕ → ℕ → ℕ → ℕ → Query
 query s d c a = record { source = s; dest = d; class = c; action = a }
@@ -40,6 +52,19 @@ sampleAnd r = extended sample r
 
 abbrev pub AtLeast : ℕ → List ℕ → Query → Type 0
 AtLeast n l q = (d : Decision) → answer l q ≡ gives d → n ≤ height d
+
+abbrev pub threeQueries : List ℕ
+threeQueries = asked 10 21 5 1 ++ (asked 13 21 5 1 ++ asked 12 20 9 9)
+
+abbrev pub threeSaid : String
+threeSaid = "P 0\nN\nP 2\n"
+
+abbrev pub byBytes : List ℕ → List (List ℕ)
+byBytes = map (λ b. b ∷ [])
+
+-- a length field of 8, and more
+abbrev pub tooShort : List ℕ
+tooShort = 1 ∷ 0 ∷ 8 ∷ replicate 20 0
 
 pub record ReadingMet : Type 0 where
   -- AcceptedIsWellFormed: the sample, which is the image of its policy; the empty policy; the longest image
@@ -151,8 +176,60 @@ pub record OrderingMet : Type 0 where
       (d : Decision) → answer (imageOf (reordered (policyOf (sampleAnd companion)))) (query 10 21 5 1) ≡ gives d → height d ≡ 2
   pub half-reordered : (l : List ℕ) → Bytes l → check l ≡ none → length (policyOf l .rules) ≤ 512 → check (imageOf (reordered (policyOf l))) ≡ none
 
+pub record PrintingMet : Type 0 where
+  -- DecimalFewest, DecimalRead: the largest usize
+  pub largest-fewest : Fewest 10 1 18446744073709551615 (width 18446744073709551615)
+  pub largest-read : readFrom 0 (decimal 18446744073709551615) ≡ 18446744073709551615
+  -- AnyReads: byte by byte, in two reads that cut a query with one between that brings nothing, in one; no query; a refused image
+  pub read-by-bytes : ran (sample ++ threeQueries) (byBytes threeQueries) ≡ ascii threeSaid
+  pub read-in-two : ran (sample ++ threeQueries) (take 5 threeQueries ∷ [] ∷ drop 5 threeQueries ∷ []) ≡ ascii threeSaid
+  pub read-at-once : ran (sample ++ threeQueries) (threeQueries ∷ []) ≡ ascii threeSaid
+  pub none-asked : ran empty [] ≡ []
+  pub refused-once : ran tooShort (drop 9 tooShort ∷ []) ≡ ascii "R 3 0\n"
+  -- the header is read first: 9 bytes, as long as there are fewer
+  pub header-first : imageSize (take 8 sample) ≡ 9
+  -- WorkedLines, WorkedRuns: all of them, and some by themselves
+  pub lines-all : length workedLines ≡ 8
+  pub runs-all : length workedRuns ≡ 15
+  pub unknown-line : line (gives (unknown 1023 255)) ≡ ascii "U 1023 255\n"
+  pub three-printed : printed (sample ++ threeQueries) ≡ ascii threeSaid
+
+pub record CallingMet : Type 0 where
+  -- CheckWhole, DecideWhole, RecordWhole, AddWhole: the limits of what is answered
+  pub refusal-fits : (l : List ℕ) → Bytes l → (f : Refusal) → check l ≡ some f → (f .number ≤ 65535) × (f .place ≤ 65535)
+  pub rule-fits : (l : List ℕ) → Bytes l → (q : Query) (r : ℕ) → answer l q ≡ gives (permitted r) → r ≤ 1023
+  pub unknown-fits : (l : List ℕ) → Bytes l → (q : Query) (r c : ℕ) → answer l q ≡ gives (unknown r c) → (r ≤ 1023) × (c ≤ 255)
+  pub record-fits :
+      (l : List ℕ) → Bytes l → (s : Section) (n : ℕ) → giveFault l s n ≡ none → (placeOf l s n ≤ 65535) × (length (givenRecord l s n) ≤ 130)
+  pub number-fits : (b : List ℕ) → Bytes b → (r : List ℕ) → addFault b r ≡ none → newNumber b r ≤ 1023
+  -- PartsWhole: the numbers that README.md gives
+  pub permitted-code : (r : ℕ) → r ≤ 65535 → decisionCode (gives (permitted r)) ≡ 1 * 4294967296 + r
+  pub unknown-code : (r c : ℕ) → r ≤ 65535 → c ≤ 65535 → decisionCode (gives (unknown r c)) ≡ 3 * 4294967296 + r * 65536 + c
+  -- PartsRead: the largest parts
+  pub parts-back :
+      (partsOf 3 65535 65535 / 4294967296 % 65536 ≡ 3) × (partsOf 3 65535 65535 / 65536 % 65536 ≡ 65535) × (partsOf 3 65535 65535 % 65536 ≡ 65535)
+  -- CheckRead: an image that is accepted, and one that is not
+  pub sample-read : hostChecked (faultCode (check sample)) ≡ none
+  pub cut-read : hostChecked (faultCode (check (take 79 sample))) ≡ some (refusal 3 0)
+  -- DecideRead: of each kind
+  pub member-read : hostDecision (decisionCode (answer sample (query 10 21 5 1))) ≡ gives (permitted 0)
+  pub transition-read : hostDecision (decisionCode (answer sample (query 12 20 9 9))) ≡ gives (permitted 2)
+  pub unknown-read : hostDecision (decisionCode (answer (sampleAnd companion) (query 10 21 5 1))) ≡ gives (unknown 0 2)
+  pub refused-read : hostDecision (decisionCode (answer sample (query 32769 21 5 1))) ≡ refused (refusal 8 0)
+  -- RecordRead: a section by its number; and one that there is not
+  pub group-read : (l : List ℕ) → Bytes l → (n : ℕ) → hostFound (recordCode l 0 n) ≡ outcome (giveFault l Groups n) (extent l Groups n)
+  pub rule-read : (l : List ℕ) → Bytes l → (n : ℕ) → hostFound (recordCode l 1 n) ≡ outcome (giveFault l Rules n) (extent l Rules n)
+  pub constraint-read :
+      (l : List ℕ) → Bytes l → (n : ℕ) → hostFound (recordCode l 2 n) ≡ outcome (giveFault l Constraints n) (extent l Constraints n)
+  pub no-section-read : (s n : ℕ) → 3 ≤ s → hostChecked (recordCode sample s n) ≡ some (refusal 14 0)
+  -- AddRead: the companion's number; no room
+  pub companion-read : hostAdded (addCode (withSpace sample companion) companion) ≡ gives 2
+  pub no-room-read : hostAdded (addCode sample companion) ≡ refused (refusal 13 0)
+
 pub record TermsMet : Type 0 where
   pub reading : ReadingMet
   pub adding : AddingMet
   pub deciding : DecidingMet
   pub ordering : OrderingMet
+  pub printing : PrintingMet
+  pub calling : CallingMet

@@ -58,6 +58,11 @@ workedRuns =
     ∷ record { input = take 8 empty; says = "R 1 0\n" }
     ∷ record { input = empty; says = "" }
     ∷ record { input = empty ++ replicate 1 0; says = "R 15 0\n" }
+    ∷ record { input = empty ++ replicate 2 0; says = "R 15 0\n" }
+    ∷ record { input = empty ++ replicate 3 0; says = "R 15 0\n" }
+    ∷ record { input = empty ++ replicate 4 0; says = "R 15 0\n" }
+    ∷ record { input = empty ++ replicate 5 0; says = "R 15 0\n" }
+    ∷ record { input = empty ++ replicate 6 0; says = "R 15 0\n" }
     ∷ record { input = empty ++ replicate 7 0; says = "R 15 0\n" }
     ∷ record { input = empty ++ replicate 8 0; says = "N\n" }
     ∷ record { input = empty ++ replicate 9 0; says = "N\nR 15 0\n" }

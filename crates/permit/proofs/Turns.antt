@@ -3,9 +3,8 @@ use Prim.Native.Nat.{ℕ, _+_, _≤_, _<_}
 use native.Mathlib.Omega.{arith}
 use mathlib.Core.Path.{_≡_, refl, sym, subst, ap, _∙_}
 use mathlib.Core.Option.{Option, none, some}
-use mathlib.Core.List.{List, [], _++_, append-nil}
-use lib.ListN.{length, take, drop, length-drop}
-use lib.Seq.{take-add, length-take-le}
+use mathlib.Core.List.{List}
+use lib.ListN.{length, take}
 use Rattle.format.specs.declared.Refusal.{Refusal}
 use Rattle.format.specs.declared.Sections.the-variants as sections
 use Rattle.format.specs.Check.{check}
@@ -17,61 +16,46 @@ use Rattle.lines.specs.Output.{restOf, ending}
 use Rattle.permit.specs.declared.serve.Turn.{Turn}
 use Rattle.permit.specs.declared.serve.Next.the-variants as next
 use Rattle.permit.specs.Inner.Put.{Front}
-use Rattle.permit.specs.Inner.Turn.{leaves, Turned, Left, Faulty, Due}
+use Rattle.permit.specs.declared.source.Got.{Got}
+use Rattle.permit.specs.declared.source.Got.the-variants as got
+use Rattle.permit.specs.Inner.Turn.{came, Turned, Faulty, Due}
 
-module _ (l input₀ input input' output : List ℕ) (kept end : ℕ) (same : take kept input ≡ take kept input₀) (few : kept < 8) (fits : kept ≤ length input) where
-  -- `input` is what stands there after the read, `input'` what is kept of it
+module _ (l input : List ℕ) (output : List ℕ) (kept end : ℕ) (few : kept < 8) (fits : kept ≤ length input) where
   pub turn-more :
-      (n rest : ℕ) → 0 < n → kept + n ≤ length input → Front output end (lines l (take (kept + n) input)) → rest < 8
+      (g : Got) (n rest : ℕ) (input' : List ℕ) → g ≡ got.Bytes n → Front output end (lines l (take (kept + n) input)) → rest < 8
       → Front input' rest (restOf (take (kept + n) input))
-      → Turned l (take kept input₀) input' output (record { kept = rest; end = end; next = next.More })
-  turn-more n rest p h w r k =
-      let b : take (kept + n) input ≡ take kept input₀ ++ take n (drop kept input) =
-      take-add kept n input ∙ ap (λ x. x ++ take n (drop kept input)) same in
-      record {
-        new = take n (drop kept input);
-        came = omega (arith, length-take-le n (drop kept input) (omega (arith, length-drop kept input)));
-        written = subst (λ x. Front output end (lines l x)) b w;
-        few = r;
-        left = subst (λ x. Front input' rest (restOf x)) b k;
-      }
+      → Turned g l (take (kept + came g) input) input' output (record { kept = rest; end = end; next = next.More })
+  turn-more g n rest input' e w r k =
+      subst (λ x. Turned x l (take (kept + came x) input) input' output (record { kept = rest; end = end; next = next.More })) (sym e)
+      (record { goes = refl; written = w; few = r; left = k })
 
-  none-came : take kept input ≡ take kept input₀ ++ []
-  none-came = same ∙ sym (append-nil (take kept input₀))
+  none-came : take kept input ≡ take (kept + 0) input
+  none-came = (let z : kept ≡ kept + 0 = omega arith in ap (λ n. take n input) z)
 
   pub turn-ended :
-      Front output end (ending (take kept input)) → Turned l (take kept input₀) input output (record { kept = kept; end = end; next = next.Ended })
-  turn-ended w =
-      record {
-        new = [];
-        came = refl;
+      (g : Got) → g ≡ got.Ended → Front output end (ending (take kept input))
+      → Turned g l (take (kept + came g) input) input output (record { kept = kept; end = end; next = next.Ended })
+  turn-ended g e w =
+      subst (λ x. Turned x l (take (kept + came x) input) input output (record { kept = kept; end = end; next = next.Ended })) (sym e)
+      (record {
+        goes = refl;
         written = subst (λ x. Front output end (ending x)) none-came w;
         few = few;
         left = record { fits = fits; bytes = none-came };
-      }
+      })
 
-  pub turn-failed : Turned l (take kept input₀) input output (record { kept = kept; end = 0; next = next.Failed })
-  turn-failed =
-      record {
-        new = [];
-        came = refl;
+  pub turn-failed : (g : Got) → g ≡ got.Failed → Turned g l (take (kept + came g) input) input output (record { kept = kept; end = 0; next = next.Failed })
+  turn-failed g e =
+      subst (λ x. Turned x l (take (kept + came x) input) input output (record { kept = kept; end = 0; next = next.Failed })) (sym e)
+      (record {
+        goes = refl;
         written = record { fits = omega arith; bytes = refl };
         few = few;
         left = record { fits = fits; bytes = none-came };
-      }
+      })
 
--- ---- between turns
-
-pub left-none : (input : List ℕ) → Left input 0
-unfolding restOf
-left-none input = record { before = []; bytes = refl }
-
-module _ {l kept input output : List ℕ} {r : Turn} (t : Turned l kept input output r) where
-  pub left-more : r .next ≡ next.More → Left input (r .kept)
-  left-more e = record { before = kept ++ t .new; bytes = t .left .bytes ∙ ap (λ w. leaves w (kept ++ t .new)) e }
-
-  pub due-turn : Due (take (r .end) output)
-  due-turn = Due.turn (r .next) l (kept ++ t .new) (t .written .bytes)
+pub due-turn : {g : Got} {l b input output : List ℕ} {r : Turn} → Turned g l b input output r → Due (take (r .end) output)
+due-turn {g} {l} {b} t = Due.turn g l b (t .written .bytes)
 
 pub due-fault : (f : Refusal) {s : List ℕ} → Faulty f → s ≡ line (refused f) → Due s
 due-fault f h e = Due.fault f h e

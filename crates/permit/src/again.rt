@@ -26,11 +26,13 @@ fn wait() {
     libc::nanosleep(&asked, &mut left);
 }
 
-// After a call that failed: waits a little and tells that the call may be made again, or tells that it may not.
-pub(crate) fn retry() -> bool {
-    let again = is_again(os::errno());
-    if again {
+// After a call that failed with this error: waits a little and tells that the call may be made again, or tells that it may not.
+pub(crate) fn retry(error: i32) -> bool
+    ensures { λ r. ⌜ r ≡ tryAgain error ⌝ }
+{
+    if is_again(error) {
         wait();
+        return true;
     }
-    again
+    false
 }

@@ -9,10 +9,11 @@ use crate::source::read_between;
 use format::Refusal;
 use format::Starts;
 ghost use mathlib.Core.Path.{_≡_};
-ghost use Prim.Native.Nat.{_<_};
+ghost use Prim.Native.Nat.{_+_, _-_, _<_};
 ghost use lib.ListN.{length, take};
 ghost use Rattle.decide.specs.Ready.{Ready};
-ghost use Rattle.permit.specs.Inner.Turn.{Turned, Faulty};
+ghost use Rattle.permit.specs.Inner.Input.{Brings};
+ghost use Rattle.permit.specs.Inner.Turn.{came, Turned, Faulty};
 
 // Whether there may be more queries.
 pub(crate) enum Next {
@@ -28,20 +29,21 @@ pub(crate) struct Turn {
     pub next: Next,
 }
 
-// Reads once, behind the bytes that were kept, and makes the lines that are to be written for it. The whole queries' lines
-// if bytes came, the last line if the input has ended.
+// Makes the lines that are to be written for what a read has brought, behind the bytes that were kept. The whole queries'
+// lines if bytes came, the last line if the input has ended.
 fn take_turn(
     image: &[u8],
     groups: &[usize; 256],
     s: Starts,
+    got: Got,
     input: &mut [u8],
     kept: usize,
     output: &mut [u8],
 ) -> Turn
-    requires { ⌜ Ready (now image) (now groups) s × (kept < 8) × (16384 ≡ length (now input)) × (98304 ≡ length (now output)) ⌝ }
-    ensures { λ r. ⌜ Turned (now (image .entry)) (take kept (now (input .entry))) (now (input .exit)) (now (output .exit)) r ⌝ }
+    requires { ⌜ Ready (now image) (now groups) s × (kept < 8) × (16384 ≡ length (now input)) × (98304 ≡ length (now output)) × Brings (16384 - kept) got ⌝ }
+    ensures { λ r. ⌜ Turned got (now (image .entry)) (take (kept + came got) (now (input .entry))) (now (input .exit)) (now (output .exit)) r ⌝ }
 {
-    match read_between(input, kept, 16384) {
+    match got {
         Got::Bytes(n) => {
             let have = kept + n;
             let end = put_answers(image, groups, s, &input[..have], output);
@@ -90,7 +92,8 @@ pub(crate) fn serve(image: &[u8], groups: &[usize; 256], s: Starts)
     let mut kept: usize = 0;
     let mut turns = u64::MAX;
     while 0 < turns {
-        let t = take_turn(image, groups, s, &mut input, kept, &mut output);
+        let got = read_between(&mut input, kept, 16384);
+        let t = take_turn(image, groups, s, got, &mut input, kept, &mut output);
         let end = t.end;
         if !write_all(&output[..end]) {
             return;

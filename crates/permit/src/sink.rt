@@ -16,7 +16,7 @@ pub(crate) fn write_all(bytes: &[u8]) -> bool
         }
         let answer = libc::write(STDOUT_FILENO, rest);
         if answer <= 0 {
-            if !retry() {
+            if !retry(os::errno()) {
                 break;
             }
         }

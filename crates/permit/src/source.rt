@@ -58,7 +58,7 @@ fn read_some(part: &mut [u8]) -> Got
         if answer >= 0 {
             return brought(answer, part);
         }
-        if !retry() {
+        if !retry(os::errno()) {
             os::fail(b"permit: standard input");
             return Got::Failed;
         }

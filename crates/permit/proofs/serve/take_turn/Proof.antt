@@ -9,15 +9,12 @@ use Rattle.permit.proofs.Turns.{turn-more, turn-ended, turn-failed}
 use Rattle.permit.proofs.serve.take_turn.Statement.{statement}
 use Rattle.permit.proofs.serve.take_turn.Tie as tie
 
-read-between-requires : tie.Need-read-between-requires
-read-between-requires c κs = (omega arith, omega arith)
-
-enum-known-n : tie.Need-enum-known-n
-enum-known-n c = search needs
+enum-known-got : tie.Need-enum-known-got
+enum-known-got c = search needs
 
 -- what a read of some bytes has brought
-some : (c : tie.After-known-told) → (0 < c .before .n .given .0 .0) × (c .before .n .given .0 .0 ≤ 16384 - c .before .before .before .before .before .before .before .before .before .before .args .kept)
-some c = bytes-brought _ _ _ (c .before .n .given .1) (c .before .before .before .before .before .read-between .ensures .0)
+some : (c : tie.After-known-told) → (0 < c .before .got .given .0 .0) × (c .before .got .given .0 .0 ≤ 16384 - c .before .before .before .before .before .before .args .kept)
+some c = bytes-brought _ _ _ (c .before .got .given .1) (c .before .before .before .before .before .before .pre .4)
 
 add-have : tie.Need-add-have
 add-have c = omega (arith, some c)
@@ -26,10 +23,10 @@ slice-reshare-prefix-put-answers : tie.Need-slice-reshare-prefix-put-answers
 slice-reshare-prefix-put-answers c = omega (arith, some c)
 
 slice-aggregate-put-answers : tie.Need-slice-aggregate-put-answers
-slice-aggregate-put-answers c = sym (length-take-le (c .before .before .before .before .before .before .before .before .before .before .before .args .kept + c .before .before .n .given .0 .0) (c .before .before .before .before .before .before .read-between .last .0) (omega (arith, some (c .before))))
+slice-aggregate-put-answers c = sym (length-take-le (c .before .before .before .before .before .before .before .args .kept + c .before .before .got .given .0 .0) (c .before .before .before .before .before .before .before .args .input .now) (omega (arith, some (c .before))))
 
 put-answers-requires : tie.Need-put-answers-requires
-put-answers-requires c κs = (c .before .before .before .before .before .before .before .before .before .before .before .before .pre .0, omega (arith, some (c .before .before), length-take-le (c .before .before .before .before .before .before .before .before .before .before .before .before .args .kept + c .before .before .before .n .given .0 .0) (c .before .before .before .before .before .before .before .read-between .last .0) (omega (arith, some (c .before .before)))))
+put-answers-requires c κs = (c .before .before .before .before .before .before .before .before .pre .0, omega (arith, some (c .before .before), length-take-le (c .before .before .before .before .before .before .before .before .args .kept + c .before .before .before .got .given .0 .0) (c .before .before .before .before .before .before .before .before .args .input .now) (omega (arith, some (c .before .before)))))
 
 keep-rest-requires : tie.Need-keep-rest-requires
 keep-rest-requires c κs = omega (arith, some (c .before .before .before .before .before .before))
@@ -41,7 +38,7 @@ slice-reshare-prefix-put-ending : tie.Need-slice-reshare-prefix-put-ending
 slice-reshare-prefix-put-ending c = omega arith
 
 slice-aggregate-put-ending : tie.Need-slice-aggregate-put-ending
-slice-aggregate-put-ending c = sym (length-take-le (c .before .before .before .before .before .before .before .before .before .before .args .kept) (c .before .before .before .before .before .read-between .last .0) (omega arith))
+slice-aggregate-put-ending c = sym (length-take-le (c .before .before .before .before .before .before .args .kept) (c .before .before .before .before .before .before .args .input .now) (omega arith))
 
 put-ending-requires : tie.Need-put-ending-requires
 put-ending-requires c κs = omega arith
@@ -57,10 +54,9 @@ same-length-2 c = search needs
 
 returns : tie.Need-returns
 returns c =
-    let read = c .before .before .before .before .before .before .before .before .before .before .before .before .before .before .read-between in
+    let start = c .before .before .before .before .before .before .before .before .before .before .before .before .before .before .before .args in
     let kept = c .before .before .keep-rest in
-    let came = some (c .before .before .before .before .before .before .before .before .before) in
-    turn-more _ _ (read .last .0) _ _ _ _ (read .ensures .1) (omega arith) (omega arith) (c .before .before .before .before .before .before .before .before .before .before .n .given .0 .0) _ (came .0) (omega arith) (c .before .before .before .before .before .before .put-answers .ensures) (kept .ensures .0) (kept .ensures .1)
+    turn-more _ (start .input .now) _ (start .kept) _ (omega arith) (omega arith) (start .got) _ _ _ (c .before .before .before .before .before .before .before .before .before .before .got .given .1) (c .before .before .before .before .before .before .put-answers .ensures) (kept .ensures .0) (kept .ensures .1)
 
 same-length-3 : tie.Need-same-length-3
 same-length-3 c = search needs
@@ -70,23 +66,19 @@ same-length-4 c = search needs
 
 returns-2 : tie.Need-returns-2
 returns-2 c =
-    let read = c .before .before .before .before .before .before .before .before .before .read-between in
-    turn-ended _ _ (read .last .0) (read .last .0) _ _ _ (read .ensures .1) (omega arith) (omega arith) (c .before .before .put-ending .ensures)
-
-same-length-5 : tie.Need-same-length-5
-same-length-5 c = search needs
+    let start = c .before .before .before .before .before .before .before .before .before .before .args in
+    turn-ended _ (start .input .now) _ (start .kept) _ (omega arith) (omega arith) (start .got) (c .before .before .before .before .before .enum-told .given .1) (c .before .before .put-ending .ensures)
 
 returns-3 : tie.Need-returns-3
 returns-3 c =
-    let read = c .before .before .before .before .read-between in
-    turn-failed _ _ (read .last .0) (read .last .0) _ _ 0 (read .ensures .1) (omega arith) (omega arith)
+    let start = c .before .before .before .before .before .args in
+    turn-failed _ (start .input .now) _ (start .kept) 0 (omega arith) (omega arith) (start .got) (c .enum-told2 .given .1)
 
 pub take-turn-spec : {M : Type 1} → statement M
 take-turn-spec =
     tie.close
     (tie.spec
-    read-between-requires
-    enum-known-n
+    enum-known-got
     add-have
     slice-reshare-prefix-put-answers
     slice-aggregate-put-answers
@@ -103,5 +95,4 @@ take-turn-spec =
     same-length-3
     same-length-4
     returns-2
-    same-length-5
     returns-3)

@@ -18,6 +18,9 @@ returns c = search needs
 write-requires : tie.Need-write-requires Inv-loop μ-loop
 write-requires c κs = search needs
 
+errno-requires : tie.Need-errno-requires Inv-loop μ-loop
+errno-requires c κs = search needs
+
 retry-requires : tie.Need-retry-requires Inv-loop μ-loop
 retry-requires c κs = search needs
 
@@ -60,6 +63,7 @@ write-all-spec =
     loop-holds
     returns
     write-requires
+    errno-requires
     retry-requires
     count-requires
     sub-rest

@@ -31,6 +31,9 @@ same-length c = omega arith
 returns : tie.Need-returns Inv-loop μ-loop
 returns c = brings (toZ w64 (ofZ w64 (c .before .before .before .before .before .read .result))) (c .brought .result) _ (length (c .before .before .before .before .before .read .last .1 .0)) (omega arith) (omega arith) (c .brought .ensures)
 
+errno-requires : tie.Need-errno-requires Inv-loop μ-loop
+errno-requires c κs = search needs
+
 retry-requires : tie.Need-retry-requires Inv-loop μ-loop
 retry-requires c κs = search needs
 
@@ -72,6 +75,7 @@ read-some-spec =
     brought-requires
     same-length
     returns
+    errno-requires
     retry-requires
     slice-aggregate-fail
     fail-requires

@@ -1,0 +1,78 @@
+-- What meets the terms of the claims of the program's output and of the C interface, from the statement: no claim's own proof is
+-- cited. Assumes nothing.
+use native.Mathlib.Omega.{arith}
+use mathlib.Core.Path.{subst, ap, ap₂, _∙_}
+use lib.ListN.{take}
+use Rattle.format.specs.declared.Section.the-variants.{Groups, Rules, Constraints}
+use Rattle.format.specs.Bytes.{Bytes}
+use Rattle.format.specs.Answers.{outcome, extent}
+use Rattle.format.specs.Sample.{sample}
+use Rattle.format.proofs.Chain.{orElse-next}
+use Rattle.extension.specs.Add.{newNumber}
+use Rattle.decision.specs.Cases.{companion, withSpace, extended}
+use Rattle.decision.proofs.Cases.{Answers, marked-answers}
+use Rattle.mungaite.specs.Claims.{FaultFits, OutcomeFits, DecisionFits, ExtentFits, NumberFits}
+use Rattle.claims.specs.Promises.{Promises}
+use Rattle.claims.specs.Terms.{query, PrintingMet, CallingMet}
+use Rattle.claims.proofs.Cases.{companion-space, cut-bytes}
+use Rattle.claims.proofs.Cases.{bytes-behind, two-behind, once-behind, none-behind, short-behind, header-nine, lines-many, runs-many}
+use Rattle.claims.proofs.Cases.{unknown-line, empty-printed, short-printed, three-printed}
+use Rattle.claims.proofs.ReadingTerms.{companion-after}
+
+module _ (p : Promises) where
+  answers : Answers
+  answers = marked-answers (p .deciding .marked-cases)
+
+  -- ---- printing
+
+  pub printing-met : PrintingMet
+  printing-met =
+      let runs = p .printing .worked-runs in
+      let three = three-printed runs in
+      record {
+        largest-fewest = p .printing .decimal-fewest 18446744073709551615 (omega arith);
+        largest-read = p .printing .decimal-read 18446744073709551615 (omega arith);
+        read-by-bytes = p .printing .any-reads _ _ bytes-behind ∙ three;
+        read-in-two = p .printing .any-reads _ _ two-behind ∙ three;
+        read-at-once = p .printing .any-reads _ _ once-behind ∙ three;
+        none-asked = p .printing .any-reads _ _ none-behind ∙ empty-printed runs;
+        refused-once = p .printing .any-reads _ _ short-behind ∙ short-printed runs;
+        header-first = header-nine;
+        lines-all = lines-many;
+        runs-all = runs-many;
+        unknown-line = unknown-line (p .printing .worked-lines);
+        three-printed = three;
+      }
+
+  -- ---- calling
+
+  sample-bytes : Bytes sample
+  sample-bytes = p .reading .sample-accepted .sample-bytes
+
+  pub calling-met : CallingMet
+  calling-met =
+      let c = p .calling in
+      let passes = p .reading .sample-accepted .sample-passes in
+      let companied = p .deciding .marked-adds .companied in
+      record {
+        refusal-fits = λ l b f e. (let h = subst FaultFits e (c .check-whole l b) in (omega (arith, h .0), omega (arith, h .1)));
+        rule-fits = λ l b q r e. (let h = subst (OutcomeFits DecisionFits) e (c .decide-whole l b q) in omega (arith, h));
+        unknown-fits = λ l b q r k e. (let h = subst (OutcomeFits DecisionFits) e (c .decide-whole l b q) in (omega (arith, h .0), omega (arith, h .1)));
+        record-fits = λ l b s n e. (let h = subst (λ f. OutcomeFits ExtentFits (outcome f (extent l s n))) e (c .record-whole l b .0 s n) in (omega (arith, h .0), omega (arith, h .1)));
+        number-fits = λ b h r e. (let k = subst (λ f. OutcomeFits NumberFits (outcome f (newNumber b r))) e (c .add-whole b h r) in omega (arith, k));
+        permitted-code = λ r h. c .parts-whole 1 0 r (omega arith) (omega arith) ∙ omega arith;
+        unknown-code = λ r k h h′. c .parts-whole 3 r k (omega arith) (omega arith) ∙ omega arith;
+        parts-back = c .parts-read 3 65535 65535 (omega arith) (omega arith) (omega arith);
+        sample-read = c .check-read sample sample-bytes ∙ passes;
+        cut-read = c .check-read (take 79 sample) cut-bytes ∙ p .reading .refusal-cases .cut;
+        member-read = c .decide-read sample sample-bytes (query 10 21 5 1) ∙ answers .member;
+        transition-read = c .decide-read sample sample-bytes (query 12 20 9 9) ∙ answers .transition;
+        unknown-read = c .decide-read (extended sample companion) (companion-after p) (query 10 21 5 1) ∙ answers .companied;
+        refused-read = c .decide-read sample sample-bytes (query 32769 21 5 1) ∙ answers .no-group-1;
+        group-read = λ l b n. c .record-read l b .0 Groups n;
+        rule-read = λ l b n. c .record-read l b .0 Rules n;
+        constraint-read = λ l b n. c .record-read l b .0 Constraints n;
+        no-section-read = λ s n h. c .record-read sample sample-bytes .1 s n (omega arith) ∙ orElse-next _ passes;
+        companion-read = c .add-read (withSpace sample companion) companion-space companion ∙ ap₂ outcome companied (p .deciding .marked-adds .numbered);
+        no-room-read = c .add-read sample sample-bytes companion ∙ ap (λ f. outcome f (newNumber sample companion)) (p .reading .refusal-cases .no-room);
+      }
