@@ -54,13 +54,17 @@ fn read_some(part: &mut [u8]) -> Got
 {
     let mut tries = u64::MAX;
     while 0 < tries {
-        let answer = libc::read(STDIN_FILENO, part);
-        if answer >= 0 {
-            return brought(answer, part);
-        }
-        if !retry(os::errno()) {
-            os::fail(b"permit: standard input");
-            return Got::Failed;
+        let got = brought(libc::read(STDIN_FILENO, part), part);
+        match got {
+            Got::Failed => {
+                if !retry(os::errno()) {
+                    os::fail(b"permit: standard input");
+                    return got;
+                }
+            }
+            _ => {
+                return got;
+            }
         }
         tries -= 1;
     }

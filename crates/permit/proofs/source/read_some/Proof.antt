@@ -25,11 +25,8 @@ read-requires c κs = search needs
 brought-requires : tie.Need-brought-requires Inv-loop μ-loop
 brought-requires c κs = search needs
 
-same-length : tie.Need-same-length Inv-loop μ-loop
-same-length c = omega arith
-
-returns : tie.Need-returns Inv-loop μ-loop
-returns c = brings (toZ w64 (ofZ w64 (c .before .before .before .before .before .read .result))) (c .brought .result) _ (length (c .before .before .before .before .before .read .last .1 .0)) (omega arith) (omega arith) (c .brought .ensures)
+enum-told : tie.Need-enum-told Inv-loop μ-loop
+enum-told c = search needs
 
 errno-requires : tie.Need-errno-requires Inv-loop μ-loop
 errno-requires c κs = search needs
@@ -43,11 +40,17 @@ slice-aggregate-fail c = omega arith
 fail-requires : tie.Need-fail-requires Inv-loop μ-loop
 fail-requires c κs = search needs
 
+same-length : tie.Need-same-length Inv-loop μ-loop
+same-length c = omega arith
+
+returns : tie.Need-returns Inv-loop μ-loop
+returns c = brings (toZ w64 (ofZ w64 (c .before .before .before .before .before .before .before .before .before .before .before .read .result))) (c .before .before .before .before .before .before .before .brought .result) _ (length (c .before .before .before .before .before .before .before .before .before .before .before .read .last .1 .0)) (omega arith) (omega arith) (c .before .before .before .before .before .before .before .brought .ensures)
+
 same-length-2 : tie.Need-same-length-2 Inv-loop μ-loop
 same-length-2 c = omega arith
 
 returns-2 : tie.Need-returns-2 Inv-loop μ-loop
-returns-2 c = tt
+returns-2 c = brings (toZ w64 (ofZ w64 (c .before .before .before .before .before .read .result))) (c .before .brought .result) _ (length (c .before .before .before .before .before .read .last .1 .0)) (omega arith) (omega arith) (c .before .brought .ensures)
 
 sub-tries : tie.Need-sub-tries Inv-loop μ-loop
 sub-tries c = omega arith
@@ -73,12 +76,13 @@ read-some-spec =
     loop-holds
     read-requires
     brought-requires
-    same-length
-    returns
+    enum-told
     errno-requires
     retry-requires
     slice-aggregate-fail
     fail-requires
+    same-length
+    returns
     same-length-2
     returns-2
     sub-tries
