@@ -42,7 +42,7 @@ pub record Reading : Type 0 where
   pub longest-reached : LongestReached
   -- the sample sheet and the empty policy are accepted
   pub sample-accepted : SampleAccepted
-  -- one refusal of each number, with its place
+  -- refusals 1 to 7, 10, 11 and 13, each with its place
   pub refusal-cases : RefusalCases
 
 -- Demand 1, its last words, and demand 2, its second sentence: what adding does.

@@ -31,15 +31,11 @@ use Rattle.format.proofs.Fields.{type-is, formed-is, record-rule, record-constr
 use Rattle.format.proofs.Images.{policy-formed, group-count}
 use Rattle.decision.specs.declared.Query.{Query}
 use Rattle.decision.specs.Sets.{anyOf, isIn, setOf, unionOf, within}
-use Rattle.decision.specs.Decide.{Rule, ruleOf, Constraint, constraintOf, Request, requestOf, tests, covers, reaches, separationBroken, rosterBroken, companionBroken, broken, fails, firstAt, Decision, notPermitted, permitted, unknown, decisionOf, judge, decide, queryFault, answerFault, answer}
+use Rattle.decision.specs.Decide.{Rule, ruleOf, Constraint, constraintOf, Request, requestOf, tests, covers, reaches, separationBroken, rosterBroken, companionBroken, broken, fails, firstAt, Decision, permitted, unknown, decisionOf, judge, decide, queryFault, answerFault, answer}
 use Rattle.decision.specs.Order.{height, Holds, Keeps, Grows, NoCompanion, Extends, OrderRule, QueryOrder, NonDecreasing, Decided, DecidedOnly}
 use Rattle.decision.proofs.Implies.{_⟹_, id⟹, eq⟹, and⟹, not⟹, cond⟹, anyOf⟹, within⟹, _⇉_, end, and, all⟹, cond⇉, map-mem, map-all, allOf-intro, anyOf-intro}
 
 -- ---- the height of a decision, from whether some rule covers and some constraint fails
-
-pub height-not-permitted : height notPermitted ≡ 0
-unfolding height
-height-not-permitted = refl
 
 pub height-permitted : (r : ℕ) → height (permitted r) ≡ 1
 unfolding height

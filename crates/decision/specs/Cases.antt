@@ -10,7 +10,8 @@
 --     MarkedCases       the definitions give these answers
 --     MarkedAdds        and the adds in it are accepted
 --     MarkedOrder       the sample and a rule more, and a query on group 0 and one on its member, meet the order rule's terms;
---                       so does a query on a new group; the sample has no companion, and 21 is a member of its group
+--                       so does a query on a new group; the sample has no companion, nor has a ban, 21 is a member of its group,
+--                       and rules and constraints in another order have other numbers
 use Prim.Native.Nat.{ℕ, _/_, _%_}
 use mathlib.Core.Path.{_≡_}
 use mathlib.Core.Bool.{true}

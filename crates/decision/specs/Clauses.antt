@@ -1,10 +1,10 @@
--- Clauses of document 01 that no marked case meets, as a second table, and one refusal of each number. Worked out by hand from the
+-- Clauses of document 01 that no marked case meets, as a second table, and refusals 1 to 7, 10, 11 and 13. Worked out by hand from the
 -- clauses; `crates/cases` and `tests/` run these and more.
 --     separation, allowGroup, companionOfGroup, rosterOfGroup, backTransition, longRoster   records
 --     clauseCases       a ban; a companion and a roster that touch; 9, 8 before 9, 1 before both; a separation by one rule, and by sources
 --                       that are the same set and not only within one another; a transition that is not live; a list of two types
 --     ClauseCases       the definitions give these answers
---     RefusalCases      document 01's unmarked refusals, and one of each number that the check and adding have
+--     RefusalCases      document 01's unmarked refusals, and one each of 1 to 7, 10, 11 and 13
 use Prim.Native.Nat.{ℕ}
 use mathlib.Core.Path.{_≡_}
 use mathlib.Core.Option.{some}

@@ -15,7 +15,7 @@ use Rattle.format.specs.Bytes.{Bytes, wordAt, words, putWord}
 use Rattle.format.specs.Refusals.{need, _orElse_}
 use Rattle.format.specs.Format.{knownVersion, limitOf, kindIn, lengthOk, isType, isCondition, listOk, shapeOk, badMember, badType, badGroup, badAllow, badConstraint, badField}
 use Rattle.format.specs.Policy.{recordsOf, bodyOf}
-use Rattle.format.specs.Longest.{rising, longGroup, longGroups, longRule, longConstraint, longest, LongestReached}
+use Rattle.format.specs.Longest.{countUp, longGroup, longGroups, longRule, longConstraint, longest, LongestReached}
 use Rattle.format.proofs.Bytes.{bytes-nil, bytes-cons, bytes-append, bytes-word, word-back}
 use Rattle.format.proofs.Shapes.{Formed}
 use Rattle.format.proofs.Images.{Sound, image-length, image-accepted, image-bytes, policy-of-image}
@@ -23,7 +23,7 @@ use Rattle.format.proofs.Images.{Sound, image-length, image-accepted, i
 -- ---- the records
 
 group-formed : (g k : ℕ) → k < 256 → Formed Groups g (longGroup k)
-unfolding longGroup rising putWord shapeOk kindIn lengthOk badField badGroup badMember words need _orElse_
+unfolding longGroup countUp putWord shapeOk kindIn lengthOk badField badGroup badMember words need _orElse_
 group-formed g k h =
     record {
       shape = refl;
@@ -39,10 +39,10 @@ constraint-formed : (g : ℕ) → Formed Constraints g longConstraint
 unfolding longConstraint shapeOk kindIn lengthOk badField badConstraint badType wordAt words isType listOk need _orElse_
 constraint-formed g = record { shape = refl; kind = refl; fields = refl }
 
-rising-bytes : (n m : ℕ) → n + m ≤ 65536 → Bytes (rising n m)
-unfolding rising
-rising-bytes zero m h = bytes-nil
-rising-bytes (suc n) m h = bytes-word m (rising n (suc m)) (omega arith) (rising-bytes n (suc m) (omega arith))
+up-bytes : (n m : ℕ) → n + m ≤ 65536 → Bytes (countUp n m)
+unfolding countUp
+up-bytes zero m h = bytes-nil
+up-bytes (suc n) m h = bytes-word m (countUp n (suc m)) (omega arith) (up-bytes n (suc m) (omega arith))
 
 replicate-bytes : (n k : ℕ) → k < 256 → Bytes (replicate n k)
 replicate-bytes zero k h = bytes-nil
@@ -51,8 +51,8 @@ replicate-bytes (suc n) k h = bytes-cons k (replicate n k) h (replicate-bytes n 
 group-bytes : (k : ℕ) → k < 256 → Bytes (longGroup k)
 unfolding longGroup
 group-bytes k h =
-    let t : Bytes (putWord k (rising 63 256)) = bytes-word k (rising 63 256) (omega arith) (rising-bytes 63 256 (omega arith)) in
-    bytes-cons 130 (1 ∷ putWord k (rising 63 256)) (omega arith) (bytes-cons 1 (putWord k (rising 63 256)) (omega arith) t)
+    let t : Bytes (putWord k (countUp 63 256)) = bytes-word k (countUp 63 256) (omega arith) (up-bytes 63 256 (omega arith)) in
+    bytes-cons 130 (1 ∷ putWord k (countUp 63 256)) (omega arith) (bytes-cons 1 (putWord k (countUp 63 256)) (omega arith) t)
 
 -- a length and a kind, eight zeros, and what follows
 record-bytes : (n k : ℕ) (t : List ℕ) → n < 256 → k < 256 → Bytes t → Bytes (n ∷ k ∷ replicate 8 0 ++ t)
@@ -91,7 +91,7 @@ replicate-mem zero x r m = absurd (List·Memᴰ·not-nil m)
 replicate-mem (suc n) x r m = ⊎-elim (λ e. e) (λ t. replicate-mem n x r t) (List·Memᴰ·cases-cons m)
 
 group-length : (k : ℕ) → length (longGroup k) ≡ 130
-unfolding longGroup rising putWord
+unfolding longGroup countUp putWord
 group-length k = refl
 
 groups-length : (n : ℕ) → length (flatten (longGroups n)) ≡ n * 130

@@ -1,5 +1,5 @@
 -- The longest image that the limits allow, written out (document 01, "The policy image").
---     rising n m          n numbers of 2 bytes each, from m on
+--     countUp n m         n numbers of 2 bytes each, from m on
 --     longGroup k         a group of 64 members: k, and 256 to 318, so that no two of them are the same
 --     longGroups n        n such groups
 --     longRule            an allow rule
@@ -17,12 +17,12 @@ use Rattle.format.specs.Bytes.{Bytes, putWord}
 use Rattle.format.specs.Policy.{Policy, imageOf, policyOf}
 use Rattle.format.specs.Check.{check}
 
-unfoldable pub rising : ℕ → ℕ → List ℕ
-rising zero m = []
-rising (suc n) m = putWord m (rising n (suc m))
+unfoldable pub countUp : ℕ → ℕ → List ℕ
+countUp zero m = []
+countUp (suc n) m = putWord m (countUp n (suc m))
 
 unfoldable pub longGroup : ℕ → List ℕ
-longGroup k = 130 ∷ 1 ∷ putWord k (rising 63 256)
+longGroup k = 130 ∷ 1 ∷ putWord k (countUp 63 256)
 
 unfoldable pub longGroups : ℕ → List (List ℕ)
 longGroups zero = []
