@@ -1,5 +1,6 @@
 // Records added to the sample and to other images, and images rebuilt from the empty policy.
 use crate::sample::GROUP;
+use crate::sample::ROSTER;
 use crate::sample::repeat;
 use crate::show::end_line;
 use crate::show::show_add;
@@ -257,12 +258,7 @@ fn longest(buffer: &mut [u8]) {
         b"\x0B\x02\x80\xFF\x03\xFF\xFF\xFF\xFF\xFF\x01",
         1024,
     );
-    repeat(
-        buffer,
-        44553,
-        b"\x2B\x04\x00\x05\x00\x01\x80\x00\x80\xFF\x02\x00\x00\x00\x01\x00\x02\x00\x03\x00\x04\x00\x05\x00\x06\x00\x07\x00\x08\x00\x09\x00\x0A\x00\x0B\x00\x0C\x00\x0D\x80\x00\x80\xFF",
-        256,
-    );
+    repeat(buffer, 44553, &ROSTER, 256);
 }
 
 // Adds the records of a section of an image to a buffer, in order.

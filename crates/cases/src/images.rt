@@ -1,5 +1,6 @@
 // The check of an image, and its records.
 use crate::sample::GROUP;
+use crate::sample::ROSTER;
 use crate::sample::repeat;
 use crate::sample::with_byte;
 use crate::show::show_check;
@@ -154,12 +155,7 @@ fn longest() {
         b"\x0B\x02\x80\xFF\x03\xFF\xFF\xFF\xFF\xFF\x01",
         1024,
     );
-    repeat(
-        image,
-        44553,
-        b"\x2B\x04\x00\x05\x00\x01\x80\x00\x80\xFF\x02\x00\x00\x00\x01\x00\x02\x00\x03\x00\x04\x00\x05\x00\x06\x00\x07\x00\x08\x00\x09\x00\x0A\x00\x0B\x00\x0C\x00\x0D\x80\x00\x80\xFF",
-        256,
-    );
+    repeat(image, 44553, &ROSTER, 256);
     show_check(b"the longest image", image);
     show_record(b"its last constraint", image, Section::Constraints, 255);
     show_record(b"one past it", image, Section::Constraints, 256);
