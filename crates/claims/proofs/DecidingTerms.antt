@@ -186,6 +186,15 @@ module _ (p : Promises) where
       (λ x m. subst (List·Memᴰ x) (sym r) (Memᴰ·append-left (policyOf l₁ .rules) m))
       (λ x m. ⊎-elim (λ k. k) (λ k. k) (List·Memᴰ·append-cases (policyOf l₁ .rules) (subst (List·Memᴰ x) r m)))
 
+  rules-once :
+      (l₁ l₂ : List ℕ) (q : Query) (d₁ d₂ : Decision) → answer l₁ q ≡ gives d₁ → answer l₂ q ≡ gives d₂
+      → policyOf l₁ .groups ≡ policyOf l₂ .groups → policyOf l₁ .constraints ≡ policyOf l₂ .constraints
+      → policyOf l₁ .rules ≡ policyOf l₂ .rules ++ policyOf l₂ .rules → height d₁ ≡ height d₂
+  rules-once l₁ l₂ q d₁ d₂ e₁ e₂ g c r =
+      p .ordering .same-rules l₁ l₂ q d₁ d₂ e₁ e₂ g (λ x m. subst (List·Memᴰ x) c m) (λ x m. subst (List·Memᴰ x) (sym c) m)
+      (λ x m. ⊎-elim (λ k. k) (λ k. k) (List·Memᴰ·append-cases (policyOf l₂ .rules) (subst (List·Memᴰ x) r m)))
+      (λ x m. subst (List·Memᴰ x) (sym r) (Memᴰ·append-left (policyOf l₂ .rules) m))
+
   companion-reordered :
       (d : Decision) → answer (imageOf (reordered (policyOf (extended sample companion)))) (query 10 21 5 1) ≡ gives d → height d ≡ 2
   companion-reordered d e =
@@ -205,6 +214,7 @@ module _ (p : Promises) where
         same-sets = same-sets;
         rule-added = not-lower 21 (answers .member);
         group-not-lower = not-lower g0 (answers .group);
+        not-lower-itself = λ l q d₁ d₂ e₁ e₂ n. p .ordering .non-decreasing l l q d₁ d₂ e₁ e₂ (record { rules = λ r m. m; constraints = λ r m. m; groups = keeps-same _ }) n;
         member-met = member-met;
         any-member = λ l s d m n c a d₁ d₂ e₁ e₂ hm hn im jn. p .ordering .member-order l (query s d c a) (query m n c a) d₁ d₂ e₁ e₂ refl refl (omega arith) (omega arith) im jn;
         added-keeps = λ b r by bytes e. p .ordering .added-grows b r by bytes e .groups;
@@ -212,6 +222,7 @@ module _ (p : Promises) where
         companion-lowest = companion-lowest;
         rule-added-order = rule-added-order;
         rules-twice = rules-twice;
+        rules-once = rules-once;
         companion-reordered = companion-reordered;
         half-reordered = λ l b e h. p .ordering .rules-reordered l b e (omega arith) .0;
       }

@@ -32,7 +32,7 @@ use Rattle.extension.specs.Claims.{addAll, allRecords}
 use Rattle.decision.specs.declared.Query.{Query}
 use Rattle.decision.specs.Sets.{anyOf, isIn, setOf, within}
 use Rattle.decision.specs.Decide.{Rule, ruleOf, Constraint, Request, requestOf, covers, Decision, notPermitted, permitted, unknown, judge, answer}
-use Rattle.decision.specs.Order.{height, Keeps}
+use Rattle.decision.specs.Order.{height, Keeps, NoCompanion}
 use Rattle.decision.specs.Growth.{reordered, DecidedAbove}
 use Rattle.decision.specs.Cases.{g0, allow, companion, oneMember, withSpace, extended, cases}
 use Rattle.decision.specs.Tepla.{Dcs, compareDecisions, forget, evalPolicy, evalQuery}
@@ -153,6 +153,10 @@ pub record OrderingMet : Type 0 where
   -- NonDecreasing: a rule added, for a query on a member and one on the group
   pub rule-added : AtLeast 1 (sampleAnd (allow 14 g0 7 7)) (query 10 21 5 1)
   pub group-not-lower : AtLeast 1 (sampleAnd (allow 14 g0 7 7)) (query 10 g0 5 1)
+  -- and for every query, whatever its types, where the policy stays
+  pub not-lower-itself :
+      (l : List ℕ) (q : Query) (d₁ d₂ : Decision) → answer l q ≡ gives d₁ → answer l q ≡ gives d₂
+      → NoCompanion (policyOf l .constraints) → height d₁ ≤ height d₂
   -- MemberOrder: 21 for group 0; every basic type may be the member
   pub member-met : AtLeast 1 sample (query 10 21 5 1)
   pub any-member :
@@ -166,11 +170,15 @@ pub record OrderingMet : Type 0 where
   pub companion-added : DecidedAbove (imageIn (sampleAnd companion)) (query 10 21 5 1) (permitted 0)
   pub companion-lowest : AtLeast 1 (imageIn (sampleAnd companion)) (query 10 21 5 1)
   pub rule-added-order : DecidedAbove (imageIn (sampleAnd (allow 14 g0 7 7))) (query 10 21 5 1) (permitted 0)
-  -- SameRules: every rule once more
+  -- SameRules: every rule once more, in the second policy and in the first
   pub rules-twice :
       (l₁ l₂ : List ℕ) (q : Query) (d₁ d₂ : Decision) → answer l₁ q ≡ gives d₁ → answer l₂ q ≡ gives d₂
       → policyOf l₁ .groups ≡ policyOf l₂ .groups → policyOf l₁ .constraints ≡ policyOf l₂ .constraints
       → policyOf l₂ .rules ≡ policyOf l₁ .rules ++ policyOf l₁ .rules → height d₁ ≡ height d₂
+  pub rules-once :
+      (l₁ l₂ : List ℕ) (q : Query) (d₁ d₂ : Decision) → answer l₁ q ≡ gives d₁ → answer l₂ q ≡ gives d₂
+      → policyOf l₁ .groups ≡ policyOf l₂ .groups → policyOf l₁ .constraints ≡ policyOf l₂ .constraints
+      → policyOf l₁ .rules ≡ policyOf l₂ .rules ++ policyOf l₂ .rules → height d₁ ≡ height d₂
   -- RulesReordered: with a companion; of every policy of at most 512 rules
   pub companion-reordered :
       (d : Decision) → answer (imageOf (reordered (policyOf (sampleAnd companion)))) (query 10 21 5 1) ≡ gives d → height d ≡ 2

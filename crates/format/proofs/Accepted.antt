@@ -202,7 +202,7 @@ module _ (l : List ℕ) (e : check l ≡ none) (s : Section) (n : ℕ) (h : n < 
 
 pub records-given : RecordsGiven
 records-given l e s n k =
-    let h : n < countOf l s = rw (records-count l s) at k in
+    let h : n < countOf l s = omega (arith, k, records-count l s) in
     let is = record-is l e s n h in
     let st = record-stands l e s n h in
     record {
