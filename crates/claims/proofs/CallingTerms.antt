@@ -1,7 +1,7 @@
 -- What meets the terms of the claims of the program's output and of the C interface, from the statement: no claim's own proof is
 -- cited. Assumes nothing.
 use native.Mathlib.Omega.{arith}
-use mathlib.Core.Path.{subst, ap, ap₂, _∙_}
+use mathlib.Core.Path.{subst, refl, ap, ap₂, _∙_}
 use lib.ListN.{take}
 use Rattle.format.specs.declared.Section.the-variants.{Groups, Rules, Constraints}
 use Rattle.format.specs.Bytes.{Bytes}
@@ -11,12 +11,11 @@ use Rattle.format.proofs.Chain.{orElse-next}
 use Rattle.extension.specs.Add.{newNumber}
 use Rattle.decision.specs.Cases.{companion, withSpace, extended}
 use Rattle.decision.proofs.Cases.{Answers, marked-answers}
-use Rattle.mungaite.specs.Claims.{FaultFits, OutcomeFits, DecisionFits, ExtentFits, NumberFits}
+use Rattle.decision.specs.Numbers.{OutcomeFits, DecisionFits}
+use Rattle.mungaite.specs.Claims.{FaultFits, ExtentFits, NumberFits}
 use Rattle.claims.specs.Promises.{Promises}
 use Rattle.claims.specs.Terms.{query, PrintingMet, CallingMet}
-use Rattle.claims.proofs.Cases.{companion-space, cut-bytes}
-use Rattle.claims.proofs.Cases.{bytes-behind, two-behind, once-behind, none-behind, short-behind, header-nine, lines-many, runs-many}
-use Rattle.claims.proofs.Cases.{unknown-line, empty-printed, short-printed, three-printed}
+use Rattle.claims.proofs.Cases.{companion-space, cut-bytes, inputs, unknown-line, empty-printed, short-printed, three-printed}
 use Rattle.claims.proofs.ReadingTerms.{companion-after}
 
 module _ (p : Promises) where
@@ -32,14 +31,14 @@ module _ (p : Promises) where
       record {
         largest-fewest = p .printing .decimal-fewest 18446744073709551615 (omega arith);
         largest-read = p .printing .decimal-read 18446744073709551615 (omega arith);
-        read-by-bytes = p .printing .any-reads _ _ bytes-behind ∙ three;
-        read-in-two = p .printing .any-reads _ _ two-behind ∙ three;
-        read-at-once = p .printing .any-reads _ _ once-behind ∙ three;
-        none-asked = p .printing .any-reads _ _ none-behind ∙ empty-printed runs;
-        refused-once = p .printing .any-reads _ _ short-behind ∙ short-printed runs;
-        header-first = header-nine;
-        lines-all = lines-many;
-        runs-all = runs-many;
+        read-by-bytes = p .printing .any-reads _ _ (inputs .by-bytes) ∙ three;
+        read-in-two = p .printing .any-reads _ _ (inputs .in-two) ∙ three;
+        read-at-once = p .printing .any-reads _ _ (inputs .at-once) ∙ three;
+        none-asked = p .printing .any-reads _ _ (inputs .none-asked) ∙ empty-printed runs;
+        refused-once = p .printing .any-reads _ _ (inputs .short) ∙ short-printed runs;
+        header-first = inputs .header;
+        lines-all = inputs .lines;
+        runs-all = inputs .runs;
         unknown-line = unknown-line (p .printing .worked-lines);
         three-printed = three;
       }
@@ -60,6 +59,7 @@ module _ (p : Promises) where
         unknown-fits = λ l b q r k e. (let h = subst (OutcomeFits DecisionFits) e (c .decide-whole l b q) in (omega (arith, h .0), omega (arith, h .1)));
         record-fits = λ l b s n e. (let h = subst (λ f. OutcomeFits ExtentFits (outcome f (extent l s n))) e (c .record-whole l b .0 s n) in (omega (arith, h .0), omega (arith, h .1)));
         number-fits = λ b h r e. (let k = subst (λ f. OutcomeFits NumberFits (outcome f (newNumber b r))) e (c .add-whole b h r) in omega (arith, k));
+        not-permitted-code = refl;
         permitted-code = λ r h. c .parts-whole 1 0 r (omega arith) (omega arith) ∙ omega arith;
         unknown-code = λ r k h h′. c .parts-whole 3 r k (omega arith) (omega arith) ∙ omega arith;
         parts-back = c .parts-read 3 65535 65535 (omega arith) (omega arith) (omega arith);

@@ -2,12 +2,11 @@
 use Prim.Native.Nat.{ℕ}
 use native.Mathlib.Omega.{arith}
 use mathlib.Core.Path.{_≡_, refl, sym, ap, _∙_}
-use mathlib.Core.Option.{none}
 use mathlib.Core.List.{List, [], _∷_, _++_, flatten, map}
 use lib.ListN.{length, getD, take, drop, replicate}
 use Rattle.format.specs.declared.Section.the-variants.{Rules, Constraints}
 use Rattle.format.specs.Bytes.{Bytes, wordAt, words}
-use Rattle.format.specs.Check.{check, imageIn}
+use Rattle.format.specs.Check.{Accepted, imageIn}
 use Rattle.format.specs.Claims.{typeFields}
 use Rattle.format.specs.Sample.{sample, empty}
 use Rattle.format.proofs.ByCase.{kind-constraints}
@@ -18,10 +17,11 @@ use Rattle.extension.proofs.Adds.{section-of}
 use Rattle.format.specs.Answers.{gives}
 use Rattle.decision.specs.Decide.{unknown}
 use Rattle.decision.specs.Cases.{g0, allow, companion, withSpace}
+use Rattle.decision.specs.Rows.{queryAt}
 use Rattle.lines.specs.Lines.{line}
 use Rattle.lines.specs.Output.{imageSize, printed}
 use Rattle.lines.specs.Worked.{ascii, workedLines, lineOf, lineSaid, WorkedLines, asked, workedRuns, runOf, runSaid, WorkedRuns}
-use Rattle.claims.specs.Terms.{threeQueries, threeSaid, byBytes, tooShort}
+use Rattle.claims.specs.Terms.{query, threeQueries, twoAndPart, threeSaid, byBytes, tooShort}
 
 pub empty-nine : length empty ≡ 9
 unfolding empty
@@ -35,6 +35,12 @@ pub roster-fields : typeFields (13 ∷ 4 ∷ 0 ∷ 5 ∷ 0 ∷ 1 ∷ 0 ∷ 10 �
 unfolding typeFields wordAt words
 roster-fields = refl
 
+-- ---- the sample with space behind it
+
+pub space-image : (r : List ℕ) → Accepted sample → imageIn (withSpace sample r) ≡ sample
+unfolding withSpace
+space-image r e = image-in-of sample (replicate (length r) 0) e
+
 -- ---- the companion
 
 pub companion-bytes : Bytes companion
@@ -44,10 +50,6 @@ companion-bytes = bytes-of companion refl
 pub companion-space : Bytes (withSpace sample companion)
 unfolding withSpace sample companion
 companion-space = bytes-of (withSpace sample companion) refl
-
-pub companion-image : check sample ≡ none → imageIn (withSpace sample companion) ≡ sample
-unfolding withSpace
-companion-image e = image-in-of sample (replicate (length companion) 0) e
 
 pub companion-length : length (withSpace sample companion) ≡ 91
 unfolding withSpace sample companion
@@ -74,10 +76,6 @@ pub rule-space : Bytes (withSpace sample (allow 14 g0 7 7))
 unfolding withSpace sample allow g0
 rule-space = bytes-of (withSpace sample (allow 14 g0 7 7)) refl
 
-pub rule-image : check sample ≡ none → imageIn (withSpace sample (allow 14 g0 7 7)) ≡ sample
-unfolding withSpace
-rule-image e = image-in-of sample (replicate (length (allow 14 g0 7 7)) 0) e
-
 pub cut-bytes : Bytes (take 79 sample)
 unfolding sample
 cut-bytes = bytes-of (take 79 sample) refl
@@ -87,37 +85,31 @@ cut-bytes = bytes-of (take 79 sample) refl
 abbrev behind : List ℕ → List ℕ
 behind i = drop (imageSize i) i
 
-pub bytes-behind : flatten (byBytes threeQueries) ≡ behind (sample ++ threeQueries)
-unfolding flatten wordAt words sample asked imageSize
-bytes-behind = refl
+-- reads that bring what lies behind an image; the tables' lengths
+pub record Inputs : Type 0 where
+  pub by-bytes : flatten (byBytes threeQueries) ≡ behind (sample ++ threeQueries)
+  pub in-two : flatten (take 5 threeQueries ∷ [] ∷ drop 5 threeQueries ∷ []) ≡ behind (sample ++ threeQueries)
+  pub at-once : flatten (threeQueries ∷ []) ≡ behind (sample ++ threeQueries)
+  pub none-asked : flatten {A = ℕ} [] ≡ behind empty
+  pub short : flatten (drop 9 tooShort ∷ []) ≡ behind tooShort
+  pub header : imageSize (take 8 sample) ≡ 9
+  pub lines : length workedLines ≡ 8
+  pub runs : length workedRuns ≡ 15
 
-pub two-behind : flatten (take 5 threeQueries ∷ [] ∷ drop 5 threeQueries ∷ []) ≡ behind (sample ++ threeQueries)
-unfolding flatten wordAt words sample asked imageSize
-two-behind = refl
+pub inputs : Inputs
+unfolding flatten wordAt words sample empty asked imageSize workedLines workedRuns
+inputs = record { by-bytes = refl; in-two = refl; at-once = refl; none-asked = refl; short = refl; header = refl; lines = refl; runs = refl }
 
-pub once-behind : flatten (threeQueries ∷ []) ≡ behind (sample ++ threeQueries)
-unfolding flatten wordAt words sample asked imageSize
-once-behind = refl
+-- rows of queries
+pub record QueryRows : Type 0 where
+  pub many : length threeQueries ≡ 24
+  pub part : length twoAndPart ≡ 23
+  pub first : queryAt twoAndPart 0 ≡ query 10 21 5 1
+  pub second : queryAt twoAndPart 8 ≡ query 12 20 9 9
 
-pub none-behind : flatten {A = ℕ} [] ≡ behind empty
-unfolding flatten wordAt words empty imageSize
-none-behind = refl
-
-pub short-behind : flatten (drop 9 tooShort ∷ []) ≡ behind tooShort
-unfolding flatten wordAt words imageSize
-short-behind = refl
-
-pub header-nine : imageSize (take 8 sample) ≡ 9
-unfolding sample imageSize
-header-nine = refl
-
-pub lines-many : length workedLines ≡ 8
-unfolding workedLines
-lines-many = refl
-
-pub runs-many : length workedRuns ≡ 15
-unfolding workedRuns
-runs-many = refl
+pub query-rows : QueryRows
+unfolding wordAt asked
+query-rows = record { many = refl; part = refl; first = refl; second = refl }
 
 module _ (e : WorkedLines) where
   pub unknown-line : line (gives (unknown 1023 255)) ≡ ascii "U 1023 255\n"

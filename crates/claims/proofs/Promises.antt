@@ -12,6 +12,8 @@ use Rattle.decision.proofs.Tepla as tepla
 use Rattle.decision.proofs.Order as order
 use Rattle.decision.proofs.Growth as growth
 use Rattle.decision.proofs.Cases as cases
+use Rattle.decision.proofs.Numbers as coded
+use Rattle.decision.proofs.Rows as rows
 use Rattle.lines.proofs.Numbers as numbers
 use Rattle.lines.proofs.Output as output
 use Rattle.lines.proofs.Worked as worked
@@ -58,6 +60,10 @@ promises =
         marked-cases = cases.marked-cases;
         marked-adds = cases.marked-adds;
         clause-cases = cases.clause-cases;
+        rows-answered = rows.rows-answered;
+        slots-stay = rows.slots-stay;
+        rows-whole = rows.rows-whole;
+        row-alone = rows.row-alone;
       };
       ordering = record {
         order-rule = order.order-rule;
@@ -79,13 +85,13 @@ promises =
       };
       calling = record {
         check-whole = whole.check-whole;
-        decide-whole = whole.decide-whole;
+        decide-whole = coded.decide-whole;
         record-whole = whole.record-whole;
         add-whole = whole.add-whole;
-        parts-whole = whole.parts-whole;
-        parts-read = whole.parts-read;
+        parts-whole = coded.parts-whole;
+        parts-read = coded.parts-read;
         check-read = host.check-read;
-        decide-read = host.decide-read;
+        decide-read = coded.decide-read;
         record-read = host.record-read;
         add-read = host.add-read;
       };

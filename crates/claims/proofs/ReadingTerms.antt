@@ -26,7 +26,7 @@ use Rattle.extension.proofs.Trip.{overwrite-is}
 use Rattle.decision.specs.Cases.{companion, withSpace, extended}
 use Rattle.claims.specs.Promises.{Promises}
 use Rattle.claims.specs.Terms.{ReadingMet, AddingMet}
-use Rattle.claims.proofs.Cases.{empty-nine, rule-fields, roster-fields, companion-bytes, companion-space, companion-image, companion-length, companion-section}
+use Rattle.claims.proofs.Cases.{empty-nine, rule-fields, roster-fields, companion-bytes, companion-space, space-image, companion-length, companion-section}
 
 module _ (p : Promises) where
   -- ---- reading
@@ -81,7 +81,7 @@ module _ (p : Promises) where
   companion-added-policy =
       let a = p .reading .sample-accepted in
       p .adding .added-accepted (withSpace sample companion) companion companion-space companion-bytes (p .deciding .marked-adds .companied) .1
-      ∙ ap₂ (λ (s : Section) (l : List ℕ). withRecord s (policyOf l) companion) companion-section (companion-image (a .sample-passes))
+      ∙ ap₂ (λ (s : Section) (l : List ℕ). withRecord s (policyOf l) companion) companion-section (space-image companion (a .sample-passes))
 
   companion-last : policyOf (imageIn (extended sample companion)) .constraints ≡ policyOf sample .constraints ++ (companion ∷ [])
   companion-last =

@@ -16,9 +16,11 @@ use Rattle.decision.specs.Order.{Decided, DecidedOnly, OrderRule, QueryOrder, N
 use Rattle.decision.specs.Growth.{AddedGrows, AddedOrder, SameRules, RulesReordered, MemberOrder}
 use Rattle.decision.specs.Cases.{MarkedCases, MarkedAdds, MarkedOrder}
 use Rattle.decision.specs.Clauses.{ClauseCases, RefusalCases}
+use Rattle.decision.specs.Numbers.{DecideWhole, PartsWhole, PartsRead, DecideRead}
+use Rattle.decision.specs.Rows.{RowsAnswered, SlotsStay, RowsWhole, RowAlone}
 use Rattle.lines.specs.Claims.{DecimalFewest, DecimalRead, AnyReads}
 use Rattle.lines.specs.Worked.{WorkedLines, WorkedRuns}
-use Rattle.mungaite.specs.Claims.{CheckWhole, DecideWhole, RecordWhole, AddWhole, PartsWhole, PartsRead, CheckRead, DecideRead, RecordRead, AddRead}
+use Rattle.mungaite.specs.Claims.{CheckWhole, RecordWhole, AddWhole, CheckRead, RecordRead, AddRead}
 
 -- Demand 1: every policy that meets the layout is accepted with all its records, the last included; everything else is refused.
 pub record Reading : Type 0 where
@@ -88,6 +90,14 @@ pub record Deciding : Type 0 where
   pub marked-adds : MarkedAdds
   -- clauses that no marked case meets, as a second table
   pub clause-cases : ClauseCases
+  -- many queries at once: the slot of a row that is answered holds the number of the answer to it
+  pub rows-answered : RowsAnswered
+  -- every other slot is as it was
+  pub slots-stay : SlotsStay
+  -- every whole row is answered, as far as there are slots
+  pub rows-whole : RowsWhole
+  -- and its number depends on its own 8 bytes alone
+  pub row-alone : RowAlone
 
 -- Demand 3: the order rule, what the papers say of it, and what meets its terms.
 pub record Ordering : Type 0 where

@@ -5,9 +5,10 @@
 --     sampleAnd r         the sample with the record r added
 --     AtLeast n l q       a decision on l is at least so high: 1 is Permitted, 2 UnKnown
 --     threeQueries        document 01's first, third and fourth query, and what the program prints for them
+--     twoAndPart          two of them, and 7 bytes
 --     byBytes b           reads that bring one byte each
 --     ReadingMet, AddingMet, DecidingMet, OrderingMet, PrintingMet, CallingMet   by the parts of the statement
-use Prim.Native.Nat.{ℕ, suc, _+_, _*_, _/_, _%_, _≤_}
+use Prim.Native.Nat.{ℕ, suc, _+_, _*_, _/_, _%_, _<_, _≤_}
 use Prim.Native.String.{String}
 use mathlib.Core.Path.{_≡_}
 use mathlib.Core.Bool.{true, false}
@@ -20,8 +21,8 @@ use Rattle.format.specs.declared.Refusal.{Refusal}
 use Rattle.format.specs.Bytes.{Bytes}
 use Rattle.format.specs.Refusals.{refusal}
 use Rattle.format.specs.Format.{limitOf}
-use Rattle.format.specs.Policy.{recordsOf, imageOf, policyOf, placeOf}
-use Rattle.format.specs.Check.{check, imageIn}
+use Rattle.format.specs.Policy.{Policy, recordsOf, imageOf, policyOf, placeOf}
+use Rattle.format.specs.Check.{check, Accepted, imageIn}
 use Rattle.format.specs.Answers.{refused, gives, outcome, extent}
 use Rattle.format.specs.Give.{giveFault, givenRecord}
 use Rattle.format.specs.Claims.{IsType, typeFields, WellFormed, givenFrom}
@@ -31,18 +32,21 @@ use Rattle.extension.specs.Add.{addFault, newNumber, bufferAfter}
 use Rattle.extension.specs.Claims.{addAll, allRecords}
 use Rattle.decision.specs.declared.Query.{Query}
 use Rattle.decision.specs.Sets.{anyOf, isIn, setOf, within}
-use Rattle.decision.specs.Decide.{Rule, ruleOf, Constraint, Request, requestOf, covers, Decision, notPermitted, permitted, unknown, judge, answer}
+use Rattle.decision.specs.Reading.{Rule, Constraint, Request, requestOf, rulesOf}
+use Rattle.decision.specs.Decide.{covers, Decision, notPermitted, permitted, unknown, judge, decide, answer}
 use Rattle.decision.specs.Order.{height, Keeps, NoCompanion}
 use Rattle.decision.specs.Growth.{reordered, DecidedAbove}
 use Rattle.decision.specs.Cases.{g0, allow, companion, oneMember, withSpace, extended, cases}
-use Rattle.decision.specs.Tepla.{Dcs, compareDecisions, forget, evalPolicy, evalQuery}
+use Rattle.decision.specs.Tepla.{Dcs, compareDecisions, forget, evalPolicy}
 use Rattle.io.specs.Digits.{Fewest}
 use Rattle.lines.specs.Lines.{width, decimal, line}
 use Rattle.lines.specs.Output.{imageSize, printed, ran}
 use Rattle.lines.specs.Claims.{readFrom}
 use Rattle.lines.specs.Worked.{ascii, workedLines, asked, workedRuns}
-use Rattle.mungaite.specs.Code.{partsOf, faultCode, decisionCode, recordCode, addCode}
-use Rattle.mungaite.specs.Host.{hostChecked, hostDecision, hostFound, hostAdded}
+use Rattle.decision.specs.Numbers.{partsOf, decisionCode, hostDecision}
+use Rattle.decision.specs.Rows.{rowsIn, answered, rowAt}
+use Rattle.mungaite.specs.Code.{faultCode, recordCode, addCode}
+use Rattle.mungaite.specs.Host.{hostChecked, hostFound, hostAdded}
 
 abbrev pub query : ℕ → ℕ → ℕ → ℕ → Query
 query s d c a = record { source = s; dest = d; class = c; action = a }
@@ -55,6 +59,9 @@ AtLeast n l q = (d : Decision) → answer l q ≡ gives d → n ≤ height d
 
 abbrev pub threeQueries : List ℕ
 threeQueries = asked 10 21 5 1 ++ (asked 13 21 5 1 ++ asked 12 20 9 9)
+
+abbrev pub twoAndPart : List ℕ
+twoAndPart = asked 10 21 5 1 ++ (asked 12 20 9 9 ++ replicate 7 0)
 
 abbrev pub threeSaid : String
 threeSaid = "P 0\nN\nP 2\n"
@@ -74,13 +81,13 @@ pub record ReadingMet : Type 0 where
   pub longest-well-formed : WellFormed longest
   -- WellFormedIsAccepted: the longest policy, whose image is of bytes, and as it is read back
   pub longest-bytes : Bytes (imageOf longest)
-  pub longest-accepted : check (imageOf longest) ≡ none
+  pub longest-accepted : Accepted (imageOf longest)
   pub longest-policy : policyOf (imageOf longest) ≡ longest
   -- LongestImage: the longest policy's image is not longer
   pub longest-most : length (imageOf longest) ≤ 55561
   -- RecordsGiven: the last record of each section, a part of the image at its place
   pub last-given :
-      (l : List ℕ) → check l ≡ none → (s : Section) (n : ℕ) → length (recordsOf (policyOf l) s) ≡ suc n
+      (l : List ℕ) → Accepted l → (s : Section) (n : ℕ) → length (recordsOf (policyOf l) s) ≡ suc n
       → (givenRecord l s n ≡ take (length (givenRecord l s n)) (drop (placeOf l s n) l))
       × (placeOf l s n + length (givenRecord l s n) ≤ length l)
   -- AllGiven: every record of the longest image, and they are those given; NoneGiven: the number past the last
@@ -116,9 +123,9 @@ pub record DecidingMet : Type 0 where
   pub empty-decided : (d : Decision) × (answer empty (query 0 0 0 0) ≡ gives d)
   pub group-decided : (d : Decision) × (answer sample (query 10 g0 5 1) ≡ gives d)
   -- TypesFilled, FieldsFilled
-  pub types-some : (l : List ℕ) → check l ≡ none → (t : ℕ) → IsType (length (policyOf l .groups)) t → 1 ≤ length (setOf (policyOf l .groups) t)
+  pub types-some : (l : List ℕ) → Accepted l → (t : ℕ) → IsType (length (policyOf l .groups)) t → 1 ≤ length (setOf (policyOf l .groups) t)
   pub fields-some :
-      (l : List ℕ) → check l ≡ none → (s : Section) (r : List ℕ) → List·Memᴰ r (recordsOf (policyOf l) s)
+      (l : List ℕ) → Accepted l → (s : Section) (r : List ℕ) → List·Memᴰ r (recordsOf (policyOf l) s)
       → (t : ℕ) → List·Memᴰ t (typeFields r) → 1 ≤ length (setOf (policyOf l .groups) t)
   -- LowestNamed, NamedAlone: NotPermitted where no rule covers, and only there
   pub judge-covers : (rs : List Rule) (cs : List Constraint) (a : Request) → judge rs cs a ≡ notPermitted → anyOf (covers a) rs ≡ false
@@ -126,17 +133,27 @@ pub record DecidingMet : Type 0 where
   -- LowestAnswered: of an UnKnown, no rule before the one named covers
   pub lowest-unknown :
       (l : List ℕ) (q : Query) (r c : ℕ) → answer l q ≡ gives (unknown r c)
-      → anyOf (covers (requestOf (policyOf l .groups) q)) (take r (map (ruleOf (policyOf l .groups)) (policyOf l .rules))) ≡ false
+      → anyOf (covers (requestOf (policyOf l) q)) (take r (rulesOf (policyOf l))) ≡ false
   -- PublishedMeaning: where there is no constraint; PublishedOrder: UnKnown is above Permitted
-  pub no-constraints : (rs : List Rule) (a : Request) → evalPolicy rs [] a ≡ forget (judge rs [] a)
+  pub no-constraints : (p : Policy) (q : Query) → p .constraints ≡ [] → evalPolicy p q ≡ forget (decide p q)
   pub unknown-above : compareDecisions Dcs.UnKnown Dcs.Permitted ≡ false
   -- DecidedOnly, PublishedAnswer: a rule added, and the roster fails; a query on a group
-  pub published-unknown : evalQuery (policyOf (sampleAnd (allow 14 g0 7 7))) (query 10 21 5 1) ≡ Dcs.UnKnown
-  pub published-group : evalQuery (policyOf sample) (query 10 g0 5 1) ≡ Dcs.Permitted
+  pub published-unknown : evalPolicy (policyOf (sampleAnd (allow 14 g0 7 7))) (query 10 21 5 1) ≡ Dcs.UnKnown
+  pub published-group : evalPolicy (policyOf sample) (query 10 g0 5 1) ≡ Dcs.Permitted
   -- MarkedCases: all of them; the transition's, of another class and action; the last refusal
   pub cases-all : length cases ≡ 14
   pub other-class : answer sample (query 12 20 9 9) ≡ gives (permitted 2)
   pub no-group-1 : answer sample (query 32769 21 5 1) ≡ refused (refusal 8 0)
+  -- RowsAnswered, SlotsStay: two rows in three slots, of which the third stays
+  pub two-answered : answered sample twoAndPart (7 ∷ 8 ∷ 9 ∷ []) ≡ decisionCode (gives (permitted 0)) ∷ decisionCode (gives (permitted 2)) ∷ 9 ∷ []
+  -- RowsWhole: 7 bytes are no row; the last row is one; slots for two; no slot
+  pub two-rows : rowsIn twoAndPart 3 ≡ 2
+  pub last-row : rowsIn threeQueries 3 ≡ 3
+  pub two-slots : rowsIn threeQueries 2 ≡ 2
+  pub no-slot : (b : List ℕ) → rowsIn b 0 ≡ 0
+  -- RowAlone: a row by itself
+  pub row-by-itself :
+      (l b slots : List ℕ) (k : ℕ) → k < rowsIn b (length slots) → getD (answered l b slots) k 0 ≡ getD (answered l (rowAt b k) (0 ∷ [])) 0 0
 
 pub record OrderingMet : Type 0 where
   -- OrderRule: a rule added, and a member of the group for the group; a new group for it; what is UnKnown with a companion stays so
@@ -182,7 +199,7 @@ pub record OrderingMet : Type 0 where
   -- RulesReordered: with a companion; of every policy of at most 512 rules
   pub companion-reordered :
       (d : Decision) → answer (imageOf (reordered (policyOf (sampleAnd companion)))) (query 10 21 5 1) ≡ gives d → height d ≡ 2
-  pub half-reordered : (l : List ℕ) → Bytes l → check l ≡ none → length (policyOf l .rules) ≤ 512 → check (imageOf (reordered (policyOf l))) ≡ none
+  pub half-reordered : (l : List ℕ) → Bytes l → Accepted l → length (policyOf l .rules) ≤ 512 → Accepted (imageOf (reordered (policyOf l)))
 
 pub record PrintingMet : Type 0 where
   -- DecimalFewest, DecimalRead: the largest usize
@@ -210,7 +227,8 @@ pub record CallingMet : Type 0 where
   pub record-fits :
       (l : List ℕ) → Bytes l → (s : Section) (n : ℕ) → giveFault l s n ≡ none → (placeOf l s n ≤ 65535) × (length (givenRecord l s n) ≤ 130)
   pub number-fits : (b : List ℕ) → Bytes b → (r : List ℕ) → addFault b r ≡ none → newNumber b r ≤ 1023
-  -- PartsWhole: the numbers that README.md gives
+  -- PartsWhole: the numbers that include/mungaite.h gives
+  pub not-permitted-code : decisionCode (gives notPermitted) ≡ 0
   pub permitted-code : (r : ℕ) → r ≤ 65535 → decisionCode (gives (permitted r)) ≡ 1 * 4294967296 + r
   pub unknown-code : (r c : ℕ) → r ≤ 65535 → c ≤ 65535 → decisionCode (gives (unknown r c)) ≡ 3 * 4294967296 + r * 65536 + c
   -- PartsRead: the largest parts

@@ -1,14 +1,14 @@
 -- What an answer can hold, for the layers above. Assumes nothing.
 --     answer-refused       a refusal is the check's, or 8 or 9 with the place 0
 --     permitted-inside, unknown-inside   the numbers that a decision names are below the sections' counts
-use Prim.Native.Nat.{ℕ, zero, suc, _<_}
+use Prim.Native.Nat.{ℕ, _<_}
 use mathlib.Core.Path.{_≡_, refl, sym, ap, _∙_}
 use mathlib.Core.Logic.{_⊎_, inl, inr}
-use mathlib.Core.Bool.{Bool, true}
+use mathlib.Core.Bool.{Bool}
 use mathlib.Core.Option.{some}
-use mathlib.Core.List.{List, [], _∷_, map}
+use mathlib.Core.List.{List, map}
 use native.Mathlib.Omega.{arith}
-use lib.ListN.{length, take, drop, length-map}
+use lib.ListN.{length, length-map}
 use Rattle.format.specs.declared.Section.the-variants.{Groups, Rules, Constraints}
 use Rattle.format.specs.declared.Refusal.{Refusal}
 use Rattle.format.specs.Refusals.{refusal, need}
@@ -16,14 +16,14 @@ use Rattle.format.specs.Format.{isType, countOf}
 use Rattle.format.specs.Policy.{policyOf}
 use Rattle.format.specs.Check.{check}
 use Rattle.format.specs.Answers.{refused, gives}
-use Rattle.format.proofs.Tests.{false-not-true}
 use Rattle.format.proofs.Chain.{orElse-refuses, need-refuses, outcome-refused}
 use Rattle.format.proofs.ByCase.{records-of-rules, records-of-constraints}
 use Rattle.format.proofs.Accepted.{records-count}
 use Rattle.decision.specs.declared.Query.{Query}
-use Rattle.decision.specs.Sets.{anyOf}
+use Rattle.decision.specs.Reading.{rulesOf, constraintsOf}
 use Rattle.decision.specs.Decide.{decide, permitted, unknown, queryFault, answerFault, answer}
 use Rattle.decision.specs.Lowest.{Lowest}
+use Rattle.decision.proofs.Search.{lowest-inside}
 use Rattle.decision.proofs.Lowest.{lowest-answered}
 
 module _ (l : List ℕ) (q : Query) where
@@ -43,16 +43,9 @@ module _ (l : List ℕ) (q : Query) where
   unfolding answer
   answer-refused f e = fault-named f (outcome-refused (answerFault l q) (decide (policyOf l) q) (sym e))
 
-pass-inside : {A : Type 0} (f : A → Bool) (xs : List A) (n : ℕ) → anyOf f (take 1 (drop n xs)) ≡ true → n < length xs
-unfolding anyOf
-pass-inside f [] zero e = false-not-true e
-pass-inside f [] (suc n) e = false-not-true e
-pass-inside f (x ∷ xs) zero e = omega arith
-pass-inside f (x ∷ xs) (suc n) e = let h = pass-inside f xs n e in omega arith
-
 -- an element's number is below the section's count, where the elements are read from its records
 inside : {A : Type 0} (f : A → Bool) (g : List ℕ → A) (xs : List (List ℕ)) (n count : ℕ) → length xs ≡ count → Lowest f (map g xs) n → n < count
-inside f g xs n count e h = omega (arith, pass-inside f (map g xs) n (h .here), length-map xs g)
+inside f g xs n count e h = omega (arith, lowest-inside f (map g xs) n h, length-map xs g)
 
 module _ (l : List ℕ) where
   rules-are : length (policyOf l .rules) ≡ countOf l Rules
@@ -63,9 +56,11 @@ module _ (l : List ℕ) where
 
   module _ (q : Query) where
     pub permitted-inside : (r : ℕ) → answer l q ≡ gives (permitted r) → r < countOf l Rules
+    unfolding rulesOf
     permitted-inside r e = inside _ _ (policyOf l .rules) r (countOf l Rules) rules-are (lowest-answered l q (permitted r) e .0)
 
     pub unknown-inside : (r c : ℕ) → answer l q ≡ gives (unknown r c) → (r < countOf l Rules) × (c < countOf l Constraints)
+    unfolding rulesOf constraintsOf
     unknown-inside r c e =
         let n = lowest-answered l q (unknown r c) e in (
           inside _ _ (policyOf l .rules) r (countOf l Rules) rules-are (n .0),

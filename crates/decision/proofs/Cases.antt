@@ -16,7 +16,8 @@ use Rattle.format.specs.Sample.{sample, empty}
 use Rattle.extension.specs.Add.{sectionOf, withRecord, fieldFault, newNumber, ownFault, addFault, newImage, overwrite, bufferAfter}
 use Rattle.decision.specs.declared.Query.{Query}
 use Rattle.decision.specs.Sets.{anyOf, allOf, isIn, setOf, unionOf, within, touches, sameSet}
-use Rattle.decision.specs.Decide.{ruleOf, constraintOf, requestOf, live, tests, covers, reaches, separationBroken, rosterBroken, companionBroken, broken, fails, firstAt, Decision, notPermitted, permitted, unknown, decisionOf, judge, decide, queryFault, answerFault, answer}
+use Rattle.decision.specs.Reading.{asks, live, ruleOf, constraintOf, requestOf, rulesOf, constraintsOf}
+use Rattle.decision.specs.Decide.{tests, covers, reaches, separationBroken, rosterBroken, companionBroken, broken, applies, inside, fails, firstAt, Decision, notPermitted, permitted, unknown, decisionOf, judge, decide, queryFault, answerFault, answer}
 use Rattle.decision.specs.Order.{NoCompanion}
 use Rattle.decision.specs.Cases.{withSpace, extended, g0, allow, companion, oneMember, banned, ask, cases, given, expectedOf, MarkedCases, MarkedAdds, MarkedOrder}
 use Rattle.decision.specs.Clauses.{separation, allowGroup, companionOfGroup, rosterOfGroup, backTransition, longRoster, clauseCases, ClauseCases, RefusalCases}
@@ -34,7 +35,8 @@ unfolding
     readFields readOf readFault sectionFault countFault headerFault bodyFault check imageIn checkFront
     sample empty sectionOf withRecord fieldFault newNumber ownFault addFault newImage overwrite bufferAfter
     anyOf allOf isIn setOf unionOf within touches sameSet
-    ruleOf constraintOf requestOf live tests covers reaches separationBroken rosterBroken companionBroken broken fails firstAt decisionOf judge decide queryFault answerFault answer
+    asks live ruleOf constraintOf requestOf rulesOf constraintsOf
+    tests covers reaches separationBroken rosterBroken companionBroken broken applies inside fails firstAt decisionOf judge decide queryFault answerFault answer
     withSpace extended g0 allow companion oneMember banned separation allowGroup backTransition longRoster companionOfGroup rosterOfGroup ask cases clauseCases given expectedOf reordered
 computed = (refl, adds, order, refl, refusals)
   where

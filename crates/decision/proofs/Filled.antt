@@ -3,7 +3,6 @@ use Prim.Native.Nat.{ℕ, _-_, _<_}
 use native.Mathlib.Omega.{arith}
 use mathlib.Core.Path.{_≡_, subst}
 use mathlib.Core.Logic.{inl, inr}
-use mathlib.Core.Option.{none}
 use mathlib.Core.List.{List, []}
 use lib.ListN.{length, getD, drop, length-drop}
 use borrow.Author.Tests.{lt-ltb, le-ltb}
@@ -11,7 +10,7 @@ use Rattle.format.specs.declared.Section.the-variants.{Groups}
 use Rattle.format.specs.Bytes.{words}
 use Rattle.format.specs.Format.{countOf}
 use Rattle.format.specs.Policy.{policyOf, recordAt, placeOf}
-use Rattle.format.specs.Check.{check}
+use Rattle.format.specs.Check.{Accepted}
 use Rattle.format.specs.Claims.{IsGroup}
 use Rattle.format.proofs.Bytes.{length-words}
 use Rattle.format.proofs.Fields.{formed-is, record-group}
@@ -24,7 +23,7 @@ use Rattle.decision.specs.Filled.{TypesFilled, FieldsFilled}
 group-filled : (r : List ℕ) (n : ℕ) → IsGroup r n → 0 < length (words (drop 2 r))
 group-filled r n g = omega (arith, g .size .1, g .some, length-words (drop 2 r), length-drop 2 r)
 
-module _ (l : List ℕ) (e : check l ≡ none) (k : ℕ) (h : k < countOf l Groups) where
+module _ (l : List ℕ) (e : Accepted l) (k : ℕ) (h : k < countOf l Groups) where
   group-is : (n : ℕ) × IsGroup (recordAt l (placeOf l Groups k)) n
   group-is = record-group _ _ (formed-is _ _ Groups (record-formed l e Groups k h))
 

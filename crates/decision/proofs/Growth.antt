@@ -1,142 +1,120 @@
 -- What meets the order rule's terms. Claims AddedGrows, AddedOrder, SameRules, RulesReordered, MemberOrder. Assumes nothing.
 use Prim.Native.Nat.{ℕ, _+_, _≤_, _<_}
 use native.Mathlib.Omega.{arith}
-use mathlib.Core.Path.{_≡_, refl, sym, subst, ap, _∙_}
+use mathlib.Core.Path.{_≡_, refl, sym, subst, ap}
 use mathlib.Core.Logic.{_⊎_, inl, inr, ⊎-elim}
 use mathlib.Core.Bool.{true}
-use mathlib.Core.Option.{none}
-use mathlib.Core.List.{List, [], _∷_, reverse, reverseAux, List·Memᴰ, List·Memᴰ·head, List·Memᴰ·tail, List·Memᴰ·not-nil, List·Memᴰ·cases-cons, Memᴰ·append-right, List·Memᴰ·append-cases}
-use lib.ListN.{length, getD, length-append}
+use mathlib.Core.List.{List, [], _∷_, reverse, reverse-cons, reverse-reverse, List·Memᴰ, List·Memᴰ·head, List·Memᴰ·tail, List·Memᴰ·eq-of-singleton, Memᴰ·append-right, List·Memᴰ·append-cases}
+use lib.ListN.{length, getD, length-append, length-reverse}
 use borrow.Author.Tests.{lt-ltb}
 use Rattle.format.specs.declared.Section.{Section}
 use Rattle.format.specs.declared.Section.the-variants.{Groups, Rules, Constraints}
 use Rattle.format.specs.Bytes.{Bytes}
 use Rattle.format.specs.Format.{isType, countOf}
 use Rattle.format.specs.Policy.{Policy, recordsOf, imageOf, policyOf}
-use Rattle.format.specs.Check.{check, imageIn}
+use Rattle.format.specs.Check.{Accepted, imageIn}
 use Rattle.format.specs.Answers.{gives}
 use Rattle.format.specs.Claims.{IsType, WellFormed}
 use Rattle.format.proofs.ByCase.{records-of-groups, records-of-rules, records-of-constraints}
 use Rattle.format.proofs.Fields.{is-type}
 use Rattle.format.proofs.Front.{front-accepted}
 use Rattle.format.proofs.Images.{group-count, accepted-is-well-formed, well-formed-is-accepted}
-use Rattle.extension.specs.Add.{sectionOf, withRecord, addFault, bufferAfter}
+use Rattle.extension.specs.Add.{sectionOf, bufferAfter}
 use Rattle.extension.proofs.Adds.{with-groups, with-rules, with-constraints, rules-with, added-accepted, groups-kept}
 use Rattle.decision.specs.declared.Query.{Query}
 use Rattle.decision.specs.Sets.{isIn, setOf, allOf, within}
 use Rattle.decision.specs.Decide.{Decision, answer}
-use Rattle.decision.specs.Order.{Holds, Keeps, Grows}
+use Rattle.decision.specs.Order.{height, Holds, Keeps}
 use Rattle.decision.specs.Growth.{AddedGrows, AddedOrder, SameRules, reordered, DecidedLevel, RulesReordered, MemberOrder}
 use Rattle.decision.proofs.Order.{answer-types, keeps-same, grown-order, query-order, decided}
 
 -- ---- adding
 
-module _ (b r : List ℕ) (by : Bytes b) (bytes : Bytes r) (e : addFault b r ≡ none) where
-  after : policyOf (imageIn (bufferAfter b r)) ≡ withRecord (sectionOf (getD r 1 0)) (policyOf (imageIn b)) r
-  after = added-accepted b r by bytes e .1
-
-  after-grows : Grows (policyOf (imageIn b)) (policyOf (imageIn (bufferAfter b r)))
-  after-grows =
-      let s : Section = sectionOf (getD r 1 0) in
-      let p : Policy = policyOf (imageIn b) in
-      record {
-        rules = subst (λ (q : Policy). Holds (p .rules) (q .rules)) (sym after) (with-rules p r s);
-        constraints = subst (λ (q : Policy). Holds (p .constraints) (q .constraints)) (sym after) (with-constraints p r s);
-        groups = record {
-          count = subst (λ (q : Policy). length (p .groups) ≤ length (q .groups)) (sym after) (with-groups p r s);
-          same = λ i h. sym (groups-kept b r by bytes e i h);
-        };
-      }
-
-  after-rules : (sectionOf (getD r 1 0) ≡ Rules → ⊥) → Holds (policyOf (imageIn (bufferAfter b r)) .rules) (policyOf (imageIn b) .rules)
-  after-rules n =
-      let p : Policy = policyOf (imageIn b) in
-      subst (λ (q : Policy). Holds (q .rules) (p .rules)) (sym after) (rules-with p r (sectionOf (getD r 1 0)) n)
-
 pub added-grows : AddedGrows
-added-grows b r by bytes e = after-grows b r by bytes e
+added-grows b r by bytes e =
+    let s : Section = sectionOf (getD r 1 0) in
+    let p : Policy = policyOf (imageIn b) in
+    let after = sym (added-accepted b r by bytes e .1) in
+    record {
+      rules = subst (λ (q : Policy). Holds (p .rules) (q .rules)) after (with-rules p r s);
+      constraints = subst (λ (q : Policy). Holds (p .constraints) (q .constraints)) after (with-constraints p r s);
+      groups = record {
+        count = subst (λ (q : Policy). length (p .groups) ≤ length (q .groups)) after (with-groups p r s);
+        same = λ i h. sym (groups-kept b r by bytes e i h);
+      };
+    }
 
 type-more : (g g′ t : ℕ) → g ≤ g′ → IsType g t → IsType g′ t
 type-more g g′ t h (inl k) = inl k
 type-more g g′ t h (inr q) = inr (q .0, omega (arith, q .1), q .2)
 
 -- a query that is valid on a policy is valid on an accepted one with at least as many groups
-still-decided : (l₁ l₂ : List ℕ) (q : Query) (d : Decision) → answer l₁ q ≡ gives d → check l₂ ≡ none
+still-decided : (l₁ l₂ : List ℕ) (q : Query) (d : Decision) → answer l₁ q ≡ gives d → Accepted l₂
     → length (policyOf l₁ .groups) ≤ length (policyOf l₂ .groups) → (d₂ : Decision) × (answer l₂ q ≡ gives d₂)
 still-decided l₁ l₂ q d e c h =
     let t = answer-types l₁ q d e in
     let valid : (x : ℕ) → IsType (length (policyOf l₁ .groups)) x → isType (countOf l₂ Groups) x ≡ true =
     λ x k. is-type (countOf l₂ Groups) x (subst (λ (g : ℕ). IsType g x) (group-count l₂) (type-more _ _ x h k)) in
-    decided l₂ q c (valid (q .source) (t .0)) (valid (q .dest) (t .1))
+    decided l₂ q c (valid (q .source) (t .0), valid (q .dest) (t .1))
 
 pub added-order : AddedOrder
 added-order b r by bytes e n q d a =
-    let grows = after-grows b r by bytes e in
-    let ok : check (imageIn (bufferAfter b r)) ≡ none = front-accepted (bufferAfter b r) (added-accepted b r by bytes e .0) in
-    let still = still-decided (imageIn b) (imageIn (bufferAfter b r)) q d a ok (grows .groups .count) in
+    let p : Policy = policyOf (imageIn b) in
+    let added = added-accepted b r by bytes e in
+    let grows = added-grows b r by bytes e in
+    let still = still-decided (imageIn b) (imageIn (bufferAfter b r)) q d a (front-accepted (bufferAfter b r) (added .0)) (grows .groups .count) in
+    let back : (sectionOf (getD r 1 0) ≡ Rules → ⊥) → Holds (policyOf (imageIn (bufferAfter b r)) .rules) (p .rules) =
+    λ m. subst (λ (x : Policy). Holds (x .rules) (p .rules)) (sym (added .1)) (rules-with p r (sectionOf (getD r 1 0)) m) in
     record {
       now = still .0;
       answered = still .1;
-      above = grown-order (imageIn b) (imageIn (bufferAfter b r)) q d (still .0) a (still .1) grows (⊎-elim inl (λ m. inr (after-rules b r by bytes e m)) n);
+      above = grown-order (imageIn b) (imageIn (bufferAfter b r)) q d (still .0) a (still .1) grows (⊎-elim inl (λ m. inr (back m)) n);
     }
 
 -- ---- the same rules
 
+not-lower :
+    (l₁ l₂ : List ℕ) (q : Query) (d₁ d₂ : Decision) → answer l₁ q ≡ gives d₁ → answer l₂ q ≡ gives d₂
+    → policyOf l₁ .groups ≡ policyOf l₂ .groups → Holds (policyOf l₁ .constraints) (policyOf l₂ .constraints)
+    → Holds (policyOf l₁ .rules) (policyOf l₂ .rules) → Holds (policyOf l₂ .rules) (policyOf l₁ .rules) → height d₁ ≤ height d₂
+not-lower l₁ l₂ q d₁ d₂ e₁ e₂ g c there back =
+    grown-order l₁ l₂ q d₁ d₂ e₁ e₂
+    (record { rules = there; constraints = c; groups = subst (Keeps (policyOf l₁ .groups)) g (keeps-same (policyOf l₁ .groups)) }) (inr back)
+
 pub same-rules : SameRules
 same-rules l₁ l₂ q d₁ d₂ e₁ e₂ g c c′ there back =
-    let grows : Grows (policyOf l₁) (policyOf l₂) =
-    record {
-      rules = there;
-      constraints = c;
-      groups = subst (Keeps (policyOf l₁ .groups)) g (keeps-same (policyOf l₁ .groups));
-    } in
-    let shrinks : Grows (policyOf l₂) (policyOf l₁) =
-    record {
-      rules = back;
-      constraints = c′;
-      groups = subst (Keeps (policyOf l₂ .groups)) (sym g) (keeps-same (policyOf l₂ .groups));
-    } in
-    let up = grown-order l₁ l₂ q d₁ d₂ e₁ e₂ grows (inr back) in
-    let down = grown-order l₂ l₁ q d₂ d₁ e₂ e₁ shrinks (inr there) in
+    let up = not-lower l₁ l₂ q d₁ d₂ e₁ e₂ g c there back in
+    let down = not-lower l₂ l₁ q d₂ d₁ e₂ e₁ (sym g) c′ back there in
     omega arith
 
-reverse-mem : (x : List ℕ) (xs ys : List (List ℕ)) → List·Memᴰ x (reverseAux xs ys) → List·Memᴰ x xs ⊎ List·Memᴰ x ys
-reverse-mem x [] ys m = inr m
-reverse-mem x (y ∷ xs) ys m =
-    ⊎-elim
-    (λ k. inl (List·Memᴰ·tail k))
-    (λ k. ⊎-elim (λ e. inl (List·Memᴰ·head e)) inr (List·Memᴰ·cases-cons k))
-    (reverse-mem x xs (y ∷ ys) m)
+reverse-mem : {x : List ℕ} (xs : List (List ℕ)) → List·Memᴰ x (reverse xs) → List·Memᴰ x xs
+reverse-mem [] m = m
+reverse-mem {x} (y ∷ xs) m =
+    ⊎-elim (λ k. List·Memᴰ·tail (reverse-mem xs k)) (λ k. List·Memᴰ·head (List·Memᴰ·eq-of-singleton k))
+    (List·Memᴰ·append-cases (reverse xs) (subst (List·Memᴰ x) (reverse-cons y xs) m))
 
-mem-reverse : (x : List ℕ) (xs ys : List (List ℕ)) → List·Memᴰ x xs ⊎ List·Memᴰ x ys → List·Memᴰ x (reverseAux xs ys)
-mem-reverse x [] ys (inl m) = absurd (List·Memᴰ·not-nil m)
-mem-reverse x [] ys (inr m) = m
-mem-reverse x (y ∷ xs) ys (inl m) =
-    mem-reverse x xs (y ∷ ys) (⊎-elim (λ e. inr (List·Memᴰ·head e)) inl (List·Memᴰ·cases-cons m))
-mem-reverse x (y ∷ xs) ys (inr m) = mem-reverse x xs (y ∷ ys) (inr (List·Memᴰ·tail m))
+mem-reverse : {x : List ℕ} (xs : List (List ℕ)) → List·Memᴰ x xs → List·Memᴰ x (reverse xs)
+mem-reverse {x} xs m = reverse-mem (reverse xs) (subst (List·Memᴰ x) (sym (reverse-reverse xs)) m)
 
-length-aux : (xs ys : List (List ℕ)) → length (reverseAux xs ys) ≡ length xs + length ys
-length-aux [] ys = omega arith
-length-aux (x ∷ xs) ys = let e = length-aux xs (x ∷ ys) in omega arith
+-- two policies with the same groups, and each with the other's rules and constraints
+record Alike (p₁ p₂ : Policy) : Type 0 where
+  groups : p₁ .groups ≡ p₂ .groups
+  constraints : Holds (p₁ .constraints) (p₂ .constraints)
+  constraints-back : Holds (p₂ .constraints) (p₁ .constraints)
+  rules : Holds (p₁ .rules) (p₂ .rules)
+  rules-back : Holds (p₂ .rules) (p₁ .rules)
 
 module _ (p : Policy) where
-  reordered-holds : Holds (p .rules) (reordered p .rules)
+  reordered-alike : Alike p (reordered p)
   unfolding reordered
-  reordered-holds x m = Memᴰ·append-right (reverse (p .rules)) m
-
-  reordered-back : Holds (reordered p .rules) (p .rules)
-  unfolding reordered
-  reordered-back x m =
-      ⊎-elim (λ k. ⊎-elim (λ j. j) (λ j. absurd (List·Memᴰ·not-nil j)) (reverse-mem x (p .rules) [] k)) (λ k. k)
-      (List·Memᴰ·append-cases (reverse (p .rules)) m)
-
-  reordered-constraints : Holds (p .constraints) (reordered p .constraints)
-  unfolding reordered
-  reordered-constraints x m = mem-reverse x (p .constraints) [] (inl m)
-
-  constraints-back : Holds (reordered p .constraints) (p .constraints)
-  unfolding reordered
-  constraints-back x m = ⊎-elim (λ j. j) (λ j. absurd (List·Memᴰ·not-nil j)) (reverse-mem x (p .constraints) [] m)
+  reordered-alike =
+      record {
+        groups = refl;
+        constraints = λ x m. mem-reverse (p .constraints) m;
+        constraints-back = λ x m. reverse-mem (p .constraints) m;
+        rules = λ x m. Memᴰ·append-right (reverse (p .rules)) m;
+        rules-back = λ x m. ⊎-elim (reverse-mem (p .rules)) (λ k. k) (List·Memᴰ·append-cases (reverse (p .rules)) m);
+      }
 
   -- what holds of each record holds of each record still
   reordered-all :
@@ -144,9 +122,9 @@ module _ (p : Policy) where
       → (s : Section) (r : List ℕ) → List·Memᴰ r (recordsOf (reordered p) s) → P s r
   unfolding reordered
   reordered-all P h Groups r m = h Groups r (rw (records-of-groups p) (rw (records-of-groups (reordered p)) at m))
-  reordered-all P h Rules r m = h Rules r (rw (records-of-rules p) (reordered-back r (rw (records-of-rules (reordered p)) at m)))
+  reordered-all P h Rules r m = h Rules r (rw (records-of-rules p) (reordered-alike .rules-back r (rw (records-of-rules (reordered p)) at m)))
   reordered-all P h Constraints r m =
-      h Constraints r (rw (records-of-constraints p) (constraints-back r (rw (records-of-constraints (reordered p)) at m)))
+      h Constraints r (rw (records-of-constraints p) (reordered-alike .constraints-back r (rw (records-of-constraints (reordered p)) at m)))
 
   reordered-formed : WellFormed p → length (p .rules) + length (p .rules) ≤ 1024 → WellFormed (reordered p)
   unfolding reordered
@@ -154,15 +132,11 @@ module _ (p : Policy) where
       record {
         version = w .version;
         few-groups = w .few-groups;
-        few-rules = omega (arith, length-append (reverse (p .rules)) (p .rules), length-aux (p .rules) []);
-        few-constraints = omega (arith, w .few-constraints, length-aux (p .constraints) []);
+        few-rules = omega (arith, length-append (reverse (p .rules)) (p .rules), length-reverse (p .rules));
+        few-constraints = omega (arith, w .few-constraints, length-reverse (p .constraints));
         records = reordered-all (λ s r. _) (w .records);
         bytes = reordered-all (λ s r. Bytes r) (w .bytes);
       }
-
-  reordered-groups : reordered p .groups ≡ p .groups
-  unfolding reordered
-  reordered-groups = refl
 
 pub rules-reordered : RulesReordered
 rules-reordered l by e h = (ok .1, level)
@@ -173,24 +147,21 @@ rules-reordered l by e h = (ok .1, level)
     l₂ : List ℕ
     l₂ = imageOf (reordered (policyOf l))
 
-    ok : Bytes l₂ × (check l₂ ≡ none) × (policyOf l₂ ≡ reordered p)
+    ok : Bytes l₂ × Accepted l₂ × (policyOf l₂ ≡ reordered p)
     ok = well-formed-is-accepted (reordered p) (reordered-formed p (accepted-is-well-formed l by e .0) h)
 
-    groups-same : policyOf l .groups ≡ policyOf l₂ .groups
-    groups-same = sym (ap (λ (x : Policy). x .groups) (ok .2) ∙ reordered-groups p)
+    alike : Alike p (policyOf l₂)
+    alike = subst (Alike p) (sym (ok .2)) (reordered-alike p)
 
     level : (q : Query) (d : Decision) → answer l q ≡ gives d → DecidedLevel l₂ q d
     level q d a =
-        let still = still-decided l l₂ q d a (ok .1) (omega (arith, ap length groups-same)) in
+        let still = still-decided l l₂ q d a (ok .1) (omega (arith, ap length (alike .groups))) in
         record {
           now = still .0;
           answered = still .1;
           level =
-              same-rules l l₂ q d (still .0) a (still .1) groups-same
-              (subst (λ (x : Policy). Holds (p .constraints) (x .constraints)) (sym (ok .2)) (reordered-constraints p))
-              (subst (λ (x : Policy). Holds (x .constraints) (p .constraints)) (sym (ok .2)) (constraints-back p))
-              (subst (λ (x : Policy). Holds (p .rules) (x .rules)) (sym (ok .2)) (reordered-holds p))
-              (subst (λ (x : Policy). Holds (x .rules) (p .rules)) (sym (ok .2)) (reordered-back p));
+              same-rules l l₂ q d (still .0) a (still .1) (alike .groups) (alike .constraints) (alike .constraints-back)
+              (alike .rules) (alike .rules-back);
         }
 
 -- ---- a member of a group

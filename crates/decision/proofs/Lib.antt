@@ -1,8 +1,13 @@
-pub mod Cases
+pub mod Search
 pub mod Implies
-pub mod Lowest
+pub mod Above
+pub mod Kept
 pub mod Order
+pub mod Lowest
 pub mod Growth
 pub mod Filled
 pub mod Tepla
 pub mod Answers
+pub mod Cases
+pub mod Numbers
+pub mod Rows

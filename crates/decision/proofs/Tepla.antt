@@ -1,41 +1,47 @@
--- TEpla's published evaluation decides as ours does: claims PublishedMeaning and PublishedAnswer. Assumes nothing.
+-- TEpla's published evaluation decides as ours does: claims PublishedMeaning, PublishedAnswer, PublishedOrder. Assumes nothing.
 use Prim.Native.Nat.{ℕ}
 use mathlib.Core.Path.{_≡_, refl, sym, ap, _∙_}
-use mathlib.Core.Bool.{Bool, true, false, not, _&&_, _||_, cond}
-use mathlib.Core.Option.{Option, none, some}
+use mathlib.Core.Bool.{Bool, true, false, not, _&&_, _||_, cond, and-true}
+use mathlib.Core.Option.{none, some}
 use mathlib.Core.List.{List, [], _∷_, map}
-use lib.Dec.{eqb}
-use Rattle.decision.specs.Sets.{anyOf, allOf, within}
-use Rattle.decision.specs.Decide.{Rule, Constraint, Request, live, tests, covers, broken, fails, firstAt, notPermitted, permitted, unknown, decisionOf, judge, decide}
-use Rattle.decision.specs.Tepla.{Dcs, NotPermitted, Permitted, UnKnown, compareDecisions, maximalDcs, maximum, allows, transits, evalRule, prdct, evalConstraint, maximalPolicy, evalPolicy, evalQuery, forget, PublishedMeaning, PublishedAnswer, PublishedOrder}
+use lib.ListN.{getD}
+use lib.Dec.{eqb, leb·zero}
+use Rattle.format.specs.Bytes.{wordAt}
+use Rattle.format.specs.Policy.{Policy, policyOf}
+use Rattle.decision.specs.declared.Query.{Query}
+use Rattle.decision.specs.Sets.{anyOf, allOf, setOf, within}
+use Rattle.decision.specs.Reading.{Rule, Constraint, Request, asks, ruleOf, requestOf, rulesOf, constraintsOf}
+use Rattle.decision.specs.Decide.{tests, covers, broken, applies, inside, fails, notPermitted, permitted, unknown, judge, decide}
+use Rattle.decision.specs.Tepla.{Dcs, NotPermitted, Permitted, UnKnown, compareDecisions, maximalDcs, maximum, typesWithin, allows, evalRule, prdct, evalConstraint, maximalPolicy, evalPolicy, forget, PublishedMeaning, PublishedAnswer, PublishedOrder}
 use Rattle.decision.specs.Order.{height}
-use Rattle.decision.proofs.Order.{isFound, found-any, answer-accepted, decided}
+use Rattle.decision.proofs.Above.{judge-says}
+use Rattle.decision.proofs.Order.{answer-accepted, decided}
 
 -- ---- a rule permits where it covers
 
-regroup : (p s d c a : Bool) → p && s && d && c && a ≡ p && (s && (d && (c && (a && true))))
-regroup false s d c a = refl
-regroup true false d c a = refl
-regroup true true false c a = refl
-regroup true true true false a = refl
-regroup true true true true false = refl
-regroup true true true true true = refl
+allow-tests : (p s d c a : Bool) → p && (s && d) && c && a ≡ (p && (s && (d && (c && (a && true)))))
+allow-tests false s d c a = refl
+allow-tests true false d c a = refl
+allow-tests true true false c a = refl
+allow-tests true true true false a = refl
+allow-tests true true true true a = sym (and-true a)
 
-regroup-two : (s d : Bool) → s && d ≡ true && (s && (d && true))
-regroup-two false d = refl
-regroup-two true false = refl
-regroup-two true true = refl
+-- by the kind of the record: a transition, or an allow rule
+rule-tests :
+    (t on s d : Bool) (c k e n : ℕ)
+    → cond t (s && d) (on && (s && d) && eqb c k && eqb e n)
+    ≡ allOf (λ x. x) (cond t true on ∷ s ∷ d ∷ asks (cond t none (some c)) k ∷ asks (cond t none (some e)) n ∷ [])
+unfolding allOf asks
+rule-tests true on s d c k e n = ap (λ (x : Bool). s && x) (sym (and-true d))
+rule-tests false on s d c k e n = allow-tests on s d (eqb c k) (eqb e n)
 
-rule-tests : (b p s d c a : Bool) → cond b (s && d) (p && s && d && c && a) ≡ allOf (λ x. x) (cond b (true ∷ s ∷ d ∷ []) (p ∷ s ∷ d ∷ c ∷ a ∷ []))
-unfolding allOf
-rule-tests true p s d c a = regroup-two s d
-rule-tests false p s d c a = regroup p s d c a
-
-rule-covers : (a : Request) (r : Rule) → evalRule a r ≡ cond (covers a r) Permitted NotPermitted
-unfolding evalRule transits allows covers tests
-rule-covers a r =
+rule-covers : (p : Policy) (q : Query) (r : List ℕ) → evalRule p q r ≡ cond (covers (requestOf p q) (ruleOf p r)) Permitted NotPermitted
+unfolding evalRule typesWithin allows covers tests ruleOf requestOf
+rule-covers p q r =
     ap (λ (x : Bool). cond x Permitted NotPermitted)
-    (rule-tests (eqb (r .kind) 3) (live r) (within (a .source) (r .source)) (within (a .dest) (r .dest)) (eqb (r .class) (a .class)) (eqb (r .action) (a .action)))
+    (rule-tests (eqb (getD r 1 0) 3) (eqb (getD r 1 0) 2 && eqb (getD r 10 0) 1)
+    (within (setOf (p .groups) (q .source)) (setOf (p .groups) (wordAt r 2))) (within (setOf (p .groups) (q .dest)) (setOf (p .groups) (wordAt r 4)))
+    (wordAt r 6) (q .class) (wordAt r 8) (q .action))
 
 permitted-or : (x y : Bool) → maximalDcs (cond x Permitted NotPermitted) (cond y Permitted NotPermitted) ≡ cond (x || y) Permitted NotPermitted
 unfolding maximalDcs compareDecisions
@@ -44,27 +50,25 @@ permitted-or true false = refl
 permitted-or false true = refl
 permitted-or false false = refl
 
-rules-any : (a : Request) (rs : List Rule) → maximum (map (evalRule a) rs) ≡ cond (anyOf (covers a) rs) Permitted NotPermitted
+rules-any :
+    (p : Policy) (q : Query) (rs : List (List ℕ))
+    → maximum (map (evalRule p q) rs) ≡ cond (anyOf (covers (requestOf p q)) (map (ruleOf p) rs)) Permitted NotPermitted
 unfolding maximum anyOf
-rules-any a [] = refl
-rules-any a (r ∷ rs) = rw (rule-covers a r, rules-any a rs) (permitted-or (covers a r) (anyOf (covers a) rs))
+rules-any p q [] = refl
+rules-any p q (r ∷ rs) = rw (rule-covers p q r, rules-any p q rs) (permitted-or (covers (requestOf p q) (ruleOf p r)) (anyOf (covers (requestOf p q)) (map (ruleOf p) rs)))
 
 -- ---- on top of a permitted query, a constraint raises it where it fails
 
-constraint-cases :
-    (c a s d b : Bool) → maximalDcs Permitted (cond (c && a) (cond (cond (s && d) (not b) true) Permitted UnKnown) NotPermitted) ≡ cond (c && a && s && d && b) UnKnown Permitted
+constraint-cases : (x y b : Bool) → maximalDcs Permitted (cond x (cond (cond y (not b) true) Permitted UnKnown) NotPermitted) ≡ cond (x && y && b) UnKnown Permitted
 unfolding maximalDcs compareDecisions
-constraint-cases false a s d b = refl
-constraint-cases true false s d b = refl
-constraint-cases true true false d b = refl
-constraint-cases true true true false b = refl
-constraint-cases true true true true false = refl
-constraint-cases true true true true true = refl
+constraint-cases false y b = refl
+constraint-cases true false b = refl
+constraint-cases true true false = refl
+constraint-cases true true true = refl
 
 constraint-fails : (rs : List Rule) (a : Request) (c : Constraint) → maximalDcs Permitted (evalConstraint rs a c) ≡ cond (fails rs a c) UnKnown Permitted
-unfolding evalConstraint prdct fails
-constraint-fails rs a c =
-    constraint-cases (eqb (c .class) (a .class)) (eqb (c .action) (a .action)) (within (a .source) (c .first)) (within (a .dest) (c .second)) (broken rs c)
+unfolding evalConstraint prdct fails applies inside
+constraint-fails rs a c = constraint-cases (applies a c) (inside a c) (broken rs c)
 
 split-permitted : (d e : Dcs) → maximalDcs Permitted (maximalDcs d e) ≡ maximalDcs (maximalDcs Permitted d) (maximalDcs Permitted e)
 unfolding maximalDcs compareDecisions
@@ -98,35 +102,33 @@ constraints-any rs a (c ∷ cs) =
 
 -- ---- the two together
 
-forget-by : (x y : Option ℕ) → forget (decisionOf x y) ≡ cond (isFound x) (cond (isFound y) UnKnown Permitted) NotPermitted
-unfolding forget decisionOf isFound
-forget-by none y = refl
-forget-by (some r) none = refl
-forget-by (some r) (some c) = refl
-
 combine : (x y : Bool) (d : Dcs) → maximalDcs Permitted d ≡ cond y UnKnown Permitted → maximalPolicy (cond x Permitted NotPermitted) d ≡ cond x (cond y UnKnown Permitted) NotPermitted
 unfolding maximalPolicy compareDecisions
 combine true y d e = e
 combine false y d e = refl
 
+forget-judge : (rs : List Rule) (cs : List Constraint) (a : Request) → forget (judge rs cs a) ≡ cond (anyOf (covers a) rs) (cond (anyOf (fails rs a) cs) UnKnown Permitted) NotPermitted
+unfolding forget
+forget-judge = judge-says forget NotPermitted Permitted UnKnown refl (λ r. refl) (λ r c. refl)
+
 pub published-meaning : PublishedMeaning
-unfolding evalPolicy judge
-published-meaning rs cs a =
-    ap (λ (d : Dcs). maximalPolicy d (maximum (map (evalConstraint rs a) cs))) (rules-any a rs)
+unfolding evalPolicy decide rulesOf
+published-meaning p q =
+    let a : Request = requestOf p q in
+    let rs : List Rule = rulesOf p in
+    let cs : List Constraint = constraintsOf p in
+    ap (λ (d : Dcs). maximalPolicy d (maximum (map (evalConstraint rs a) cs))) (rules-any p q (p .rules))
     ∙ combine (anyOf (covers a) rs) (anyOf (fails rs a) cs) (maximum (map (evalConstraint rs a) cs)) (constraints-any rs a cs)
-    ∙ sym (forget-by (firstAt (covers a) 0 rs) (firstAt (fails rs a) 0 cs) ∙ rw (found-any (covers a) 0 rs, found-any (fails rs a) 0 cs))
+    ∙ sym (forget-judge rs cs a)
 
 pub published-answer : PublishedAnswer
-unfolding evalQuery decide
-published-answer l q e s d =
-    let a = decided l q e s d in
-    (a .0, a .1, published-meaning _ _ _ ∙ ap forget (sym (answer-accepted l q (a .0) (a .1) .1)))
+published-answer l q e v =
+    let a = decided l q e v in
+    (a .0, a .1, published-meaning (policyOf l) q ∙ ap forget (sym (answer-accepted l q (a .0) (a .1) .1)))
 
 pub published-order : PublishedOrder
 unfolding height forget compareDecisions
-published-order notPermitted notPermitted = refl
-published-order notPermitted (permitted r) = refl
-published-order notPermitted (unknown r c) = refl
+published-order notPermitted e = leb·zero (height e)
 published-order (permitted r) notPermitted = refl
 published-order (permitted r) (permitted s) = refl
 published-order (permitted r) (unknown s c) = refl

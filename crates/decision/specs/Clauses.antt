@@ -1,8 +1,10 @@
 -- Clauses of document 01 that no marked case meets, as a second table, and refusals 1 to 7, 10, 11 and 13. Worked out by hand from the
--- clauses; `crates/cases` and `tests/` run these and more.
+-- clauses; `tests/` runs these and more.
 --     separation, allowGroup, companionOfGroup, rosterOfGroup, backTransition, longRoster   records
 --     clauseCases       a ban; a companion and a roster that touch; 9, 8 before 9, 1 before both; a separation by one rule, and by sources
---                       that are the same set and not only within one another; a transition that is not live; a list of two types
+--                       that are the same set and not only within one another; a transition that is not live; a list of two types, and
+--                       of a group; a source of which a part is listed; a companion's rule to elsewhere;
+--                       a rule and a ban of another class, and of another action
 --     ClauseCases       the definitions give these answers
 --     RefusalCases      document 01's unmarked refusals, and one each of 1 to 7, 10, 11 and 13
 use Prim.Native.Nat.{ℕ}
@@ -15,7 +17,7 @@ use Rattle.format.specs.Check.{check}
 use Rattle.format.specs.Answers.{refused, gives}
 use Rattle.format.specs.Sample.{sample}
 use Rattle.extension.specs.Add.{addFault}
-use Rattle.decision.specs.Decide.{permitted, unknown}
+use Rattle.decision.specs.Decide.{notPermitted, permitted, unknown}
 use Rattle.decision.specs.Cases.{g0, allow, companion, oneMember, banned, extended, Case, ask, given, expectedOf}
 
 -- a separation on class 5, action 4, of 20 and 21: rule 0 (10 to g0) reaches both
@@ -37,9 +39,9 @@ rosterOfGroup = 13 ∷ 4 ∷ 0 ∷ 5 ∷ 0 ∷ 1 ∷ 0 ∷ 10 ∷ 128 ∷ 0 ∷ 
 unfoldable pub backTransition : List ℕ
 backTransition = 8 ∷ 3 ∷ 0 ∷ 21 ∷ 0 ∷ 10 ∷ 0 ∷ 5 ∷ []
 
--- a roster on class 5, action 1, arguments 12 and 20, of 10 and 14
-unfoldable pub longRoster : List ℕ
-longRoster = 15 ∷ 4 ∷ 0 ∷ 5 ∷ 0 ∷ 1 ∷ 0 ∷ 12 ∷ 0 ∷ 20 ∷ 2 ∷ 0 ∷ 10 ∷ 0 ∷ 14 ∷ []
+-- a roster on class 5, action 1, arguments 12 and 20, of 10 and of the type in two bytes
+unfoldable pub longRoster : ℕ → ℕ → List ℕ
+longRoster h l = 15 ∷ 4 ∷ 0 ∷ 5 ∷ 0 ∷ 1 ∷ 0 ∷ 12 ∷ 0 ∷ 20 ∷ 2 ∷ 0 ∷ 10 ∷ h ∷ l ∷ []
 
 unfoldable pub clauseCases : List Case
 clauseCases =
@@ -58,9 +60,16 @@ clauseCases =
     ∷ ask (extended (extended (extended sample oneMember) (allowGroup 1 20)) (allow 21 30 5 3)) 20 30 5 2 (gives (unknown 1 1))
     ∷ ask (extended sample backTransition) 10 21 5 1 (gives (permitted 0))
     ∷ ask (extended (extended sample backTransition) companion) 10 21 5 1 (gives (unknown 0 2))
-    ∷ ask (extended (extended sample (allow 14 g0 7 7)) longRoster) 12 20 5 1 (gives (permitted 2))
-    ∷ ask (extended (extended sample (allow 15 g0 7 7)) longRoster) 12 20 5 1 (gives (unknown 2 2))
+    ∷ ask (extended (extended sample (allow 14 g0 7 7)) (longRoster 0 14)) 12 20 5 1 (gives (permitted 2))
+    ∷ ask (extended (extended sample (allow 15 g0 7 7)) (longRoster 0 14)) 12 20 5 1 (gives (unknown 2 2))
+    ∷ ask (extended (extended sample (allowGroup 0 20)) (longRoster 0 21)) 12 20 5 1 (gives (unknown 2 2))
+    ∷ ask (extended (extended sample (allow 21 20 7 7)) (longRoster 128 0)) 12 20 5 1 (gives (permitted 2))
+    ∷ ask (extended (extended sample companion) (allow 21 30 5 9)) 10 21 5 1 (gives (unknown 0 2))
     ∷ ask (extended (extended sample oneMember) (allow 14 0x8001 7 7)) 10 21 5 1 (gives (unknown 0 0))
+    ∷ ask sample 10 21 6 1 (gives notPermitted)
+    ∷ ask sample 10 21 5 2 (gives notPermitted)
+    ∷ ask (extended (extended sample banned) (allow 10 21 6 1)) 10 21 6 1 (gives (permitted 4))
+    ∷ ask (extended (extended sample banned) (allow 10 21 5 2)) 10 21 5 2 (gives (permitted 4))
     ∷ []
 
 abbrev pub ClauseCases : Type 0

@@ -1,12 +1,11 @@
 -- How a query is decided (document 01, "How a draw is decided").
---     Rule, Constraint, Request   a rule, a constraint and a query, their types as sets
---     ruleOf, constraintOf, requestOf   read from a record, and from a query
---     live r              document 01's "live": an allow rule that is on
---     tests a r           the tests that a rule makes of a query, in order; it covers the query where all pass
---     covers a r          document 01's "covers"
+--     tests a r           the tests that a rule makes of a query, in order
+--     covers a r          document 01's "covers": all pass
 --     reaches s r         a live rule whose destination touches a set
 --     broken rs c         the predicate byte's part of a predicate is false, by the rules rs: `separationBroken`,
 --                         `rosterBroken`, `companionBroken`, and ban always
+--     applies a c         document 01's "applies": of the query's class and action
+--     inside a c          the query's types are within the constraint's arguments
 --     fails rs a c        the constraint applies to the query, and its predicate is false
 --     firstAt f n l       the number, counted from n, of the first element that passes a test
 --     Decision, decisionOf   the three decisions, from the rule and the constraint that were found
@@ -16,15 +15,15 @@
 --     answerFault l q     refusals 1 to 7, then 8 and 9
 --     answer l q          the engine's answer, for any bytes and any query
 --     answerOutcome r     what an `Answer` says
+--     Valid l q           the query's types are type fields of the image
 use Prim.Native.Nat.{ℕ, suc}
+use mathlib.Core.Path.{_≡_}
 use mathlib.Core.Bool.{Bool, true, not, _&&_, cond}
 use mathlib.Core.Option.{Option, none, some}
-use mathlib.Core.List.{List, [], _∷_, map}
-use lib.ListN.{getD, drop}
+use mathlib.Core.List.{List, [], _∷_}
 use lib.Dec.{eqb}
 use Rattle.format.specs.declared.Section.the-variants.{Groups}
 use Rattle.format.specs.declared.Refusal.{Refusal}
-use Rattle.format.specs.Bytes.{wordAt, words}
 use Rattle.format.specs.Refusals.{refusal, need, _orElse_}
 use Rattle.format.specs.Format.{isType, countOf}
 use Rattle.format.specs.Policy.{Policy, policyOf}
@@ -33,70 +32,27 @@ use Rattle.format.specs.Answers.{Outcome, refused, gives, outcome}
 use Rattle.decision.specs.declared.Query.{Query}
 use Rattle.decision.specs.declared.Answer.{Answer}
 use Rattle.decision.specs.declared.Answer.the-variants.{NotPermitted, Permitted, UnKnown, Refused}
-use Rattle.decision.specs.Sets.{anyOf, allOf, setOf, unionOf, within, touches, sameSet}
+use Rattle.decision.specs.Sets.{anyOf, allOf, within, touches, sameSet}
+use Rattle.decision.specs.Reading.{Rule, Constraint, Request, asks, live, requestOf, rulesOf, constraintsOf}
 
-pub record Rule : Type 0 where
-  pub kind : ℕ
-  pub source : List ℕ
-  pub dest : List ℕ
-  pub class : ℕ
-  pub action : ℕ
-  pub condition : ℕ
-
-unfoldable pub ruleOf : List (List ℕ) → List ℕ → Rule
-ruleOf gs r =
-    record {
-      kind = getD r 1 0;
-      source = setOf gs (wordAt r 2);
-      dest = setOf gs (wordAt r 4);
-      class = wordAt r 6;
-      action = wordAt r 8;
-      condition = getD r 10 0;
-    }
-
-pub record Constraint : Type 0 where
-  pub class : ℕ
-  pub action : ℕ
-  pub first : List ℕ
-  pub second : List ℕ
-  pub predicate : ℕ
-  pub list : List ℕ
-
-unfoldable pub constraintOf : List (List ℕ) → List ℕ → Constraint
-constraintOf gs c =
-    record {
-      class = wordAt c 2;
-      action = wordAt c 4;
-      first = setOf gs (wordAt c 6);
-      second = setOf gs (wordAt c 8);
-      predicate = getD c 10 0;
-      list = unionOf gs (words (drop 11 c));
-    }
-
-pub record Request : Type 0 where
-  pub source : List ℕ
-  pub dest : List ℕ
-  pub class : ℕ
-  pub action : ℕ
-
-unfoldable pub requestOf : List (List ℕ) → Query → Request
-requestOf gs q =
-    record { source = setOf gs (q .source); dest = setOf gs (q .dest); class = q .class; action = q .action }
-
-unfoldable pub live : Rule → Bool
-live r = eqb (r .kind) 2 && eqb (r .condition) 1
-
--- condition, source, destination, class, action; a transition always passes the first, and neither its class nor an action is tested
+-- condition, source, destination, class, action
 unfoldable pub tests : Request → Rule → List Bool
 tests a r =
-    cond (eqb (r .kind) 3)
-    (true ∷ within (a .source) (r .source) ∷ within (a .dest) (r .dest) ∷ [])
-    (live r ∷ within (a .source) (r .source) ∷ within (a .dest) (r .dest) ∷ eqb (r .class) (a .class) ∷ eqb (r .action) (a .action) ∷ [])
+    r .on
+    ∷ within (a .source) (r .source)
+    ∷ within (a .dest) (r .dest)
+    ∷ asks (r .class) (a .class)
+    ∷ asks (r .action) (a .action)
+    ∷ []
 
 unfoldable pub covers : Request → Rule → Bool
 covers a r = allOf (λ b. b) (tests a r)
 
--- a live rule whose destination touches a set
+module _ {A : Type 0} where
+  unfoldable pub firstAt : (A → Bool) → ℕ → List A → Option ℕ
+  firstAt f n [] = none
+  firstAt f n (x ∷ l) = cond (f x) (some n) (firstAt f (suc n) l)
+
 unfoldable pub reaches : List ℕ → Rule → Bool
 reaches s r = live r && touches (r .dest) s
 
@@ -114,18 +70,14 @@ broken rs c =
     cond (eqb (c .predicate) 0) true
     (cond (eqb (c .predicate) 1) (separationBroken rs c) (cond (eqb (c .predicate) 2) (rosterBroken rs c) (companionBroken rs c)))
 
-unfoldable pub fails : List Rule → Request → Constraint → Bool
-fails rs a c =
-    eqb (c .class) (a .class)
-    && eqb (c .action) (a .action)
-    && within (a .source) (c .first)
-    && within (a .dest) (c .second)
-    && broken rs c
+unfoldable pub applies : Request → Constraint → Bool
+applies a c = eqb (c .class) (a .class) && eqb (c .action) (a .action)
 
-module _ {A : Type 0} where
-  unfoldable pub firstAt : (A → Bool) → ℕ → List A → Option ℕ
-  firstAt f n [] = none
-  firstAt f n (x ∷ l) = cond (f x) (some n) (firstAt f (suc n) l)
+unfoldable pub inside : Request → Constraint → Bool
+inside a c = within (a .source) (c .first) && within (a .dest) (c .second)
+
+unfoldable pub fails : List Rule → Request → Constraint → Bool
+fails rs a c = applies a c && inside a c && broken rs c
 
 -- with the number of the covering rule, and of the failing constraint
 pub data Decision : Type 0 where
@@ -143,7 +95,7 @@ unfoldable pub judge : List Rule → List Constraint → Request → Decision
 judge rs cs a = decisionOf (firstAt (covers a) 0 rs) (firstAt (fails rs a) 0 cs)
 
 unfoldable pub decide : Policy → Query → Decision
-decide p q = judge (map (ruleOf (p .groups)) (p .rules)) (map (constraintOf (p .groups)) (p .constraints)) (requestOf (p .groups) q)
+decide p q = judge (rulesOf p) (constraintsOf p) (requestOf p q)
 
 unfoldable pub queryFault : ℕ → Query → Option Refusal
 queryFault g q = need (isType g (q .source)) (refusal 8 0) orElse need (isType g (q .dest)) (refusal 9 0)
@@ -159,3 +111,6 @@ answerOutcome NotPermitted = gives notPermitted
 answerOutcome (Permitted r) = gives (permitted r)
 answerOutcome (UnKnown r c) = gives (unknown r c)
 answerOutcome (Refused f) = refused f
+
+abbrev pub Valid : List ℕ → Query → Type 0
+Valid l q = (isType (countOf l Groups) (q .source) ≡ true) × (isType (countOf l Groups) (q .dest) ≡ true)

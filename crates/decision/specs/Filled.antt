@@ -3,13 +3,11 @@
 --     TypesFilled         so does every type that an accepted policy, or a query on it, may name
 --     FieldsFilled        and so every type field of its records
 use Prim.Native.Nat.{ℕ, _<_}
-use mathlib.Core.Path.{_≡_}
-use mathlib.Core.Option.{none}
 use mathlib.Core.List.{List, List·Memᴰ}
 use lib.ListN.{length}
 use Rattle.format.specs.declared.Section.{Section}
 use Rattle.format.specs.Policy.{policyOf, recordsOf}
-use Rattle.format.specs.Check.{check}
+use Rattle.format.specs.Check.{Accepted}
 use Rattle.format.specs.Claims.{IsType, typeFields}
 use Rattle.decision.specs.Sets.{setOf}
 
@@ -17,9 +15,9 @@ abbrev pub Filled : List (List ℕ) → ℕ → Type 0
 Filled gs t = 0 < length (setOf gs t)
 
 abbrev pub TypesFilled : Type 0
-TypesFilled = (l : List ℕ) → check l ≡ none → (t : ℕ) → IsType (length (policyOf l .groups)) t → Filled (policyOf l .groups) t
+TypesFilled = (l : List ℕ) → Accepted l → (t : ℕ) → IsType (length (policyOf l .groups)) t → Filled (policyOf l .groups) t
 
 abbrev pub FieldsFilled : Type 0
 FieldsFilled =
-    (l : List ℕ) → check l ≡ none → (s : Section) (r : List ℕ) → List·Memᴰ r (recordsOf (policyOf l) s)
+    (l : List ℕ) → Accepted l → (s : Section) (r : List ℕ) → List·Memᴰ r (recordsOf (policyOf l) s)
     → (t : ℕ) → List·Memᴰ t (typeFields r) → Filled (policyOf l .groups) t

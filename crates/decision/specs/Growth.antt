@@ -18,7 +18,7 @@ use lib.ListN.{length, getD}
 use Rattle.format.specs.declared.Section.the-variants.{Rules}
 use Rattle.format.specs.Bytes.{Bytes}
 use Rattle.format.specs.Policy.{Policy, imageOf, policyOf}
-use Rattle.format.specs.Check.{check, imageIn}
+use Rattle.format.specs.Check.{Accepted, imageIn}
 use Rattle.format.specs.Answers.{gives}
 use Rattle.extension.specs.Add.{sectionOf, addFault, bufferAfter}
 use Rattle.decision.specs.declared.Query.{Query}
@@ -64,8 +64,8 @@ pub record DecidedLevel (l : List ℕ) (q : Query) (d : Decision) : Type 0 where
 
 abbrev pub RulesReordered : Type 0
 RulesReordered =
-    (l : List ℕ) → Bytes l → check l ≡ none → length (policyOf l .rules) + length (policyOf l .rules) ≤ 1024
-    → (check (imageOf (reordered (policyOf l))) ≡ none)
+    (l : List ℕ) → Bytes l → Accepted l → length (policyOf l .rules) + length (policyOf l .rules) ≤ 1024
+    → Accepted (imageOf (reordered (policyOf l)))
     × ((q : Query) (d : Decision) → answer l q ≡ gives d → DecidedLevel (imageOf (reordered (policyOf l))) q d)
 
 abbrev pub MemberOrder : Type 0

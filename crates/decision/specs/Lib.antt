@@ -1,4 +1,5 @@
 pub mod Sets
+pub mod Reading
 pub mod Decide
 pub mod Lowest
 pub mod Order
@@ -7,3 +8,5 @@ pub mod Filled
 pub mod Tepla
 pub mod Cases
 pub mod Clauses
+pub mod Numbers
+pub mod Rows

@@ -8,14 +8,14 @@
 use Prim.Native.Nat.{ℕ}
 use mathlib.Core.Path.{_≡_}
 use mathlib.Core.Bool.{Bool, true, false}
-use mathlib.Core.List.{List, map}
+use mathlib.Core.List.{List}
 use lib.ListN.{take, drop}
 use Rattle.format.specs.Policy.{policyOf}
 use Rattle.format.specs.Answers.{gives}
 use Rattle.decision.specs.declared.Query.{Query}
 use Rattle.decision.specs.Sets.{anyOf}
-use Rattle.decision.specs.Decide.{Rule, ruleOf, Constraint, constraintOf, Request, requestOf, covers, fails}
-use Rattle.decision.specs.Decide.{Decision, notPermitted, permitted, unknown, judge, answer}
+use Rattle.decision.specs.Reading.{Rule, Constraint, Request, requestOf, rulesOf, constraintsOf}
+use Rattle.decision.specs.Decide.{covers, fails, Decision, notPermitted, permitted, unknown, judge, answer}
 
 module _ {A : Type 0} where
   pub record Lowest (f : A → Bool) (xs : List A) (n : ℕ) : Type 0 where
@@ -36,5 +36,4 @@ NamedAlone = (rs : List Rule) (cs : List Constraint) (a : Request) (d : Decision
 abbrev pub LowestAnswered : Type 0
 LowestAnswered =
     (l : List ℕ) (q : Query) (d : Decision) → answer l q ≡ gives d
-    → Names (map (ruleOf (policyOf l .groups)) (policyOf l .rules)) (map (constraintOf (policyOf l .groups)) (policyOf l .constraints))
-    (requestOf (policyOf l .groups) q) d
+    → Names (rulesOf (policyOf l)) (constraintsOf (policyOf l)) (requestOf (policyOf l) q) d

@@ -16,17 +16,14 @@ use Prim.Native.Nat.{ℕ, _≤_, _<_}
 use mathlib.Core.Path.{_≡_}
 use mathlib.Core.Logic.{_⊎_}
 use mathlib.Core.Bool.{true}
-use mathlib.Core.Option.{none}
 use mathlib.Core.List.{List, [], List·Memᴰ}
 use lib.ListN.{length, getD}
-use Rattle.format.specs.declared.Section.the-variants.{Groups}
-use Rattle.format.specs.Format.{isType, countOf}
 use Rattle.format.specs.Policy.{Policy, policyOf}
-use Rattle.format.specs.Check.{check}
+use Rattle.format.specs.Check.{Accepted}
 use Rattle.format.specs.Answers.{gives}
 use Rattle.decision.specs.declared.Query.{Query}
 use Rattle.decision.specs.Sets.{setOf, within}
-use Rattle.decision.specs.Decide.{Decision, notPermitted, permitted, unknown, answer}
+use Rattle.decision.specs.Decide.{Decision, notPermitted, permitted, unknown, answer, Valid}
 
 unfoldable pub height : Decision → ℕ
 height notPermitted = 0
@@ -77,11 +74,7 @@ NonDecreasing =
     → height d₁ ≤ height d₂
 
 abbrev pub Decided : Type 0
-Decided =
-    (l : List ℕ) (q : Query) → check l ≡ none → isType (countOf l Groups) (q .source) ≡ true → isType (countOf l Groups) (q .dest) ≡ true
-    → (d : Decision) × (answer l q ≡ gives d)
+Decided = (l : List ℕ) (q : Query) → Accepted l → Valid l q → (d : Decision) × (answer l q ≡ gives d)
 
 abbrev pub DecidedOnly : Type 0
-DecidedOnly =
-    (l : List ℕ) (q : Query) (d : Decision) → answer l q ≡ gives d
-    → (check l ≡ none) × (isType (countOf l Groups) (q .source) ≡ true) × (isType (countOf l Groups) (q .dest) ≡ true)
+DecidedOnly = (l : List ℕ) (q : Query) (d : Decision) → answer l q ≡ gives d → Accepted l × Valid l q

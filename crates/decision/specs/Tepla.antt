@@ -2,33 +2,33 @@
 -- document 01's sets, predicates, transitions and conditions for what the paper leaves to parameters. Lines of the two
 -- documents' texts are cited as 000:149.
 --     Dcs, compareDecisions, maximalDcs, maximum   decisions without numbers, their order, the greater, the greatest
---     allows, transits         what an allow rule and a transition ask of a query
---     evalRule a r             a query against a rule: R_EvalTE
+--     typesWithin, allows      what a rule's record asks of a query: a transition's the first, an allow rule's the second
+--     evalRule p q r           a query against a rule's record: R_EvalTE
 --     prdct rs a c             a constraint's predicate: true where it is satisfied
 --     evalConstraint rs a c    a query against a constraint: CSTE_EvalTE
 --     maximalPolicy d e        the combination: constraints play no part where no rule permits
---     evalPolicy rs cs a       a query against a policy: TEPLCY_EvalTE
---     evalQuery p q            the same, of a policy's records
+--     evalPolicy p q           a query against a policy: TEPLCY_EvalTE
 --     forget d                 our decision, its numbers forgotten
---     PublishedMeaning         the two decide alike, for all rules, constraints and queries
+--     PublishedMeaning         the two decide alike, for all policies and queries
 --     PublishedAnswer          and so the engine answers every valid query on an accepted policy
 --     PublishedOrder           the order on decisions is the paper's
--- Both sides read a record as a rule or a constraint, take a type for its set and ask `live`, `within` and `broken` alike; what
--- those mean is document 01's, and other claims pin it. The evaluation itself shares nothing with `judge`.
+-- Both sides read a constraint alike, hand its predicate the same rules (`rulesOf`), take a type for its set and ask `within` and
+-- `broken` alike; what those mean is document 01's, and other claims pin it. The evaluation shares nothing with `judge`, and puts a
+-- query against a rule's record, not against a `Rule`.
 use Prim.Native.Nat.{ℕ}
 use mathlib.Core.Path.{_≡_}
 use mathlib.Core.Bool.{Bool, true, false, not, _&&_, cond}
-use mathlib.Core.Option.{none}
 use mathlib.Core.List.{List, [], _∷_, map}
+use lib.ListN.{getD}
 use lib.Dec.{eqb, leb}
-use Rattle.format.specs.declared.Section.the-variants.{Groups}
-use Rattle.format.specs.Format.{isType, countOf}
+use Rattle.format.specs.Bytes.{wordAt}
 use Rattle.format.specs.Policy.{Policy, policyOf}
-use Rattle.format.specs.Check.{check}
+use Rattle.format.specs.Check.{Accepted}
 use Rattle.format.specs.Answers.{gives}
 use Rattle.decision.specs.declared.Query.{Query}
-use Rattle.decision.specs.Sets.{within}
-use Rattle.decision.specs.Decide.{Rule, ruleOf, Constraint, constraintOf, Request, requestOf, live, broken, Decision, judge, answer}
+use Rattle.decision.specs.Sets.{setOf, within}
+use Rattle.decision.specs.Reading.{Rule, Constraint, Request, requestOf, rulesOf, constraintsOf}
+use Rattle.decision.specs.Decide.{broken, Decision, decide, answer, Valid}
 use Rattle.decision.specs.Order.{height}
 
 -- 000:211-212 "Inductive DCS:Set := Permitted | NotPermitted | UnKnown."
@@ -58,21 +58,19 @@ unfoldable pub maximum : List Dcs → Dcs
 maximum [] = NotPermitted
 maximum (d ∷ ds) = maximalDcs d (maximum ds)
 
--- algorithm 2 (000:149): condition, source, destination, class and action; "within" is 000:121's
-unfoldable pub allows : Request → Rule → Bool
-allows a r =
-    live r
-    && within (a .source) (r .source)
-    && within (a .dest) (r .dest)
-    && eqb (r .class) (a .class)
-    && eqb (r .action) (a .action)
+-- 000:121's "within", of the query's two types and the rule's
+unfoldable pub typesWithin : Policy → Query → List ℕ → Bool
+typesWithin p q r =
+    within (setOf (p .groups) (q .source)) (setOf (p .groups) (wordAt r 2)) && within (setOf (p .groups) (q .dest)) (setOf (p .groups) (wordAt r 4))
 
--- 000:155 "only the types of the subject and object need to be checked"
-unfoldable pub transits : Request → Rule → Bool
-transits a r = within (a .source) (r .source) && within (a .dest) (r .dest)
+-- algorithm 2 (000:149): condition, source and destination, class and action
+unfoldable pub allows : Policy → Query → List ℕ → Bool
+allows p q r =
+    (eqb (getD r 1 0) 2 && eqb (getD r 10 0) 1) && typesWithin p q r && eqb (wordAt r 6) (q .class) && eqb (wordAt r 8) (q .action)
 
-unfoldable pub evalRule : Request → Rule → Dcs
-evalRule a r = cond (cond (eqb (r .kind) 3) (transits a r) (allows a r)) Permitted NotPermitted
+-- 000:155 of a transition "only the types of the subject and object need to be checked"
+unfoldable pub evalRule : Policy → Query → List ℕ → Dcs
+evalRule p q r = cond (cond (eqb (getD r 1 0) 3) (typesWithin p q r) (allows p q r)) Permitted NotPermitted
 
 -- true where the query's types are not within the arguments, else what the predicate says: algorithm 1 (000:114-119) has it
 -- for separation of duty, and document 01 ("A predicate is true where ...") for all four
@@ -89,11 +87,11 @@ unfoldable pub maximalPolicy : Dcs → Dcs → Dcs
 maximalPolicy d e = cond (compareDecisions Permitted d) (maximalDcs d e) NotPermitted
 
 -- 001:229-235: the rules' greatest decision and the constraints' greatest, combined
-unfoldable pub evalPolicy : List Rule → List Constraint → Request → Dcs
-evalPolicy rs cs a = maximalPolicy (maximum (map (evalRule a) rs)) (maximum (map (evalConstraint rs a) cs))
-
-unfoldable pub evalQuery : Policy → Query → Dcs
-evalQuery p q = evalPolicy (map (ruleOf (p .groups)) (p .rules)) (map (constraintOf (p .groups)) (p .constraints)) (requestOf (p .groups) q)
+unfoldable pub evalPolicy : Policy → Query → Dcs
+evalPolicy p q =
+    maximalPolicy
+    (maximum (map (evalRule p q) (p .rules)))
+    (maximum (map (evalConstraint (rulesOf p) (requestOf p q)) (constraintsOf p)))
 
 unfoldable pub forget : Decision → Dcs
 forget Decision.notPermitted = NotPermitted
@@ -101,12 +99,12 @@ forget (Decision.permitted r) = Permitted
 forget (Decision.unknown r c) = UnKnown
 
 abbrev pub PublishedMeaning : Type 0
-PublishedMeaning = (rs : List Rule) (cs : List Constraint) (a : Request) → evalPolicy rs cs a ≡ forget (judge rs cs a)
+PublishedMeaning = (p : Policy) (q : Query) → evalPolicy p q ≡ forget (decide p q)
 
 abbrev pub PublishedAnswer : Type 0
 PublishedAnswer =
-    (l : List ℕ) (q : Query) → check l ≡ none → isType (countOf l Groups) (q .source) ≡ true → isType (countOf l Groups) (q .dest) ≡ true
-    → (d : Decision) × (answer l q ≡ gives d) × (evalQuery (policyOf l) q ≡ forget d)
+    (l : List ℕ) (q : Query) → Accepted l → Valid l q
+    → (d : Decision) × (answer l q ≡ gives d) × (evalPolicy (policyOf l) q ≡ forget d)
 
 -- the order of the order rule is the paper's
 abbrev pub PublishedOrder : Type 0

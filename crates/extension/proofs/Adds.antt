@@ -27,7 +27,7 @@ use Rattle.format.specs.Bytes.{Bytes, wordAt}
 use Rattle.format.specs.Refusals.{refusal, need, _orElse_}
 use Rattle.format.specs.Format.{limitOf, countPlace, countOf, kindIn, shapeOk, badField}
 use Rattle.format.specs.Policy.{Policy, recordsOf, imageOf, policyOf}
-use Rattle.format.specs.Check.{check, imageIn, checkFront}
+use Rattle.format.specs.Check.{imageIn, checkFront, Accepted}
 use Rattle.format.proofs.Bytes.{bytes-append, bytes-drop}
 use Rattle.format.proofs.Chain.{orElse-split, orElse-none, need-true, need-none, some-not-none, orElse-refuses, need-refuses, unless-accepted, unless-refused}
 use Rattle.format.proofs.ByCase.{kind-groups, kind-rules, kind-constraints, groups-kind, rules-kind, constraints-kind, records-of-groups, records-of-rules, records-of-constraints}
@@ -343,7 +343,7 @@ module _ (b r : List ℕ) (by : Bytes b) (e : addFault b r ≡ none) where
       )
 
   module _ (bytes : Bytes r) where
-    with-accepted : check (imageOf (withRecord s p r)) ≡ none
+    with-accepted : Accepted (imageOf (withRecord s p r))
     with-accepted = image-accepted (withRecord s p r) (with-sound p r s sound formed bytes few)
 
     after-accepted : checkFront (bufferAfter b r) ≡ none

@@ -18,7 +18,7 @@ use lib.ListN.{length, getD, drop}
 use Rattle.format.specs.declared.Refusal.{Refusal}
 use Rattle.format.specs.Bytes.{Bytes}
 use Rattle.format.specs.Policy.{Policy, recordsOf, policyOf}
-use Rattle.format.specs.Check.{imageIn, check, checkFront}
+use Rattle.format.specs.Check.{Accepted, imageIn, checkFront}
 use Rattle.format.specs.Sample.{empty}
 use Rattle.extension.specs.Add.{sectionOf, withRecord, addFault, newNumber, newImage, bufferAfter, overwrite}
 
@@ -57,10 +57,10 @@ RefusedUnchanged = (b r : List ℕ) (f : Refusal) → addFault b r ≡ some f �
 
 abbrev pub RoundTrip : Type 0
 RoundTrip =
-    (l t : List ℕ) → Bytes l → check l ≡ none → length l ≤ length (empty ++ t)
+    (l t : List ℕ) → Bytes l → Accepted l → length l ≤ length (empty ++ t)
     → addAll (empty ++ t) (allRecords (policyOf l)) ≡ overwrite l (empty ++ t)
 
 abbrev pub RoundTripExact : Type 0
 RoundTripExact =
-    (l t : List ℕ) → Bytes l → check l ≡ none → length (empty ++ t) ≡ length l
+    (l t : List ℕ) → Bytes l → Accepted l → length (empty ++ t) ≡ length l
     → addAll (empty ++ t) (allRecords (policyOf l)) ≡ l

@@ -3,7 +3,7 @@
 --     lines-append    the lines of b and of t behind it are those of b, and then those of what b leaves, with t behind it
 --     ending-append   and the ending is that of what b leaves, with t behind it
 --     rest-length     what is left is what a division by 8 leaves
-use Prim.Native.Nat.{ℕ, zero, suc, _+_, _-_, _*_, _/_, _%_, _≤_, _<_}
+use Prim.Native.Nat.{ℕ, zero, suc, _+_, _*_, _/_, _%_, _≤_, _<_}
 use native.Mathlib.Omega.{arith}
 use mathlib.Core.Path.{_≡_, refl, sym, ap, _∙_}
 use mathlib.Core.List.{List, [], _++_, append-assoc}
@@ -11,7 +11,8 @@ use lib.ListN.{length, drop, length-append, length-drop}
 use lib.Seq.{drop-append-le}
 use Rattle.format.proofs.Bytes.{word-drop, word-append}
 use Rattle.decision.specs.Decide.{answer}
-use Rattle.lines.specs.Lines.{line, queryAt, linesFrom, lines}
+use Rattle.decision.specs.Rows.{queryAt}
+use Rattle.lines.specs.Lines.{line, linesFrom, lines}
 use Rattle.lines.specs.Output.{restOf, ending}
 
 pub lines-few : (l b : List ℕ) → length b < 8 → lines l b ≡ []

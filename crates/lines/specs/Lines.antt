@@ -3,18 +3,16 @@
 --     decimal n        those digits, in ASCII
 --     field n          a space and the number
 --     line o           the line of an outcome: N; P and the rule; U, the rule and the constraint; R, the number and the place
---     queryAt b at     the query at a place of bytes
---     lines l b        the lines for the whole queries of b, one behind the other, on the image l
+--     lines l b        the lines for the whole rows of b, one behind the other, on the image l
 use Prim.Native.Nat.{ℕ, zero, suc, _+_, _/_}
 use mathlib.Core.Bool.{cond}
 use mathlib.Core.List.{List, [], _∷_, _++_}
 use lib.ListN.{length}
 use lib.Dec.{ltb}
 use Rattle.io.specs.Digits.{digits}
-use Rattle.format.specs.Bytes.{wordAt}
 use Rattle.format.specs.Answers.{Outcome, refused, gives}
-use Rattle.decision.specs.declared.Query.{Query}
 use Rattle.decision.specs.Decide.{Decision, notPermitted, permitted, unknown, answer}
+use Rattle.decision.specs.Rows.{queryAt}
 
 -- at most so many digits more than one
 unfoldable pub widthFrom : ℕ → ℕ → ℕ
@@ -38,10 +36,6 @@ line (gives notPermitted) = 78 ∷ 10 ∷ []
 line (gives (permitted r)) = 80 ∷ (field r ++ (10 ∷ []))
 line (gives (unknown r c)) = pairLine 85 r c
 line (refused f) = pairLine 82 (f .number) (f .place)
-
-abbrev pub queryAt : List ℕ → ℕ → Query
-queryAt b at =
-    record { source = wordAt b at; dest = wordAt b (at + 2); class = wordAt b (at + 4); action = wordAt b (at + 6) }
 
 unfoldable pub linesFrom : List ℕ → List ℕ → ℕ → ℕ → List ℕ
 linesFrom l b zero at = []

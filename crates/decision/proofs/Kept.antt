@@ -1,0 +1,82 @@
+-- What a record reads as in two policies, the second with the first's groups. Assumes nothing.
+--     set-kept            a type's set
+--     Typed p             the records of a policy are well formed; `accepted-typed`: an accepted image's are
+--     rule-kept, constraint-kept    a record that reads the same
+use Prim.Native.Nat.{ℕ, suc, _-_, _<_}
+use native.Mathlib.Omega.{arith}
+use mathlib.Core.Path.{_≡_, refl, sym, subst, ap, ap₂}
+use mathlib.Core.Logic.{inl, inr, ⊎-elim}
+use mathlib.Core.List.{List, [], _∷_, _++_, List·Memᴰ}
+use lib.ListN.{length, getD, drop, length-drop}
+use borrow.Author.Tests.{lt-ltb, le-ltb}
+use Rattle.format.specs.declared.Section.{Section}
+use Rattle.format.specs.declared.Section.the-variants.{Rules, Constraints}
+use Rattle.format.specs.Bytes.{wordAt, words}
+use Rattle.format.specs.Policy.{Policy, recordsOf, policyOf}
+use Rattle.format.specs.Check.{Accepted}
+use Rattle.format.specs.Claims.{IsType, IsConstraint, IsRecord}
+use Rattle.format.proofs.Bytes.{length-words, words-nth}
+use Rattle.format.proofs.Shapes.{Formed}
+use Rattle.format.proofs.ByCase.{records-of-rules, records-of-constraints}
+use Rattle.format.proofs.Fields.{formed-is, record-rule, record-constraint}
+use Rattle.format.proofs.Images.{policy-formed, group-count}
+use Rattle.decision.specs.Sets.{setOf, unionOf}
+use Rattle.decision.specs.Reading.{ruleOf, constraintOf}
+use Rattle.decision.specs.Order.{Keeps}
+
+-- ---- what a type field stands for, over the old groups and the new
+
+module _ (gs₁ gs₂ : List (List ℕ)) (k : Keeps gs₁ gs₂) where
+  pub set-kept : (t : ℕ) → IsType (length gs₁) t → setOf gs₁ t ≡ setOf gs₂ t
+  unfolding setOf
+  set-kept t (inl h) = simp (lt-ltb t 32768 (omega arith))
+  set-kept t (inr q) =
+      let e = q .2 in
+      simp (le-ltb t 32768 (omega arith)) (ap (λ (r : List ℕ). words (drop 2 r)) (k .same (t - 32768) (omega (arith, q .1))))
+
+  union-kept : (ts : List ℕ) → ((i : ℕ) → i < length ts → IsType (length gs₁) (getD ts i 0)) → unionOf gs₁ ts ≡ unionOf gs₂ ts
+  unfolding unionOf
+  union-kept [] h = refl
+  union-kept (t ∷ ts) h = ap₂ (λ (a b : List ℕ). a ++ b) (set-kept t (h 0 (omega arith))) (union-kept ts (λ i j. h (suc i) (omega arith)))
+
+-- ---- the records of an accepted image
+
+pub record Typed (p : Policy) : Type 0 where
+  pub rules : (r : List ℕ) → List·Memᴰ r (p .rules) → IsType (length (p .groups)) (wordAt r 2) × IsType (length (p .groups)) (wordAt r 4)
+  pub constraints : (c : List ℕ) → List·Memᴰ c (p .constraints) → (n : ℕ) × IsConstraint (length (p .groups)) c n
+
+pub accepted-typed : (l : List ℕ) → Accepted l → Typed (policyOf l)
+accepted-typed l e =
+    record {
+      rules = λ r m.
+          ⊎-elim (λ f. (f .source, f .dest)) (λ f. (f .source, f .dest)) (record-rule _ r (typed Rules r (rw (records-of-rules (policyOf l)) m)));
+      constraints = λ c m. record-constraint _ c (typed Constraints c (rw (records-of-constraints (policyOf l)) m));
+    }
+  where
+    typed : (s : Section) (r : List ℕ) → List·Memᴰ r (recordsOf (policyOf l) s) → IsRecord s (length (policyOf l .groups)) r
+    typed s r m = formed-is _ r s (subst (λ (g : ℕ). Formed s g r) (sym (group-count l)) (policy-formed l e s r m))
+
+list-types : (g : ℕ) (r : List ℕ) (n : ℕ) → IsConstraint g r n → (i : ℕ) → i < length (words (drop 11 r)) → IsType g (getD (words (drop 11 r)) i 0)
+list-types g r n f i h =
+    let len = f .size .1 in
+    rw (words-nth r 11 i h) (f .list i (omega (arith, length-words (drop 11 r), length-drop 11 r)))
+
+-- ---- records that read the same
+
+module _ (p₁ p₂ : Policy) (typed : Typed p₁) (k : Keeps (p₁ .groups) (p₂ .groups)) where
+  kept : (t : ℕ) → IsType (length (p₁ .groups)) t → setOf (p₁ .groups) t ≡ setOf (p₂ .groups) t
+  kept = set-kept (p₁ .groups) (p₂ .groups) k
+
+  pub rule-kept : (r : List ℕ) → List·Memᴰ r (p₁ .rules) → ruleOf p₁ r ≡ ruleOf p₂ r
+  unfolding ruleOf
+  rule-kept r m = let t = typed .rules r m in rw (kept (wordAt r 2) (t .0), kept (wordAt r 4) (t .1))
+
+  pub constraint-kept : (c : List ℕ) → List·Memᴰ c (p₁ .constraints) → constraintOf p₁ c ≡ constraintOf p₂ c
+  unfolding constraintOf
+  constraint-kept c m =
+      let t = typed .constraints c m in
+      rw (
+        kept (wordAt c 6) (t .1 .first),
+        kept (wordAt c 8) (t .1 .second),
+        union-kept (p₁ .groups) (p₂ .groups) k (words (drop 11 c)) (list-types _ c (t .0) (t .1)),
+      )

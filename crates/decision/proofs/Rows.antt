@@ -1,0 +1,92 @@
+-- Laws of rows and their numbers. Assumes nothing.
+--     numbers-length   a number for each whole row
+--     numbers-at       the number of a row is its answer's
+--     rows-whole, rows-answered, slots-stay, row-alone   the claims
+use Prim.Native.Nat.{ℕ, zero, suc, _+_, _-_, _*_, _/_, _<_, _≤_}
+use native.Mathlib.Omega.{arith}
+use mathlib.Core.Path.{_≡_, refl, sym, ap, _∙_}
+use mathlib.Core.List.{List, _++_}
+use lib.ListN.{length, getD, take, drop, List·getD-append}
+use lib.Seq.{length-take-le, length-front, getD-take, getD-drop, getD-append-add}
+use Rattle.format.specs.Bytes.{wordAt}
+use Rattle.format.proofs.Bytes.{word-take, word-drop}
+use Rattle.decision.specs.Decide.{answer}
+use Rattle.decision.specs.Numbers.{decisionCode}
+use Rattle.decision.specs.Rows.{queryAt, numbersFrom, numbers, rowsIn, answered, rowAt, RowsAnswered, SlotsStay, RowsWhole, RowAlone}
+
+pub rows-whole : RowsWhole
+rows-whole b n = (λ h. omega arith, λ h. omega arith)
+
+module _ (l b : List ℕ) where
+  from-length : (k at : ℕ) → length (numbersFrom l b k at) ≡ k
+  unfolding numbersFrom
+  from-length zero at = refl
+  from-length (suc k) at = ap suc (from-length k (at + 8))
+
+  pub numbers-length : length (numbers l b) ≡ length b / 8
+  unfolding numbers
+  numbers-length = from-length (length b / 8) 0
+
+  from-at : (n at k : ℕ) → k < n → getD (numbersFrom l b n at) k 0 ≡ decisionCode (answer l (queryAt b (at + 8 * k)))
+  unfolding numbersFrom
+  from-at zero at k h = absurd (omega arith)
+  from-at (suc n) at zero h = let e : at ≡ at + 8 * 0 = omega arith in ap (λ x. decisionCode (answer l (queryAt b x))) e
+  from-at (suc n) at (suc k) h =
+      let e : at + 8 + 8 * k ≡ at + 8 * suc k = omega arith in
+      from-at n (at + 8) k (omega arith) ∙ ap (λ x. decisionCode (answer l (queryAt b x))) e
+
+  pub numbers-at : (k : ℕ) → k < length b / 8 → getD (numbers l b) k 0 ≡ decisionCode (answer l (queryAt b (8 * k)))
+  unfolding numbers
+  numbers-at k h =
+      let e : 0 + 8 * k ≡ 8 * k = omega arith in
+      from-at (length b / 8) 0 k h ∙ ap (λ x. decisionCode (answer l (queryAt b x))) e
+
+module _ (l b slots : List ℕ) where
+  front-length : length (take (rowsIn b (length slots)) (numbers l b)) ≡ rowsIn b (length slots)
+  front-length = length-take-le (rowsIn b (length slots)) (numbers l b) (omega (arith, numbers-length l b))
+
+  slots-many : length (answered l b slots) ≡ length slots
+  unfolding answered
+  slots-many =
+      let n = rowsIn b (length slots) in
+      length-front slots (take n (numbers l b)) n (front-length ∙ sym (length-take-le n slots (omega arith)))
+
+  slot-stays : (k : ℕ) → rowsIn b (length slots) ≤ k → getD (answered l b slots) k 0 ≡ getD slots k 0
+  unfolding answered
+  slot-stays k h =
+      let n = rowsIn b (length slots) in
+      let ahead : k ≡ length (take n (numbers l b)) + (k - n) = omega (arith, front-length) in
+      let back : n + (k - n) ≡ k = omega arith in
+      ap (λ x. getD (take n (numbers l b) ++ drop n slots) x 0) ahead
+      ∙ getD-append-add (take n (numbers l b)) (drop n slots) (k - n) 0
+      ∙ getD-drop n slots (k - n) 0
+      ∙ ap (λ x. getD slots x 0) back
+
+pub rows-answered : RowsAnswered
+unfolding answered
+rows-answered l b slots k h =
+    let n = rowsIn b (length slots) in
+    let inside : k < length (take n (numbers l b)) = omega (arith, front-length l b slots) in
+    List·getD-append (take n (numbers l b)) (drop n slots) 0 k inside
+    ∙ getD-take n (numbers l b) k 0 h
+    ∙ numbers-at l b k (omega arith)
+
+pub slots-stay : SlotsStay
+slots-stay l b slots = (slots-many l b slots, slot-stays l b slots)
+
+-- the query of a row, from its 8 bytes
+query-row : (b : List ℕ) (k : ℕ) → queryAt b (8 * k) ≡ queryAt (rowAt b k) 0
+query-row b k =
+    let word : (i : ℕ) → i + 1 < 8 → wordAt b (8 * k + i) ≡ wordAt (rowAt b k) i = λ i h. sym (word-take 8 (drop (8 * k) b) i h ∙ word-drop (8 * k) b i) in
+    let start : 8 * k ≡ 8 * k + 0 = omega arith in
+    let source : wordAt b (8 * k) ≡ wordAt (rowAt b k) 0 = ap (wordAt b) start ∙ word 0 (omega arith) in
+    let dest = word 2 (omega arith) in
+    let class = word 4 (omega arith) in
+    let action = word 6 (omega arith) in
+    cc
+
+pub row-alone : RowAlone
+row-alone l b b′ slots slots′ k k′ h h′ same =
+    rows-answered l b slots k h
+    ∙ ap (λ q. decisionCode (answer l q)) (query-row b k ∙ ap (λ r. queryAt r 0) same ∙ sym (query-row b′ k′))
+    ∙ sym (rows-answered l b′ slots′ k′ h′)
