@@ -14,7 +14,7 @@ use Rattle.format.specs.declared.Starts.{Starts}
 use Rattle.format.specs.Bytes.{Bytes, wordAt}
 use Rattle.format.specs.Refusals.{refusal, _orElse_}
 use Rattle.format.specs.Format.{limitOf, countPlace, countOf, kindIn, firstRecord, shapeOk}
-use Rattle.format.specs.Check.{readOf, check, imageIn, checkFront}
+use Rattle.format.specs.Check.{readOf, imageIn, checkFront, Accepted}
 use Rattle.format.specs.Answers.{gives, outcome, starts}
 use Rattle.format.proofs.Chain.{orElse-split, orElse-next, orElse-first, need-none, need-some}
 use Rattle.format.proofs.Shapes.{Formed, length-least, length-cases, shape-length, shape-kind, first-whole, read-whole, read-bad-field, read-malformed}
@@ -111,7 +111,7 @@ end-constraints b n e is = is ∙ sym (front-length b e)
 
 -- ---- the slot fits
 
-module _ (l : List ℕ) (e : check l ≡ none) where
+module _ (l : List ℕ) (e : Accepted l) where
   end-inside : (s : Section) → endOfSection l s ≤ length l
   unfolding endOfSection
   end-inside Groups = start-inside l (accepted-body l e) (accepted-header l e .long) Rules

@@ -1,19 +1,19 @@
 // Where a record goes, or why it does not: decided before a byte is written.
 use crate::word::wide;
-use crate::word::word_at;
 use format::Read;
 use format::Refusal;
 use format::Section;
 use format::Sections;
 use format::Starts;
+use format::header;
+use image::word_at;
 ghost use mathlib.Core.Path.{_≡_};
-ghost use mathlib.Core.Option.{none, some};
+ghost use mathlib.Core.Option.{none};
 ghost use mathlib.Core.Bool.{true};
 ghost use Prim.Native.Nat.{_≤_};
 ghost use lib.ListN.{length, getD};
-ghost use Rattle.format.specs.Bytes.{wordAt};
 ghost use Rattle.format.specs.Refusals.{refusal};
-ghost use Rattle.format.specs.Format.{countPlace, countOf, limitOf, kindIn};
+ghost use Rattle.format.specs.Format.{countPlace, limitOf, kindIn};
 ghost use Rattle.format.specs.Check.{imageIn, checkFront};
 ghost use Rattle.format.specs.Answers.{outcome, starts};
 ghost use Rattle.extension.specs.Add.{ownFault, addFault};
@@ -42,9 +42,9 @@ fn count_place(section: Section) -> usize
     ensures { λ r. ⌜ (r ≡ countPlace section) × (r ≤ 7) ⌝ }
 {
     match section {
-        Section::Groups => 3,
-        Section::Rules => 5,
-        Section::Constraints => 7,
+        Section::Groups => header::GROUPS_AT,
+        Section::Rules => header::RULES_AT,
+        Section::Constraints => header::CONSTRAINTS_AT,
     }
 }
 
@@ -52,9 +52,9 @@ fn limit_of(section: Section) -> usize
     ensures { λ r. ⌜ r ≡ limitOf section ⌝ }
 {
     match section {
-        Section::Groups => 256,
-        Section::Rules => 1024,
-        Section::Constraints => 256,
+        Section::Groups => header::MOST_GROUPS,
+        Section::Rules => header::MOST_RULES,
+        Section::Constraints => header::MOST_CONSTRAINTS,
     }
 }
 
@@ -63,7 +63,7 @@ fn room(buffer: &[u8], part: &[u8], section: Section, at: usize) -> Plan
     requires { ⌜ (checkFront (now buffer) ≡ none) × (getD (now part) 0 0 ≡ length (now part)) × (kindIn section (getD (now part) 1 0) ≡ true) ⌝ }
     ensures { λ r. ⌜ planOutcome r ≡ outcome (ownFault (now (buffer .entry)) (now (part .entry))) (slotAt (now (buffer .entry)) section at) ⌝ }
 {
-    match image::read_record(part, section, word_at(buffer, 3)) {
+    match image::read_record(part, section, word_at(buffer, header::GROUPS_AT)) {
         Read::Malformed => refused(10, 0),
         Read::BadField(i) => refused(11, i),
         Read::Whole(_) => {
@@ -72,7 +72,7 @@ fn room(buffer: &[u8], part: &[u8], section: Section, at: usize) -> Plan
             if limit_of(section) <= count {
                 return refused(12, 0);
             }
-            let size = word_at(buffer, 1);
+            let size = word_at(buffer, header::LENGTH_AT);
             if buffer.len() - size < part.len() {
                 return refused(13, 0);
             }
@@ -100,7 +100,12 @@ fn own_causes(buffer: &[u8], part: &[u8], sections: Starts) -> Plan
     match part[1] {
         1 => room(buffer, part, Section::Groups, sections.rules),
         2..=3 => room(buffer, part, Section::Rules, sections.constraints),
-        4 => room(buffer, part, Section::Constraints, word_at(buffer, 1)),
+        4 => room(
+            buffer,
+            part,
+            Section::Constraints,
+            word_at(buffer, header::LENGTH_AT),
+        ),
         _ => refused(10, 0),
     }
 }

@@ -1,6 +1,7 @@
 // Bytes moved up and written: no byte is moved twice.
 use crate::plan::Slot;
 use crate::word::put_word;
+use format::header;
 ghost use mathlib.Core.Path.{_≡_};
 ghost use Prim.Native.Nat.{_+_, _≤_, _<_};
 ghost use lib.ListN.{length};
@@ -39,6 +40,6 @@ pub(crate) fn insert(buffer: &mut [u8], part: &[u8], slot: Slot)
     let by = part.len();
     shift_up(buffer, slot.at, slot.size, by);
     copy_in(buffer, part, slot.at);
-    put_word(buffer, 1, slot.size + by);
+    put_word(buffer, header::LENGTH_AT, slot.size + by);
     put_word(buffer, slot.field, slot.count + 1);
 }

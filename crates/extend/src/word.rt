@@ -2,21 +2,12 @@
 ghost use mathlib.Core.Path.{_≡_};
 ghost use Prim.Native.Nat.{_+_, _<_, _%_};
 ghost use lib.ListN.{length};
-ghost use Rattle.format.specs.Bytes.{wordAt};
 ghost use Rattle.extension.specs.Inner.Splice.{putWordAt};
 
 pub(crate) fn wide(x: u8) -> usize
     ensures { λ r. ⌜ (r ≡ x) × (r < 256) ⌝ }
 {
     x as usize
-}
-
-// The 2-byte number at a place.
-pub(crate) fn word_at(bytes: &[u8], at: usize) -> usize
-    requires { ⌜ at + 1 < length (now bytes) ⌝ }
-    ensures { λ r. ⌜ (r ≡ wordAt (now (bytes .entry)) at) × (r < 65536) ⌝ }
-{
-    wide(bytes[at]) * 256 + wide(bytes[at + 1])
 }
 
 fn low(value: usize) -> u8

@@ -6,7 +6,7 @@
 --     record-formed       each record of a section is formed
 --     record-stands       and lies in the image, at its place
 --     place-first, place-next   the first record's place, and the next
---     start-groups, start-least   the groups start at 9, and no section before
+--     start-least   no section starts before 9
 --     policy-rules, policy-constraints   the records of an image's policy
 --     record-nth, group-nth   record n of a section of the policy, and of the groups
 --     records-count       the section of the policy has as many records as the header counts
@@ -15,7 +15,7 @@ use Prim.Native.Nat.{ℕ, zero, suc, _+_, _-_, _≤_, _<_}
 use mathlib.Core.Path.{_≡_, refl, sym, ap, ap₂, _∙_}
 use mathlib.Core.Bool.{Bool, true, _&&_}
 use mathlib.Core.Option.{none, some}
-use mathlib.Core.List.{List, [], _∷_}
+use mathlib.Core.List.{List, [], _∷_, List·Memᴰ}
 use native.Mathlib.Omega.{arith}
 use native.Mathlib.Nat.{add-zero}
 use native.Mathlib.Numerals.{add-one}
@@ -29,14 +29,14 @@ use Rattle.format.specs.Bytes.{wordAt}
 use Rattle.format.specs.Refusals.{refusal, need, _orElse_, unlessRefused}
 use Rattle.format.specs.Format.{knownVersion, limitOf, countOf}
 use Rattle.format.specs.Policy.{policyOf, recordsOf, recordAt, recordsAt, placeAfter, startOf, placeOf, endOf}
-use Rattle.format.specs.Check.{sectionFault, countFault, headerFault, bodyFault, check}
+use Rattle.format.specs.Check.{sectionFault, countFault, headerFault, bodyFault, check, Accepted}
 use Rattle.format.specs.Give.{giveFault, givenRecord}
 use Rattle.format.specs.Claims.{GivenAt, RecordsGiven, givenFrom, AllGiven, NoneGiven, EmptyTells}
 use Rattle.format.proofs.Tests.{both, and-true}
 use Rattle.format.proofs.Chain.{orElse-split, orElse-none, orElse-next, orElse-first, need-true, need-none, need-some}
 use Rattle.format.specs.Inner.Places.{Stands}
 use Rattle.format.proofs.Shapes.{Formed, stands, record-part}
-use Rattle.format.proofs.Records.{place-snoc, place-least, records-length, records-nth, section-formed, section-rest}
+use Rattle.format.proofs.Records.{place-snoc, place-least, records-length, records-nth, records-mem, section-formed, section-rest}
 
 pub record Header (fits : ℕ → ℕ → Bool) (l : List ℕ) : Type 0 where
   pub long : 9 ≤ length l
@@ -78,7 +78,7 @@ holds-header fits l h =
     few : (s : Section) → countFault l s ≡ none
     few s = need-none _ (le-leb (countOf l s) (limitOf s) (h .few s))
 
-module _ (l : List ℕ) (e : check l ≡ none) where
+module _ (l : List ℕ) (e : Accepted l) where
   pub accepted-header : Header eqb l
   unfolding check
   accepted-header = header-holds eqb l (orElse-split (headerFault eqb l) (bodyFault l) e .0)
@@ -132,7 +132,7 @@ module _ (l : List ℕ) (e : bodyFault l ≡ none) where
       let k = section-inside l Constraints (startOf l Constraints) (countOf l Constraints) (start-inside h Constraints) (body-sections Constraints) in
       omega (arith, body-end)
 
-module _ (l : List ℕ) (e : check l ≡ none) where
+module _ (l : List ℕ) (e : Accepted l) where
   pub accepted-end : endOf l ≡ length l
   accepted-end = body-ends l (accepted-body l e) (accepted-header l e .long)
 
@@ -143,10 +143,6 @@ module _ (l : List ℕ) (e : check l ≡ none) where
 
     pub record-stands : Stands l (placeOf l s n) (recordAt l (placeOf l s n))
     record-stands = stands l (placeOf l s n) (record-formed .shape)
-
-pub start-groups : (l : List ℕ) → startOf l Groups ≡ 9
-unfolding startOf
-start-groups l = refl
 
 pub start-least : (l : List ℕ) (s : Section) → 9 ≤ startOf l s
 unfolding startOf
@@ -184,6 +180,11 @@ pub record-nth : (l : List ℕ) (s : Section) (n : ℕ) → n < countOf l s → 
 unfolding placeOf
 record-nth l s n h = ap (λ (rs : List (List ℕ)). getD rs n []) (policy-records l s) ∙ records-nth l (startOf l s) (countOf l s) n h
 
+pub record-mem :
+    (l : List ℕ) (s : Section) (r : List ℕ) → List·Memᴰ r (recordsAt l (startOf l s) (countOf l s)) → (n : ℕ) × (n < countOf l s) × (r ≡ recordAt l (placeOf l s n))
+unfolding placeOf
+record-mem l s r m = records-mem l (startOf l s) (countOf l s) r m
+
 pub group-nth : (l : List ℕ) (n : ℕ) → n < countOf l Groups → getD (policyOf l .groups) n [] ≡ recordAt l (placeOf l Groups n)
 unfolding recordsOf
 group-nth l n h = record-nth l Groups n h
@@ -191,7 +192,7 @@ group-nth l n h = record-nth l Groups n h
 pub records-count : (l : List ℕ) (s : Section) → length (recordsOf (policyOf l) s) ≡ countOf l s
 records-count l s = ap length (policy-records l s) ∙ records-length l (startOf l s) (countOf l s)
 
-module _ (l : List ℕ) (e : check l ≡ none) (s : Section) (n : ℕ) (h : n < countOf l s) where
+module _ (l : List ℕ) (e : Accepted l) (s : Section) (n : ℕ) (h : n < countOf l s) where
   pub give-none : giveFault l s n ≡ none
   unfolding giveFault
   give-none = orElse-none e (need-none _ (lt-ltb n (countOf l s) h))
@@ -231,7 +232,7 @@ unfolding giveFault
 none-given l e s n h = orElse-next _ e ∙ need-some _ (le-ltb n (countOf l s) (rw (records-count l s) at h))
 
 -- what it says that nothing is refused, for the callers of `find` and `record`
-pub give-split : (l : List ℕ) (s : Section) (n : ℕ) → giveFault l s n ≡ none → (check l ≡ none) × (n < countOf l s)
+pub give-split : (l : List ℕ) (s : Section) (n : ℕ) → giveFault l s n ≡ none → (Accepted l) × (n < countOf l s)
 unfolding giveFault
 give-split l s n e =
     let q = orElse-split (check l) (need (ltb n (countOf l s)) (refusal 14 0)) e in

@@ -22,7 +22,7 @@ use Rattle.format.specs.declared.Refusal.{Refusal}
 use Rattle.format.specs.Bytes.{Bytes, wordAt}
 use Rattle.format.specs.Refusals.{need, _orElse_}
 use Rattle.format.specs.Format.{knownVersion, countPlace, countOf}
-use Rattle.format.specs.Check.{countFault, headerFault, bodyFault, check, imageIn, checkFront, leading}
+use Rattle.format.specs.Check.{countFault, headerFault, bodyFault, check, imageIn, checkFront, leading, Accepted}
 use Rattle.format.proofs.Tests.{both, and-true, true-not-false}
 use Rattle.format.proofs.Chain.{orElse-split, orElse-none}
 use Rattle.format.proofs.Bytes.{bytes-take, word-take}
@@ -69,7 +69,7 @@ module _ (b : List ℕ) (e : checkFront b ≡ none) where
   pub front-count : (s : Section) → countOf (imageIn b) s ≡ countOf b s
   front-count s = count-same (imageIn b) b front-same s
 
-  pub front-accepted : check (imageIn b) ≡ none
+  pub front-accepted : Accepted (imageIn b)
   unfolding check checkFront
   front-accepted =
       orElse-none
@@ -86,7 +86,7 @@ module _ (b : List ℕ) (e : checkFront b ≡ none) where
   unfolding imageIn
   front-bytes h = bytes-take (wordAt b 1) b h
 
-module _ (l t : List ℕ) (e : check l ≡ none) where
+module _ (l t : List ℕ) (e : Accepted l) where
   of-same : (i : ℕ) → i < 9 → getD (l ++ t) i 0 ≡ getD l i 0
   of-same i h = List·getD-append l t 0 i (omega (arith, accepted-header l e .long))
 

@@ -21,7 +21,7 @@ use Rattle.format.specs.Bytes.{Bytes, wordAt, putWord}
 use Rattle.format.specs.Refusals.{_orElse_}
 use Rattle.format.specs.Format.{knownVersion, limitOf, countPlace, countOf, kindIn, firstRecord}
 use Rattle.format.specs.Policy.{Policy, recordsOf, bodyOf, imageOf, recordAt, recordsAt, placeAfter, startOf, placeOf, endOf, policyOf}
-use Rattle.format.specs.Check.{sectionFault, headerFault, bodyFault, check}
+use Rattle.format.specs.Check.{sectionFault, headerFault, bodyFault, check, Accepted}
 use Rattle.format.specs.Claims.{WellFormed, AcceptedIsWellFormed, WellFormedIsAccepted}
 use Rattle.format.specs.Longest.{LongestImage}
 use Rattle.format.proofs.Tests.{both}
@@ -70,11 +70,11 @@ module _ (p : Policy) where
 
 -- ---- from an accepted image to its policy
 
-ends : (l : List ℕ) → check l ≡ none → placeAfter l (placeAfter l (placeAfter l 9 (countOf l Groups)) (countOf l Rules)) (countOf l Constraints) ≡ length l
+ends : (l : List ℕ) → Accepted l → placeAfter l (placeAfter l (placeAfter l 9 (countOf l Groups)) (countOf l Rules)) (countOf l Constraints) ≡ length l
 unfolding endOf placeOf startOf
 ends l e = accepted-end l e
 
-body-of-policy : (l : List ℕ) → check l ≡ none → bodyOf (policyOf l) ≡ drop 9 l
+body-of-policy : (l : List ℕ) → Accepted l → bodyOf (policyOf l) ≡ drop 9 l
 unfolding bodyOf policyOf startOf
 body-of-policy l e =
     let a : ℕ = placeAfter l 9 (countOf l Groups) in
@@ -115,7 +115,7 @@ module _ (l : List ℕ) where
   policy-version = refl
 
 -- an accepted image is the image of its policy
-pub image-of-policy : (l : List ℕ) → Bytes l → check l ≡ none → imageOf (policyOf l) ≡ l
+pub image-of-policy : (l : List ℕ) → Bytes l → Accepted l → imageOf (policyOf l) ≡ l
 unfolding imageOf
 image-of-policy l b e = counts ∙ header ∙ sym (nine l (accepted-header l e .long))
   where
@@ -138,7 +138,7 @@ record-bytes : (l : List ℕ) (at : ℕ) → Bytes l → Bytes (recordAt l at)
 unfolding recordAt firstRecord
 record-bytes l at b = bytes-take (getD (drop at l) 0 0) (drop at l) (bytes-drop at l b)
 
-pub policy-formed : (l : List ℕ) → check l ≡ none → (s : Section) (r : List ℕ) → List·Memᴰ r (recordsOf (policyOf l) s) → Formed s (countOf l Groups) r
+pub policy-formed : (l : List ℕ) → Accepted l → (s : Section) (r : List ℕ) → List·Memᴰ r (recordsOf (policyOf l) s) → Formed s (countOf l Groups) r
 policy-formed l e s r m =
     let q = policy-record l s r m in
     subst (Formed s (countOf l Groups)) (sym (q .2)) (record-formed l e s (q .0) (q .1))
@@ -147,7 +147,7 @@ pub group-count : (l : List ℕ) → length (policyOf l .groups) ≡ countOf l G
 unfolding recordsOf
 group-count l = records-count l Groups
 
-pub policy-sound : (l : List ℕ) → Bytes l → check l ≡ none → Sound (policyOf l)
+pub policy-sound : (l : List ℕ) → Bytes l → Accepted l → Sound (policyOf l)
 policy-sound l b e =
     record {
       version = rw (policy-version l) (accepted-header l e .version);
@@ -339,7 +339,7 @@ module _ (p : Policy) (w : Sound p) where
       (orElse-none (image-section Constraints)
       (need-none _ (le-leb (length (imageOf p)) (endOf (imageOf p)) (rw image-end (omega arith))))))
 
-  pub image-accepted : check (imageOf p) ≡ none
+  pub image-accepted : Accepted (imageOf p)
   unfolding check
   image-accepted = orElse-none header-passes body-passes
 

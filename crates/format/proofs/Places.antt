@@ -4,7 +4,6 @@
 use Prim.Native.Nat.{ℕ, zero, suc, _+_, _-_, _*_, _/_, _<_}
 use mathlib.Core.Path.{_≡_, refl, sym, subst, ap, _∙_}
 use mathlib.Core.Logic.{_⊎_, inl, inr}
-use mathlib.Core.Option.{none}
 use mathlib.Core.List.{List, [], _∷_}
 use native.Mathlib.Omega.{arith}
 use native.Mathlib.Nat.{add-assoc}
@@ -14,7 +13,7 @@ use Rattle.format.specs.declared.Section.the-variants.{Groups, Rules, Co
 use Rattle.format.specs.Bytes.{wordAt, words}
 use Rattle.format.specs.Format.{countOf}
 use Rattle.format.specs.Policy.{recordAt, placeOf}
-use Rattle.format.specs.Check.{check}
+use Rattle.format.specs.Check.{Accepted}
 use Rattle.format.specs.Claims.{IsType, IsAllow, IsTransition, IsRecord}
 use Rattle.format.proofs.Bytes.{length-words, words-nth}
 use Rattle.format.specs.Inner.Places.{Stands, wordsAt, GroupAt, RuleAt, ConstraintAt}
@@ -54,7 +53,7 @@ record-words l at k n r s e =
     (λ i h. let j : i < n = omega arith in
     words-nth r k i h ∙ stands-word l at r (k + 2 * i) s (omega arith) ∙ ap (wordAt l) (omega arith) ∙ sym (words-at-nth l n (at + k) i j))
 
-module _ (l : List ℕ) (e : check l ≡ none) (n : ℕ) where
+module _ (l : List ℕ) (e : Accepted l) (n : ℕ) where
   pub group-at : n < countOf l Groups → GroupAt l (placeOf l Groups n) (recordAt l (placeOf l Groups n))
   unfolding IsRecord
   group-at h =

@@ -1,6 +1,7 @@
 -- Laws of records one after the other, from a place of an image on. Assumes nothing.
 --     records-none, records-next, place-snoc, records-length, records-nth, records-mem, records-flatten   of `placeAfter` and `recordsAt`
---     section-formed        a section without a refusal has each of its records formed
+--     section-prefix        a section without a refusal has none in its first records
+--     section-formed        and each of its records is formed
 --     Runs l at rs e        the records rs lie in l from a place on, and end at e
 use Prim.Native.Nat.{ℕ, zero, suc, _+_, _-_, _≤_, _<_}
 use mathlib.Core.Path.{_≡_, refl, sym, ap, ap₂, _∙_}
@@ -74,6 +75,15 @@ records-flatten l at (suc n) =
 pub section-rest : (l : List ℕ) (s : Section) (at n : ℕ) → sectionFault l s at (suc n) ≡ none → sectionFault l s (at + getD l at 0) n ≡ none
 unfolding sectionFault
 section-rest l s at n e = orElse-split (readFault at (readOf s (countOf l Groups) (drop at l))) _ e .1
+
+pub section-prefix : (l : List ℕ) (s : Section) (at n k : ℕ) → k ≤ n → sectionFault l s at n ≡ none → sectionFault l s at k ≡ none
+unfolding sectionFault
+section-prefix l s at n zero h e = refl
+section-prefix l s at zero (suc k) h e = absurd (omega arith)
+section-prefix l s at (suc n) (suc k) h e =
+    orElse-none
+    (orElse-split (readFault at (readOf s (countOf l Groups) (drop at l))) _ e .0)
+    (section-prefix l s (at + getD l at 0) n k (omega arith) (section-rest l s at n e))
 
 pub section-formed :
     (l : List ℕ) (s : Section) (at n k : ℕ) → k < n → sectionFault l s at n ≡ none → Formed s (countOf l Groups) (recordAt l (placeAfter l at k))

@@ -1,15 +1,14 @@
 -- The sample and the empty policy are accepted, by computation: claim SampleAccepted. Assumes nothing.
 use mathlib.Core.Path.{_≡_, refl}
-use mathlib.Core.Option.{none}
 use Rattle.format.specs.Bytes.{Bytes, wordAt, words}
 use Rattle.format.specs.Refusals.{need, _orElse_}
 use Rattle.format.specs.Format.{knownVersion, limitOf, countPlace, countOf, kindIn, lengthOk, isType, isCondition, listOk, firstRecord, shapeOk, badMember, badType, badGroup, badAllow, badTransition, badConstraint, badField}
 use Rattle.format.specs.Policy.{placeAfter, startOf, placeOf, endOf}
-use Rattle.format.specs.Check.{readFields, readOf, readFault, sectionFault, countFault, headerFault, bodyFault, check}
+use Rattle.format.specs.Check.{readFields, readOf, readFault, sectionFault, countFault, headerFault, bodyFault, check, Accepted}
 use Rattle.format.specs.Sample.{sample, empty, SampleAccepted}
 use Rattle.format.proofs.Bytes.{bytes-of}
 
-both-pass : (check sample ≡ none) × (check empty ≡ none)
+both-pass : (Accepted sample) × (Accepted empty)
 unfolding wordAt words need _orElse_ knownVersion limitOf countPlace countOf kindIn lengthOk isType isCondition listOk firstRecord shapeOk badMember badType badGroup badAllow badTransition badConstraint badField placeAfter startOf placeOf endOf readFields readOf readFault sectionFault countFault headerFault bodyFault check sample empty
 both-pass = (refl, refl)
 

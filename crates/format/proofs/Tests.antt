@@ -23,6 +23,21 @@ pub either : (a b : Bool) {C : Type 0} → (a || b) ≡ true → (a ≡ true →
 either true b e f g = f refl
 either false b e f g = g e
 
+pub neither : (a b : Bool) → (a || b) ≡ false → (a ≡ false) × (b ≡ false)
+neither true b e = true-not-false e
+neither false b e = (refl, e)
+
+pub or-left : (a b : Bool) → a ≡ true → (a || b) ≡ true
+or-left a b h = rw h
+
+pub or-right : (a b : Bool) → b ≡ true → (a || b) ≡ true
+or-right true b h = refl
+or-right false b h = h
+
+pub or-assoc : (a b c : Bool) → (a || b) || c ≡ a || (b || c)
+or-assoc true b c = refl
+or-assoc false b c = refl
+
 -- a choice by whether two numbers are equal
 pub choose : {C : Type 0} (k j : ℕ) (x y : Bool) → cond (eqb k j) x y ≡ true → (k ≡ j → x ≡ true → C) → (y ≡ true → C) → C
 choose {C} k j x y e f g = go (eqb k j) refl e

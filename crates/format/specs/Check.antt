@@ -7,10 +7,12 @@
 --     countFault l s         refusal 4, for one section
 --     bodyFault l            refusals 5 to 7, where l is the image to its last byte and no more
 --     check l                the first refusal of the image l, where there is one
+--     Accepted l             there is none
 --     imageIn b              the image that a buffer starts with: the bytes up to its length field
 --     checkFront b           the first refusal of that image; there, 3 is a length field beyond the buffer
 --     leading b              the bytes that are to be checked: that image where there is one, else the buffer itself
 use Prim.Native.Nat.{ℕ, zero, suc, _+_}
+use mathlib.Core.Path.{_≡_}
 use mathlib.Core.Bool.{Bool, cond, _&&_}
 use mathlib.Core.Option.{Option, none, some}
 use mathlib.Core.List.{List}
@@ -23,7 +25,7 @@ use Rattle.format.specs.declared.Read.{Read}
 use Rattle.format.specs.declared.Read.the-variants.{Whole, Malformed, BadField}
 use Rattle.format.specs.Bytes.{wordAt}
 use Rattle.format.specs.Refusals.{refusal, need, _orElse_}
-use Rattle.format.specs.Format.{knownVersion, limitOf, countPlace, countOf, kindIn, firstRecord, shapeOk, badField}
+use Rattle.format.specs.Format.{knownVersion, headerLength, lengthPlace, limitOf, countPlace, countOf, kindIn, firstRecord, shapeOk, badField}
 use Rattle.format.specs.Policy.{startOf, endOf}
 
 unfoldable pub readFields : Option ℕ → ℕ → Read
@@ -50,9 +52,9 @@ countFault l s = need (leb (countOf l s) (limitOf s)) (refusal 4 (countPlace s))
 
 unfoldable pub headerFault : (ℕ → ℕ → Bool) → List ℕ → Option Refusal
 headerFault fits l =
-    need (leb 9 (length l)) (refusal 1 0)
+    need (leb headerLength (length l)) (refusal 1 0)
     orElse need (knownVersion (getD l 0 0)) (refusal 2 0)
-    orElse need (leb 9 (wordAt l 1) && fits (wordAt l 1) (length l)) (refusal 3 0)
+    orElse need (leb headerLength (wordAt l lengthPlace) && fits (wordAt l lengthPlace) (length l)) (refusal 3 0)
     orElse countFault l Groups
     orElse countFault l Rules
     orElse countFault l Constraints
@@ -67,11 +69,14 @@ bodyFault l =
 unfoldable pub check : List ℕ → Option Refusal
 check l = headerFault eqb l orElse bodyFault l
 
+abbrev pub Accepted : List ℕ → Type 0
+Accepted l = check l ≡ none
+
 unfoldable pub imageIn : List ℕ → List ℕ
-imageIn b = take (wordAt b 1) b
+imageIn b = take (wordAt b lengthPlace) b
 
 unfoldable pub checkFront : List ℕ → Option Refusal
 checkFront b = headerFault leb b orElse bodyFault (imageIn b)
 
 unfoldable pub leading : List ℕ → List ℕ
-leading b = cond (leb 9 (length b) && leb 9 (wordAt b 1) && leb (wordAt b 1) (length b)) (imageIn b) b
+leading b = cond (leb headerLength (length b) && leb headerLength (wordAt b lengthPlace) && leb (wordAt b lengthPlace) (length b)) (imageIn b) b

@@ -25,7 +25,7 @@ use Rattle.format.specs.declared.Refusal.{Refusal}
 use Rattle.format.specs.Bytes.{Bytes, wordAt, words}
 use Rattle.format.specs.Refusals.{refusal}
 use Rattle.format.specs.Policy.{Policy, recordsOf, imageOf, policyOf, placeOf}
-use Rattle.format.specs.Check.{check}
+use Rattle.format.specs.Check.{Accepted}
 use Rattle.format.specs.Give.{giveFault, givenRecord}
 
 abbrev pub IsType : ℕ → ℕ → Type 0
@@ -87,10 +87,10 @@ typeFields r =
     (cond (eqb (getD r 1 0) 4) (wordAt r 6 ∷ wordAt r 8 ∷ words (drop 11 r)) (wordAt r 2 ∷ wordAt r 4 ∷ []))
 
 abbrev pub AcceptedIsWellFormed : Type 0
-AcceptedIsWellFormed = (l : List ℕ) → Bytes l → check l ≡ none → WellFormed (policyOf l) × (imageOf (policyOf l) ≡ l)
+AcceptedIsWellFormed = (l : List ℕ) → Bytes l → Accepted l → WellFormed (policyOf l) × (imageOf (policyOf l) ≡ l)
 
 abbrev pub WellFormedIsAccepted : Type 0
-WellFormedIsAccepted = (p : Policy) → WellFormed p → Bytes (imageOf p) × (check (imageOf p) ≡ none) × (policyOf (imageOf p) ≡ p)
+WellFormedIsAccepted = (p : Policy) → WellFormed p → Bytes (imageOf p) × Accepted (imageOf p) × (policyOf (imageOf p) ≡ p)
 
 pub record GivenAt (l : List ℕ) (s : Section) (n : ℕ) : Type 0 where
   pub given : giveFault l s n ≡ none
@@ -100,7 +100,7 @@ pub record GivenAt (l : List ℕ) (s : Section) (n : ℕ) : Type 0 where
   pub part : givenRecord l s n ≡ take (length (givenRecord l s n)) (drop (placeOf l s n) l)
 
 abbrev pub RecordsGiven : Type 0
-RecordsGiven = (l : List ℕ) → check l ≡ none → (s : Section) (n : ℕ) → n < length (recordsOf (policyOf l) s) → GivenAt l s n
+RecordsGiven = (l : List ℕ) → Accepted l → (s : Section) (n : ℕ) → n < length (recordsOf (policyOf l) s) → GivenAt l s n
 
 -- n records of a section, from record k on, as they are given
 unfoldable pub givenFrom : List ℕ → Section → ℕ → ℕ → List (List ℕ)
@@ -109,12 +109,12 @@ givenFrom l s k (suc n) = givenRecord l s k ∷ givenFrom l s (suc k) n
 
 abbrev pub AllGiven : Type 0
 AllGiven =
-    (l : List ℕ) → check l ≡ none → (s : Section)
+    (l : List ℕ) → Accepted l → (s : Section)
     → givenFrom l s 0 (length (recordsOf (policyOf l) s)) ≡ recordsOf (policyOf l) s
 
 abbrev pub NoneGiven : Type 0
 NoneGiven =
-    (l : List ℕ) → check l ≡ none → (s : Section) (n : ℕ) → length (recordsOf (policyOf l) s) ≤ n
+    (l : List ℕ) → Accepted l → (s : Section) (n : ℕ) → length (recordsOf (policyOf l) s) ≤ n
     → giveFault l s n ≡ some (refusal 14 0)
 
 pub record EmptyTells : Type 0 where
@@ -123,5 +123,5 @@ pub record EmptyTells : Type 0 where
 
 abbrev pub ReferencesHeld : Type 0
 ReferencesHeld =
-    (l : List ℕ) → check l ≡ none → (s : Section) (r : List ℕ) → List·Memᴰ r (recordsOf (policyOf l) s)
+    (l : List ℕ) → Accepted l → (s : Section) (r : List ℕ) → List·Memᴰ r (recordsOf (policyOf l) s)
     → (t : ℕ) → List·Memᴰ t (typeFields r) → IsType (length (policyOf l .groups)) t

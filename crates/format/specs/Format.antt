@@ -1,5 +1,7 @@
 -- The layout of an image and of its records (document 01, "The policy image").
 --     knownVersion v      a version byte that images may have
+--     headerLength        the length of the header, and so the place of the first record
+--     lengthPlace         the place of the length field
 --     limitOf s           the most records that a section may have
 --     countPlace s        the place of the section's count in the header
 --     countOf l s         the section's count
@@ -25,6 +27,12 @@ use Rattle.format.specs.Refusals.{need, _orElse_}
 
 unfoldable pub knownVersion : ℕ → Bool
 knownVersion v = eqb v 1
+
+abbrev pub headerLength : ℕ
+headerLength = 9
+
+abbrev pub lengthPlace : ℕ
+lengthPlace = 1
 
 unfoldable pub limitOf : Section → ℕ
 limitOf Groups = 256

@@ -10,12 +10,11 @@
 --     LongestReached      this one is accepted, and has it
 use Prim.Native.Nat.{ℕ, zero, suc, _≤_}
 use mathlib.Core.Path.{_≡_}
-use mathlib.Core.Option.{none}
 use mathlib.Core.List.{List, [], _∷_, _++_}
 use lib.ListN.{length, replicate}
 use Rattle.format.specs.Bytes.{Bytes, putWord}
 use Rattle.format.specs.Policy.{Policy, imageOf, policyOf}
-use Rattle.format.specs.Check.{check}
+use Rattle.format.specs.Check.{Accepted}
 
 unfoldable pub countUp : ℕ → ℕ → List ℕ
 countUp zero m = []
@@ -47,10 +46,10 @@ abbrev pub longestLength : ℕ
 longestLength = 55561
 
 abbrev pub LongestImage : Type 0
-LongestImage = (l : List ℕ) → check l ≡ none → length l ≤ longestLength
+LongestImage = (l : List ℕ) → Accepted l → length l ≤ longestLength
 
 pub record LongestReached : Type 0 where
-  pub accepted : check (imageOf longest) ≡ none
+  pub accepted : Accepted (imageOf longest)
   pub bytes : Bytes (imageOf longest)
   pub policy : policyOf (imageOf longest) ≡ longest
   pub reached : length (imageOf longest) ≡ longestLength

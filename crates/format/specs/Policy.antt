@@ -7,13 +7,13 @@
 --     recordsAt l at n     those n records
 --     startOf l s          the place of a section's first record, and `endOf` the place past the last record of all
 --     placeOf l s n        the place of record n of a section
-use Prim.Native.Nat.{ℕ, zero, suc, _+_, _-_}
+use Prim.Native.Nat.{ℕ, zero, suc, _+_}
 use mathlib.Core.List.{List, [], _∷_, _++_, flatten}
 use lib.ListN.{length, getD, drop}
 use Rattle.format.specs.declared.Section.{Section}
 use Rattle.format.specs.declared.Section.the-variants.{Groups, Rules, Constraints}
 use Rattle.format.specs.Bytes.{putWord}
-use Rattle.format.specs.Format.{countOf, firstRecord}
+use Rattle.format.specs.Format.{headerLength, countOf, firstRecord}
 
 pub record Policy : Type 0 where
   pub version : ℕ
@@ -34,7 +34,7 @@ bodyOf p = flatten (p .groups) ++ (flatten (p .rules) ++ flatten (p .constraints
 unfoldable pub imageOf : Policy → List ℕ
 imageOf p =
     p .version
-    ∷ putWord (9 + length (bodyOf p))
+    ∷ putWord (headerLength + length (bodyOf p))
     (putWord (length (p .groups)) (putWord (length (p .rules)) (putWord (length (p .constraints)) (bodyOf p))))
 
 unfoldable pub recordAt : List ℕ → ℕ → List ℕ
@@ -49,9 +49,9 @@ recordsAt l at zero = []
 recordsAt l at (suc n) = recordAt l at ∷ recordsAt l (at + getD l at 0) n
 
 unfoldable pub startOf : List ℕ → Section → ℕ
-startOf l Groups = 9
-startOf l Rules = placeAfter l 9 (countOf l Groups)
-startOf l Constraints = placeAfter l (placeAfter l 9 (countOf l Groups)) (countOf l Rules)
+startOf l Groups = headerLength
+startOf l Rules = placeAfter l headerLength (countOf l Groups)
+startOf l Constraints = placeAfter l (placeAfter l headerLength (countOf l Groups)) (countOf l Rules)
 
 unfoldable pub placeOf : List ℕ → Section → ℕ → ℕ
 placeOf l s n = placeAfter l (startOf l s) n

@@ -2,11 +2,9 @@
 --     sample, empty      their images
 --     SampleAccepted     both are lists of bytes, and accepted
 use Prim.Native.Nat.{ℕ}
-use mathlib.Core.Path.{_≡_}
-use mathlib.Core.Option.{none}
 use mathlib.Core.List.{List, [], _∷_}
 use Rattle.format.specs.Bytes.{Bytes}
-use Rattle.format.specs.Check.{check}
+use Rattle.format.specs.Check.{Accepted}
 
 unfoldable pub sample : List ℕ
 sample =
@@ -24,6 +22,6 @@ empty = 1 ∷ 0 ∷ 9 ∷ 0 ∷ 0 ∷ 0 ∷ 0 ∷ 0 ∷ 0 ∷ []
 
 pub record SampleAccepted : Type 0 where
   pub sample-bytes : Bytes sample
-  pub sample-passes : check sample ≡ none
+  pub sample-passes : Accepted sample
   pub empty-bytes : Bytes empty
-  pub empty-passes : check empty ≡ none
+  pub empty-passes : Accepted empty

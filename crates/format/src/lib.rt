@@ -1,4 +1,6 @@
-// The types that the reading layer shares with the layers above it. Their meaning is in specs/, and no code is here.
+// The types that the reading layer shares with the layers above it, and the header's numbers. Their meaning is in specs/,
+// and no code is here.
+pub mod header; // header.rt: the header's places and the limits
 
 // One of the three sections of an image.
 pub enum Section {

@@ -16,7 +16,7 @@ use Rattle.format.specs.declared.Extent.{Extent}
 use Rattle.format.specs.Refusals.{refusal, need, _orElse_}
 use Rattle.format.specs.Format.{countOf}
 use Rattle.format.specs.Policy.{recordAt, placeAfter, startOf, placeOf, endOf}
-use Rattle.format.specs.Check.{sectionFault, headerFault, bodyFault, check}
+use Rattle.format.specs.Check.{sectionFault, headerFault, bodyFault, check, Accepted}
 use Rattle.format.specs.Give.{giveFault, givenRecord}
 use Rattle.format.specs.Answers.{gives, outcome, starts, extent}
 use Rattle.format.proofs.Chain.{orElse-next, orElse-first, need-some}
@@ -129,7 +129,7 @@ module _ (l : List ℕ) where
     unfolding giveFault
     give-refused f e = orElse-first _ e
 
-    module _ (e : check l ≡ none) where
+    module _ (e : Accepted l) where
       pub give-past : countOf l s ≤ n → giveFault l s n ≡ some (refusal 14 0)
       unfolding giveFault
       give-past h = orElse-next _ e ∙ need-some _ (le-ltb n (countOf l s) h)
@@ -143,7 +143,7 @@ module _ (l : List ℕ) where
             let size : k ≡ length (recordAt l (placeOf l s n)) = b ∙ ap (λ (i : ℕ). getD l i 0) a ∙ sym (record-stands l e s n h .size) in
             rw (give-none l e s n h, record-is l e s n h, a, size)
 
-pub hops : (l : List ℕ) (s : Section) (n : ℕ) → check l ≡ none → n < countOf l s → Hops l (startOf l s) n
+pub hops : (l : List ℕ) (s : Section) (n : ℕ) → Accepted l → n < countOf l s → Hops l (startOf l s) n
 unfolding placeOf
 hops l s n e h =
     record {

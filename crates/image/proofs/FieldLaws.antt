@@ -11,7 +11,7 @@ use borrow.Author.Tests.{lt-ltb, le-ltb, le-leb, lt-leb, not-true, not-false}
 use Rattle.format.specs.declared.Read.the-variants.{Whole, BadField}
 use Rattle.format.specs.Bytes.{wordAt, words}
 use Rattle.format.specs.Refusals.{need, _orElse_}
-use Rattle.format.specs.Format.{isType, badMember, badType}
+use Rattle.format.specs.Format.{isType, badMember, badType, badGroup}
 use Rattle.format.specs.Check.{readFields}
 use Rattle.format.proofs.Bytes.{words-next, words-end}
 
@@ -48,6 +48,41 @@ module _ (p : List ℕ) (at low : ℕ) where
     unfolding badMember need _orElse_
     members-next k j =
         rw (words-next p at h, is, add-one) (simp (le-leb low (wordAt p at) (omega arith), lt-ltb (wordAt p at) 1024 (omega arith)))
+
+-- the member m at a place is a basic type, and those behind it rise
+pub record Good (p : List ℕ) (at m : ℕ) : Type 0 where
+  pub is : m ≡ wordAt p at
+  pub room : at + 1 < length p
+  pub basic : m < 1024
+  pub rest : badMember at m (words (drop at p)) ≡ none
+
+module _ (p : List ℕ) (at m : ℕ) where
+  pub good-last : m ≡ wordAt p at → at + 2 ≡ length p → m < 1024 → Good p at m
+  good-last is end h =
+      record {
+        is = is;
+        room = omega arith;
+        basic = h;
+        rest = members-next p at m m is (omega arith) (omega arith) h ∙ members-end p (at + 2) (m + 1) (omega arith);
+      }
+
+  module _ (g : Good p at m) where
+    lower : (k : ℕ) → k ≤ m → badMember at k (words (drop at p)) ≡ none
+    lower k h =
+        members-next p at k m (g .is) (g .room) h (g .basic) ∙ sym (members-next p at m m (g .is) (g .room) (omega arith) (g .basic)) ∙ g .rest
+
+    pub good-before : (a k : ℕ) → a + 2 ≡ at → k ≡ wordAt p a → k < m → Good p a k
+    good-before a k e is h =
+        record {
+          is = is;
+          room = omega (arith, g .room);
+          basic = omega (arith, g .basic);
+          rest = members-next p a k k is (omega (arith, g .room)) (omega arith) (omega (arith, g .basic)) ∙ rw e (lower (k + 1) (omega arith));
+        }
+
+    pub good-group : at ≡ 2 → badGroup p ≡ none
+    unfolding badGroup
+    good-group e = rw e at (lower 0 (omega arith))
 
 module _ (p : List ℕ) (g at : ℕ) where
   pub types-end : length p ≤ at + 1 → badType g at (words (drop at p)) ≡ none

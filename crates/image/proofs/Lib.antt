@@ -1,5 +1,6 @@
 pub mod FieldLaws
 pub mod ReaderLaws
 pub mod WalkLaws
+pub mod SurveyLaws
 pub mod BodyLaws
 pub mod FrontLaws

@@ -1,6 +1,6 @@
 -- Laws of the record reader, one for each way that it goes: what the record at the front of a part is, by the tests that
 -- the reader makes in turn. n is the part's first byte. Assumes nothing.
-use Prim.Native.Nat.{ℕ, _≤_, _<_}
+use Prim.Native.Nat.{ℕ, _≤_, _<_, _%_}
 use mathlib.Core.Path.{_≡_, refl, sym, ap, _∙_}
 use mathlib.Core.Bool.{Bool, true, false}
 use mathlib.Core.Option.{Option}
@@ -82,8 +82,10 @@ module _ (s : Section) (g : ℕ) (p : List ℕ) (n : ℕ) (is : n ≡ getD p 0 0
     read-fields f e = rw first-is (simp (whole-shape, ap (kindIn s) whole-kind ∙ kind, e))
 
     -- the lengths that each kind has at least
-    pub least-group : 2 ≤ length (take n p)
-    least-group = rw whole-size (omega (arith, length-least (getD p 1 0) n ok))
+    pub least-group : getD p 1 0 ≡ 1 → (4 ≤ length (take n p)) × (length (take n p) % 2 ≡ 0)
+    least-group k =
+        rw whole-size
+        (length-cases (getD p 1 0) n ok (λ _ h _ even. (h, even)) (λ j _. absurd (omega arith)) (λ j _. absurd (omega arith)) (λ j _ _ _. absurd (omega arith)))
 
     pub least-allow : getD p 1 0 ≡ 2 → 11 ≤ length (take n p)
     least-allow k =

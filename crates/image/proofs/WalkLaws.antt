@@ -3,12 +3,13 @@ use Prim.Native.Nat.{ℕ, suc, _+_, _-_, _≤_, _<_}
 use mathlib.Core.Path.{_≡_, sym, _∙_}
 use mathlib.Core.List.{List}
 use native.Mathlib.Omega.{arith}
-use lib.ListN.{length, getD, take, drop, length-drop}
+use native.Mathlib.Numerals.{add-one}
+use lib.ListN.{length, getD, take, drop, set, length-drop}
 use lib.Seq.{take-all}
 use Rattle.format.specs.declared.Section.{Section}
 use Rattle.format.specs.declared.Section.the-variants.{Groups}
 use Rattle.format.specs.declared.Read.the-variants.{Whole, Malformed, BadField}
-use Rattle.format.specs.Refusals.{refusal, _orElse_}
+use Rattle.format.specs.Refusals.{refusal, _orElse_, unlessRefused}
 use Rattle.format.specs.Format.{countOf}
 use Rattle.format.specs.Policy.{recordAt, placeAfter}
 use Rattle.format.specs.Check.{readOf, readFault, sectionFault}
@@ -16,7 +17,7 @@ use Rattle.format.specs.Inner.Places.{Stands}
 use Rattle.format.proofs.Shapes.{stands, read-whole, read-bad-field}
 use Rattle.format.proofs.Fields.{field-inside}
 use Rattle.image.specs.declared.checker.Walked.the-variants.{To, Stop}
-use Rattle.image.specs.Inner.Walk.{walkOf}
+use Rattle.image.specs.Inner.Walk.{walkOf, notedFrom}
 
 -- the part of a list from a place on, as a part of a slice is given
 pub part-from : (l : List ℕ) (at : ℕ) → take (length l - at) (drop at l) ≡ drop at l
@@ -59,3 +60,22 @@ module _ (l : List ℕ) (s : Section) (at : ℕ) where
     pub walk-field : (i : ℕ) → 0 < n → readOf s (countOf l Groups) (drop at l) ≡ BadField i → walkOf l s at n ≡ Stop (refusal 6 (at + i))
     unfolding walkOf sectionFault readFault _orElse_
     walk-field i h r = let e : n ≡ suc (n - 1) = omega arith in rw e (simp r)
+
+    -- the table, in the same turns
+    module _ (k : ℕ) (ps : List ℕ) where
+      pub note-end : n ≡ 0 → notedFrom l s at k n ps ≡ ps
+      unfolding notedFrom
+      note-end e = rw e
+
+      pub note-whole :
+          (m len : ℕ) → n ≡ suc m → readOf s (countOf l Groups) (drop at l) ≡ Whole len → notedFrom l s at k n ps ≡ notedFrom l s (at + len) (k + 1) m (set ps k at)
+      unfolding notedFrom readFault unlessRefused
+      note-whole m len e r = rw (e, whole-size len r, add-one) (simp r)
+
+      pub note-malformed : 0 < n → readOf s (countOf l Groups) (drop at l) ≡ Malformed → notedFrom l s at k n ps ≡ set ps k at
+      unfolding notedFrom readFault unlessRefused
+      note-malformed h r = let e : n ≡ suc (n - 1) = omega arith in rw e (simp r)
+
+      pub note-field : (i : ℕ) → 0 < n → readOf s (countOf l Groups) (drop at l) ≡ BadField i → notedFrom l s at k n ps ≡ set ps k at
+      unfolding notedFrom readFault unlessRefused
+      note-field i h r = let e : n ≡ suc (n - 1) = omega arith in rw e (simp r)

@@ -1,19 +1,21 @@
 // The check of an image: one pass over its bytes.
 use crate::reader::read_record;
-use crate::word::word_at;
+use crate::word::word_in;
 use format::Checked;
 use format::Read;
 use format::Refusal;
 use format::Section;
 use format::Sections;
 use format::Starts;
+use format::header;
 ghost use mathlib.Core.Path.{_≡_};
-ghost use Prim.Native.Nat.{_≤_};
-ghost use lib.ListN.{length};
+ghost use Prim.Native.Nat.{_≤_, _<_};
+ghost use lib.ListN.{length, set};
 ghost use lib.Dec.{eqb};
-ghost use Rattle.format.specs.Check.{headerFault, bodyFault, check};
+ghost use Rattle.format.specs.Check.{headerFault, check};
 ghost use Rattle.format.specs.Answers.{outcome, refusalOf, sectionsOutcome, starts};
-ghost use Rattle.image.specs.Inner.Walk.{walkOf, endsOf};
+ghost use Rattle.image.specs.Survey.{Surveys};
+ghost use Rattle.image.specs.Inner.Walk.{walkOf, endsOf, Ahead, Walks, ChecksBody, Checks};
 ghost use Rattle.format.specs.Refusals.{refusal};
 ghost use mathlib.Core.Option.{some};
 
@@ -23,14 +25,32 @@ pub(crate) enum Walked {
     Stop(Refusal),
 }
 
-// The records of a section, so many of them from a place on.
-fn walk(image: &[u8], section: Section, count: usize, from: usize) -> Walked
-    requires { ⌜ (9 ≤ from) × (from ≤ length (now image)) ⌝ }
-    ensures { λ r. ⌜ r ≡ walkOf (now (image .entry)) section from count ⌝ }
+// A place goes into slot k of a table, where it has that slot.
+fn note(places: &mut [u16], k: usize, at: usize)
+    requires { ⌜ at < 65536 ⌝ }
+    ensures { λ _. ⌜ now (places .exit) ≡ set (now (places .entry)) k at ⌝ }
 {
-    let groups = word_at(image, 3);
+    if k < places.len() {
+        places[k] = at as u16;
+    }
+}
+
+// The records of a section, so many of them from a place on, in an image with so many groups. The place of each record
+// that the walk comes to is noted.
+fn walk(
+    image: &[u8],
+    groups: usize,
+    section: Section,
+    count: usize,
+    from: usize,
+    places: &mut [u16],
+) -> Walked
+    requires { ⌜ Ahead (now image) groups from ⌝ }
+    ensures { λ r. ⌜ Walks (now (image .entry)) section from count (now (places .entry)) r (now (places .exit)) ⌝ }
+{
     let mut at = from;
     for k in 0..count {
+        note(places, k, at);
         match read_record(&image[at..], section, groups) {
             Read::Whole(length) => {
                 at += length;
@@ -52,6 +72,15 @@ fn walk(image: &[u8], section: Section, count: usize, from: usize) -> Walked
     Walked::To(at)
 }
 
+// The same, and no place is noted.
+fn walk_on(image: &[u8], groups: usize, section: Section, count: usize, from: usize) -> Walked
+    requires { ⌜ Ahead (now image) groups from ⌝ }
+    ensures { λ r. ⌜ r ≡ walkOf (now (image .entry)) section from count ⌝ }
+{
+    let mut none = [0u16; 1];
+    walk(image, groups, section, count, from, &mut none[..0])
+}
+
 fn refused(number: u8, place: usize) -> Checked
     ensures { λ r. ⌜ refusalOf r ≡ some (refusal number place) ⌝ }
 {
@@ -62,27 +91,27 @@ fn refused(number: u8, place: usize) -> Checked
 fn check_header(image: &[u8]) -> Checked
     ensures { λ r. ⌜ refusalOf r ≡ headerFault eqb (now (image .entry)) ⌝ }
 {
-    if image.len() < 9 {
+    if image.len() < header::SIZE {
         return refused(1, 0);
     }
     if image[0] != 1 {
         return refused(2, 0);
     }
-    let size = word_at(image, 1);
-    if size < 9 {
+    let size = word_in(image, header::LENGTH_AT);
+    if size < header::SIZE {
         return refused(3, 0);
     }
     if size != image.len() {
         return refused(3, 0);
     }
-    if 256 < word_at(image, 3) {
-        return refused(4, 3);
+    if header::MOST_GROUPS < word_in(image, header::GROUPS_AT) {
+        return refused(4, header::GROUPS_AT);
     }
-    if 1024 < word_at(image, 5) {
-        return refused(4, 5);
+    if header::MOST_RULES < word_in(image, header::RULES_AT) {
+        return refused(4, header::RULES_AT);
     }
-    if 256 < word_at(image, 7) {
-        return refused(4, 7);
+    if header::MOST_CONSTRAINTS < word_in(image, header::CONSTRAINTS_AT) {
+        return refused(4, header::CONSTRAINTS_AT);
     }
     Checked::Accepted
 }
@@ -100,19 +129,27 @@ fn check_end(image: &[u8], rules: usize, constraints: usize, end: usize) -> Sect
     Sections::At(Starts { rules, constraints })
 }
 
-// Refusals 5 to 7.
-fn check_body(image: &[u8]) -> Sections
-    requires { ⌜ 9 ≤ length (now image) ⌝ }
-    ensures { λ r. ⌜ sectionsOutcome r ≡ outcome (bodyFault (now (image .entry))) (starts (now (image .entry))) ⌝ }
+// Refusals 5 to 7, and the groups' places.
+fn check_body(image: &[u8], places: &mut [u16]) -> Sections
+    requires { ⌜ (9 ≤ length (now image)) × (length (now image) < 65536) ⌝ }
+    ensures { λ r. ⌜ ChecksBody (now (image .entry)) (now (places .entry)) r (now (places .exit)) ⌝ }
 {
-    match walk(image, Section::Groups, word_at(image, 3), 9) {
+    let groups = word_in(image, header::GROUPS_AT);
+    match walk(image, groups, Section::Groups, groups, header::SIZE, places) {
         Walked::Stop(f) => Sections::Refused(f),
-        Walked::To(rules) => match walk(image, Section::Rules, word_at(image, 5), rules) {
+        Walked::To(rules) => match walk_on(
+            image,
+            groups,
+            Section::Rules,
+            word_in(image, header::RULES_AT),
+            rules,
+        ) {
             Walked::Stop(f) => Sections::Refused(f),
-            Walked::To(constraints) => match walk(
+            Walked::To(constraints) => match walk_on(
                 image,
+                groups,
                 Section::Constraints,
-                word_at(image, 7),
+                word_in(image, header::CONSTRAINTS_AT),
                 constraints,
             ) {
                 Walked::Stop(f) => Sections::Refused(f),
@@ -122,14 +159,29 @@ fn check_body(image: &[u8]) -> Sections
     }
 }
 
-// Where the sections of an accepted image start, else the refusal.
-pub fn layout(image: &[u8]) -> Sections
-    ensures { λ r. ⌜ sectionsOutcome r ≡ outcome (check (now (image .entry))) (starts (now (image .entry))) ⌝ }
+// The whole check, with a table for as many of the groups' places as it has slots.
+fn check_all(image: &[u8], places: &mut [u16]) -> Sections
+    ensures { λ r. ⌜ Checks (now (image .entry)) (now (places .entry)) r (now (places .exit)) ⌝ }
 {
     match check_header(image) {
         Checked::Refused(f) => Sections::Refused(f),
-        Checked::Accepted => check_body(image),
+        Checked::Accepted => check_body(image, places),
     }
+}
+
+// Where the sections of an accepted image start, else the refusal; and the place of each group that the check comes to.
+pub fn survey(image: &[u8], groups: &mut [u16; header::MOST_GROUPS]) -> Sections
+    ensures { λ r. ⌜ Surveys (now (image .entry)) (now (groups .entry)) r (now (groups .exit)) ⌝ }
+{
+    check_all(image, groups)
+}
+
+// The same without the places.
+pub fn layout(image: &[u8]) -> Sections
+    ensures { λ r. ⌜ sectionsOutcome r ≡ outcome (check (now (image .entry))) (starts (now (image .entry))) ⌝ }
+{
+    let mut none = [0u16; 1];
+    check_all(image, &mut none[..0])
 }
 
 // Whether an image is accepted, else the refusal.

@@ -1,21 +1,22 @@
 // The image that a buffer starts with.
 use crate::checker::layout;
-use crate::word::word_at;
+use crate::word::word_in;
 use format::Sections;
+use format::header;
 ghost use mathlib.Core.Path.{_≡_};
 ghost use Rattle.format.specs.Check.{imageIn, checkFront};
 ghost use Rattle.format.specs.Give.{Leads};
 ghost use Rattle.format.specs.Answers.{outcome, sectionsOutcome, starts};
 
-// The bytes up to the length field; where that is below 9 or beyond the buffer, all of it, which a check then refuses.
+// As many bytes as the length field says; where that is below 9 or beyond the buffer, all of it, which a check then refuses.
 pub fn leading(buffer: &[u8]) -> &[u8]
     ensures { λ r. ⌜ Leads (buffer .entry) r ⌝ }
 {
-    if buffer.len() < 9 {
+    if buffer.len() < header::SIZE {
         return &buffer[..];
     }
-    let size = word_at(buffer, 1);
-    if size < 9 {
+    let size = word_in(buffer, header::LENGTH_AT);
+    if size < header::SIZE {
         return &buffer[..];
     }
     if buffer.len() < size {

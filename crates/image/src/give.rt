@@ -1,13 +1,14 @@
 // Record n of a section.
 use crate::checker::layout;
 use crate::word::wide;
-use crate::word::word_at;
+use crate::word::word_in;
 use format::Extent;
 use format::Found;
 use format::Refusal;
 use format::Section;
 use format::Sections;
 use format::Starts;
+use format::header;
 ghost use mathlib.Core.Path.{_≡_};
 ghost use Prim.Native.Nat.{_≤_};
 ghost use lib.ListN.{length};
@@ -23,9 +24,9 @@ fn count_in(image: &[u8], section: Section) -> usize
     ensures { λ r. ⌜ r ≡ countOf (now (image .entry)) section ⌝ }
 {
     match section {
-        Section::Groups => word_at(image, 3),
-        Section::Rules => word_at(image, 5),
-        Section::Constraints => word_at(image, 7),
+        Section::Groups => word_in(image, header::GROUPS_AT),
+        Section::Rules => word_in(image, header::RULES_AT),
+        Section::Constraints => word_in(image, header::CONSTRAINTS_AT),
     }
 }
 
@@ -34,7 +35,7 @@ fn start_in(starts: Starts, section: Section) -> usize
     ensures { λ r. ⌜ r ≡ startIn starts section ⌝ }
 {
     match section {
-        Section::Groups => 9,
+        Section::Groups => header::SIZE,
         Section::Rules => starts.rules,
         Section::Constraints => starts.constraints,
     }

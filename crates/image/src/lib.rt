@@ -1,7 +1,7 @@
 // Reading a policy image: the check, the record reader, and record n of a section.
 //
-// Each public function takes any bytes and says in its contract what it answers, by the definitions of the crate
-// `format`. Nothing lent is changed, and nothing is remembered from one call to the next.
+// Each public function takes any bytes and says in its contract what it answers, by the definitions of the crate `format`, and
+// `survey` by specs/Survey.antt. Nothing lent is changed but `survey`'s table, and nothing is remembered from one call to the next.
 mod word; // word.rt: numbers in bytes
 mod kind; // kind.rt: kinds, lengths and the fields' single rules
 mod fields; // fields.rt: the fields of a record, by its kind
@@ -12,9 +12,11 @@ mod give; // give.rt: record n of a section
 
 pub use checker::check;
 pub use checker::layout;
+pub use checker::survey;
 pub use front_part::front;
 pub use front_part::leading;
 pub use give::find;
 pub use give::record;
 pub use kind::is_type;
 pub use reader::read_record;
+pub use word::word_at;

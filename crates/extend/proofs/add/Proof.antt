@@ -19,28 +19,13 @@ use Rattle.extend.proofs.add.Tie as tie
 slotted : (d : tie.After-slot) → (addFault (now (d .before .before .before .before .before .before .args .buffer)) (now (d .before .before .before .before .before .before .args .part)) ≡ none) × (d .slot .given .0 .0 ≡ slotOf (now (d .before .before .before .before .before .before .args .buffer)) (now (d .before .before .before .before .before .before .args .part)))
 slotted d = outcome-gives _ _ (sym (ap planOutcome (d .slot .given .1)) ∙ d .before .before .planned .ensures)
 
-planned-requires : tie.Need-planned-requires
-planned-requires c κs = search needs
-
-enum-known-f : tie.Need-enum-known-f
-enum-known-f c = search needs
-
-enum-known-slot : tie.Need-enum-known-slot
-enum-known-slot c = search needs
-
 insert-requires : tie.Need-insert-requires
 insert-requires c κs = let q = slotted (c .before .before) in rw (q .1) (slot-fits _ _ (λ i. omega (arith, c .before .before .before .before .before .before .shared-slice-known .given i)) (q .0))
-
-same-length : tie.Need-same-length
-same-length c = search needs
 
 returns : tie.Need-returns
 returns c = let f : addFault (now (c .before .before .before .before .before .before .before .args .buffer)) (now (c .before .before .before .before .before .before .before .args .part)) ≡ some (c .before .f .given .0 .0) =
     outcome-refused _ _ (sym (ap planOutcome (c .before .f .given .1)) ∙ c .before .before .before .planned .ensures) in
     record { answer = rw f; buffer = sym (buffer-refused _ _ _ f) }
-
-same-length-2 : tie.Need-same-length-2
-same-length-2 c = search needs
 
 returns-2 : tie.Need-returns-2
 unfolding slotOf newNumber
@@ -57,11 +42,11 @@ pub add-spec : {M : Type 1} → statement M
 add-spec =
     tie.close
     (tie.spec
-    planned-requires
-    enum-known-f
-    enum-known-slot
+    (λ c κs. search needs)
+    (λ c. search needs)
+    (λ c. search needs)
     insert-requires
-    same-length
+    (λ c. search needs)
     returns
-    same-length-2
+    (λ c. search needs)
     returns-2)

@@ -6,6 +6,7 @@ use Prim.Native.Nat.{ℕ, _+_, _≤_, _<_}
 use mathlib.Core.List.{List, _++_}
 use lib.ListN.{length, take, drop}
 use lib.Seq.{slice, paste}
+use Rattle.format.specs.Format.{headerLength}
 use Rattle.extend.specs.declared.plan.Slot.{Slot}
 
 unfoldable pub movedUp : List ℕ → ℕ → ℕ → ℕ → List ℕ
@@ -15,7 +16,7 @@ unfoldable pub pasted : List ℕ → ℕ → List ℕ → List ℕ
 pasted b at r = paste b at r (length r)
 
 pub record Fits (b r : List ℕ) (slot : Slot) : Type 0 where
-  pub low : 9 ≤ slot .at
+  pub low : headerLength ≤ slot .at
   pub within : slot .at ≤ slot .size
   pub room : slot .size + length r ≤ length b
   pub size : slot .size + length r < 65536

@@ -7,7 +7,7 @@ use mathlib.Core.List.{List}
 use lib.ListN.{getD}
 use Rattle.format.specs.declared.Section.{Section}
 use Rattle.format.specs.Bytes.{wordAt}
-use Rattle.format.specs.Format.{countPlace, countOf}
+use Rattle.format.specs.Format.{lengthPlace, countPlace, countOf}
 use Rattle.format.specs.Check.{imageIn}
 use Rattle.format.specs.Answers.{Outcome, refused, gives}
 use Rattle.extension.specs.Add.{sectionOf}
@@ -21,7 +21,7 @@ planOutcome (Put s) = gives s
 planOutcome (Refused f) = refused f
 
 abbrev pub slotAt : List ℕ → Section → ℕ → Slot
-slotAt b s at = record { at = at; size = wordAt b 1; field = countPlace s; count = countOf b s }
+slotAt b s at = record { at = at; size = wordAt b lengthPlace; field = countPlace s; count = countOf b s }
 
 unfoldable pub slotOf : List ℕ → List ℕ → Slot
 slotOf b r = slotAt b (sectionOf (getD r 1 0)) (endOfSection (imageIn b) (sectionOf (getD r 1 0)))

@@ -9,7 +9,6 @@ use Rattle.format.specs.declared.Section.the-variants.{Groups, Rules, Constrain
 use Rattle.format.specs.Format.{kindIn}
 use Rattle.format.specs.Answers.{outcome}
 use Rattle.format.proofs.ByCase.{kind-groups, kind-rules, kind-constraints}
-use Rattle.format.proofs.Front.{front-header}
 use Rattle.extension.specs.Add.{ownFault}
 use Rattle.extend.proofs.PlanLaws.{own-tiny, own-length, own-kind, slot-is, end-groups, end-rules, end-constraints}
 use borrow.Author.Needs.{needs}
@@ -29,41 +28,20 @@ kind-constraint d = kind-constraints (getD (now (d .before .before .before .befo
 kind-rule : (d : tie.Then4) → kindIn Rules (getD (now (d .before .before .before .before .before .before .before .before .before .before .args .part)) 1 0) ≡ true
 kind-rule d = kind-rules _ (omega arith) (omega arith)
 
-refused-requires : tie.Need-refused-requires
-refused-requires c κs = search needs
-
 returns : tie.Need-returns
 returns c = rw (c .refused .ensures, own-tiny _ _ (c .before .if1 .taken))
-
-shared-slice-read-wide : tie.Need-shared-slice-read-wide
-shared-slice-read-wide c = search needs
-
-wide-requires : tie.Need-wide-requires
-wide-requires c κs = search needs
-
-refused-requires-2 : tie.Need-refused-requires-2
-refused-requires-2 c κs = search needs
 
 returns-2 : tie.Need-returns-2
 returns-2 c = rw (c .refused2 .ensures, own-length _ _ _ (c .before .before .wide .ensures .0) (c .before .if2 .taken))
 
-shared-slice-read-match : tie.Need-shared-slice-read-match
-shared-slice-read-match c = search needs
-
 room-requires : tie.Need-room-requires
 room-requires c κs = (c .before .before .before .before .before .before .before .before .pre .0, whole (c .before .before), kind-group c)
-
-word-at-requires : tie.Need-word-at-requires
-word-at-requires c κs = omega (arith, front-header _ (c .before .before .before .before .before .before .before .before .pre .0) .long)
 
 room-requires-2 : tie.Need-room-requires-2
 room-requires-2 c κs = (c .before .before .before .before .before .before .before .before .before .pre .0, whole (c .before .before .before), kind-constraint (c .before))
 
 room-requires-3 : tie.Need-room-requires-3
 room-requires-3 c κs = (c .before .before .before .before .before .before .before .before .before .before .pre .0, whole (c .before .before .before .before), kind-rule c)
-
-refused-requires-3 : tie.Need-refused-requires-3
-refused-requires-3 c κs = search needs
 
 returns-3 : tie.Need-returns-3
 returns-3 c = let a = c .before .before .before .before .before .before .before .before .before in
@@ -90,18 +68,18 @@ pub own-causes-spec : {M : Type 1} → statement M
 own-causes-spec =
     tie.close
     (tie.spec
-    refused-requires
+    (λ c κs. search needs)
     returns
-    shared-slice-read-wide
-    wide-requires
-    refused-requires-2
+    (λ c. search needs)
+    (λ c κs. search needs)
+    (λ c κs. search needs)
     returns-2
-    shared-slice-read-match
+    (λ c. search needs)
     room-requires
-    word-at-requires
+    (λ c κs. search needs)
     room-requires-2
     room-requires-3
-    refused-requires-3
+    (λ c κs. search needs)
     returns-3
     returns-4
     returns-5

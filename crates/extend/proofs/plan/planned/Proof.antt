@@ -14,15 +14,6 @@ use Rattle.extend.proofs.plan.planned.Tie as tie
 front-none : (d : tie.After-sections) → (checkFront (now (d .before .before .before .before .before .args .buffer)) ≡ none) × (d .sections .given .0 .0 ≡ starts (imageIn (now (d .before .before .before .before .before .args .buffer))))
 front-none d = outcome-gives _ _ (sym (ap sectionsOutcome (d .sections .given .1)) ∙ d .before .before .front .ensures)
 
-front-requires : tie.Need-front-requires
-front-requires c κs = search needs
-
-enum-known-f : tie.Need-enum-known-f
-enum-known-f c = search needs
-
-enum-known-sections : tie.Need-enum-known-sections
-enum-known-sections c = search needs
-
 own-causes-requires : tie.Need-own-causes-requires
 own-causes-requires c κs = front-none (c .before)
 
@@ -38,9 +29,9 @@ pub planned-spec : {M : Type 1} → statement M
 planned-spec =
     tie.close
     (tie.spec
-    front-requires
-    enum-known-f
-    enum-known-sections
+    (λ c κs. search needs)
+    (λ c. search needs)
+    (λ c. search needs)
     own-causes-requires
     returns
     returns-2)

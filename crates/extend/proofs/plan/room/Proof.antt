@@ -1,9 +1,8 @@
 -- `room` meets its contract: a law for each way that it goes. Assumes nothing.
 use native.Mathlib.Omega.{arith}
-use Prim.Native.Nat.{_<_, _≤_}
+use Prim.Native.Nat.{_<_}
 use mathlib.Core.Path.{_≡_, sym, ap, _∙_}
 use denote.Ref.{now}
-use lib.ListN.{length}
 use Rattle.format.specs.declared.Section.the-variants.{Groups}
 use Rattle.format.specs.declared.Read.{Read}
 use Rattle.format.specs.declared.Read.the-variants.{Whole}
@@ -11,7 +10,7 @@ use Rattle.format.specs.Bytes.{wordAt}
 use Rattle.format.specs.Format.{limitOf, countOf}
 use Rattle.format.specs.Check.{readOf}
 use Rattle.format.proofs.ByCase.{count-at, count-groups}
-use Rattle.format.proofs.Front.{front-header, front-fits}
+use Rattle.format.proofs.Front.{front-fits}
 use Rattle.extend.proofs.PlanLaws.{own-malformed, own-field, own-full, own-short, own-none, slot-made}
 use borrow.Author.Needs.{needs}
 use Rattle.extend.proofs.plan.room.Statement.{statement}
@@ -23,9 +22,6 @@ read :
     → readOf (d .before .before .before .before .args .section) (countOf (now (d .before .before .before .before .args .buffer)) Groups) (now (d .before .before .before .before .args .part)) ≡ w
 read d w e = ap (λ g. readOf (d .before .before .before .before .args .section) g (now (d .before .before .before .before .args .part))) (count-groups _ ∙ sym (d .before .word-at .ensures .0)) ∙ sym (d .read-record .ensures) ∙ e
 
-long : (d : tie.After-read-record) → 9 ≤ length (now (d .before .before .before .before .args .buffer))
-long d = front-header _ (d .before .before .before .before .pre .0) .long
-
 whole : (d : tie.After-enum-told2) → readOf (d .before .before .before .before .before .before .args .section) (countOf (now (d .before .before .before .before .before .before .args .buffer)) Groups) (now (d .before .before .before .before .before .before .args .part)) ≡ Whole (d .enum-told2 .given .0 .0)
 whole d = read (d .before .before) _ (d .enum-told2 .given .1)
 
@@ -36,52 +32,13 @@ counted d = d .word-at2 .ensures .0 ∙ ap (wordAt (now (d .before .before .befo
 few : (d : tie.Else1) → countOf (now (d .before .before .before .before .before .before .before .before .before .before .args .buffer)) (d .before .before .before .before .before .before .before .before .before .before .args .section) < limitOf (d .before .before .before .before .before .before .before .before .before .before .args .section)
 few d = omega (arith, counted (d .before .before), d .before .limit-of .ensures)
 
-word-at-requires : tie.Need-word-at-requires
-word-at-requires c κs = omega (arith, front-header _ (c .before .before .pre .0) .long)
-
-read-record-requires : tie.Need-read-record-requires
-read-record-requires c κs = search needs
-
-enum-told : tie.Need-enum-told
-enum-told c = search needs
-
-refused-requires : tie.Need-refused-requires
-refused-requires c κs = search needs
-
-enum-known-i : tie.Need-enum-known-i
-enum-known-i c = search needs
-
-refused-requires-2 : tie.Need-refused-requires-2
-refused-requires-2 c κs = search needs
-
-enum-told-2 : tie.Need-enum-told-2
-enum-told-2 c = search needs
-
-count-place-requires : tie.Need-count-place-requires
-count-place-requires c κs = search needs
-
-word-at-requires-2 : tie.Need-word-at-requires-2
-word-at-requires-2 c κs = omega (arith, long (c .before .before .before), c .count-place .ensures .1)
-
-limit-of-requires : tie.Need-limit-of-requires
-limit-of-requires c κs = search needs
-
-refused-requires-3 : tie.Need-refused-requires-3
-refused-requires-3 c κs = search needs
-
 returns : tie.Need-returns
 returns c = let d = c .before .before .before .before .before in
     let f = own-full _ _ _ (d .before .before .before .before .before .before .pre .1) (d .before .before .before .before .before .before .pre .2) _ (whole d) (omega (arith, counted (c .before .before .before), c .before .before .limit-of .ensures, c .before .if1 .taken)) in
     rw (c .refused3 .ensures, f)
 
-word-at-requires-3 : tie.Need-word-at-requires-3
-word-at-requires-3 c κs = omega (arith, long (c .before .before .before .before .before .before))
-
 sub-if2 : tie.Need-sub-if2
 sub-if2 c = omega (arith, front-fits _ (c .before .before .before .before .before .before .before .before .before .before .before .pre .0), c .word-at3 .ensures .0)
-
-refused-requires-4 : tie.Need-refused-requires-4
-refused-requires-4 c κs = search needs
 
 returns-2 : tie.Need-returns-2
 returns-2 c = let d = c .before .before .before .before .before .before .before in
@@ -103,21 +60,21 @@ pub room-spec : {M : Type 1} → statement M
 room-spec =
     tie.close
     (tie.spec
-    word-at-requires
-    read-record-requires
-    enum-told
-    refused-requires
-    enum-known-i
-    refused-requires-2
-    enum-told-2
-    count-place-requires
-    word-at-requires-2
-    limit-of-requires
-    refused-requires-3
+    (λ c κs. search needs)
+    (λ c κs. search needs)
+    (λ c. search needs)
+    (λ c κs. search needs)
+    (λ c. search needs)
+    (λ c κs. search needs)
+    (λ c. search needs)
+    (λ c κs. search needs)
+    (λ c κs. search needs)
+    (λ c κs. search needs)
+    (λ c κs. search needs)
     returns
-    word-at-requires-3
+    (λ c κs. search needs)
     sub-if2
-    refused-requires-4
+    (λ c κs. search needs)
     returns-2
     returns-3
     returns-4

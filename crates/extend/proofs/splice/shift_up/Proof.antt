@@ -18,21 +18,6 @@ abbrev μ-loop : tie.MeasureT-loop
 loop-holds : tie.Need-loop-holds Inv-loop μ-loop
 loop-holds c = (omega arith, omega arith, up-none _ _ _, refl)
 
-sub-i : tie.Need-sub-i Inv-loop μ-loop
-sub-i c = omega arith
-
-slice-read-buffer : tie.Need-slice-read-buffer Inv-loop μ-loop
-slice-read-buffer c = omega arith
-
-add-buffer : tie.Need-add-buffer Inv-loop μ-loop
-add-buffer c = omega arith
-
-slice-write-buffer : tie.Need-slice-write-buffer Inv-loop μ-loop
-slice-write-buffer c = omega arith
-
-loop-less : tie.Need-loop-less Inv-loop μ-loop
-loop-less c = omega arith
-
 loop-again : tie.Need-loop-again Inv-loop μ-loop
 loop-again c = let a = c .before .before in
     (omega arith, omega arith, up-turn _ _ (a .loop .i) _ _ (a .loop .inv .2) (omega arith) (omega arith) (omega arith), simp length-set (a .loop .inv .3))
@@ -52,11 +37,11 @@ shift-up-spec =
     Inv-loop
     μ-loop
     loop-holds
-    sub-i
-    slice-read-buffer
-    add-buffer
-    slice-write-buffer
-    loop-less
+    (λ c. omega arith)
+    (λ c. omega arith)
+    (λ c. omega arith)
+    (λ c. omega arith)
+    (λ c. omega arith)
     loop-again
     same-length
     returns)

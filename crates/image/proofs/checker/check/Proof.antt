@@ -6,15 +6,6 @@ use borrow.Author.Needs.{needs}
 use Rattle.image.proofs.checker.check.Statement.{statement}
 use Rattle.image.proofs.checker.check.Tie as tie
 
-layout-requires : tie.Need-layout-requires
-layout-requires c κs = search needs
-
-enum-known-f : tie.Need-enum-known-f
-enum-known-f c = search needs
-
-enum-told : tie.Need-enum-told
-enum-told c = search needs
-
 returns : tie.Need-returns
 returns c = sym (outcome-refused _ _ (sym (ap sectionsOutcome (c .before .f .given .1)) ∙ c .before .before .before .layout .ensures))
 
@@ -22,4 +13,4 @@ returns-2 : tie.Need-returns-2
 returns-2 c = sym (outcome-gives _ _ (sym (ap sectionsOutcome (c .enum-told .given .1)) ∙ c .before .before .layout .ensures) .0)
 
 pub check-spec : {M : Type 1} → statement M
-check-spec = tie.close (tie.spec layout-requires enum-known-f enum-told returns returns-2)
+check-spec = tie.close (tie.spec (λ c κs. search needs) (λ c. search needs) (λ c. search needs) returns returns-2)

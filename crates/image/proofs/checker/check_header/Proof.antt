@@ -12,65 +12,29 @@ use borrow.Author.Needs.{needs}
 use Rattle.image.proofs.checker.check_header.Statement.{statement}
 use Rattle.image.proofs.checker.check_header.Tie as tie
 
-refused-requires : tie.Need-refused-requires
-refused-requires c κs = search needs
-
 returns : tie.Need-returns
 unfolding headerFault countFault countOf countPlace limitOf knownVersion need _orElse_
 returns c = let l = now (c .before .before .before .args .image) in c .refused .ensures ∙ simp (lt-leb 9 (length l) (omega arith))
-
-shared-slice-read-if2 : tie.Need-shared-slice-read-if2
-shared-slice-read-if2 c = search needs
-
-refused-requires-2 : tie.Need-refused-requires-2
-refused-requires-2 c κs = search needs
 
 returns-2 : tie.Need-returns-2
 unfolding headerFault countFault countOf countPlace limitOf knownVersion need _orElse_
 returns-2 c = let l = now (c .before .before .before .before .before .args .image) in c .refused2 .ensures ∙ simp (le-leb 9 (length l) (omega arith), ne-eqb (getD l 0 0) 1 (omega arith))
 
-word-at-requires : tie.Need-word-at-requires
-word-at-requires c κs = search needs
-
-refused-requires-3 : tie.Need-refused-requires-3
-refused-requires-3 c κs = search needs
-
 returns-3 : tie.Need-returns-3
 unfolding headerFault countFault countOf countPlace limitOf knownVersion need _orElse_
 returns-3 c = let l = now (c .before .before .before .before .before .before .before .args .image) in c .refused3 .ensures ∙ simp (le-leb 9 (length l) (omega arith), eq-eqb (getD l 0 0) 1 (omega arith), lt-leb 9 (wordAt l 1) (omega arith))
-
-refused-requires-4 : tie.Need-refused-requires-4
-refused-requires-4 c κs = search needs
 
 returns-4 : tie.Need-returns-4
 unfolding headerFault countFault countOf countPlace limitOf knownVersion need _orElse_
 returns-4 c = let l = now (c .before .before .before .before .before .before .before .before .args .image) in c .refused4 .ensures ∙ simp (le-leb 9 (length l) (omega arith), eq-eqb (getD l 0 0) 1 (omega arith), le-leb 9 (wordAt l 1) (omega arith), ne-eqb (wordAt l 1) (length l) (omega arith))
 
-word-at-requires-2 : tie.Need-word-at-requires-2
-word-at-requires-2 c κs = search needs
-
-refused-requires-5 : tie.Need-refused-requires-5
-refused-requires-5 c κs = search needs
-
 returns-5 : tie.Need-returns-5
 unfolding headerFault countFault countOf countPlace limitOf knownVersion need _orElse_
 returns-5 c = let l = now (c .before .before .before .before .before .before .before .before .before .before .args .image) in c .refused5 .ensures ∙ simp (le-leb 9 (length l) (omega arith), eq-eqb (getD l 0 0) 1 (omega arith), le-leb 9 (wordAt l 1) (omega arith), eq-eqb (wordAt l 1) (length l) (omega arith), lt-leb (wordAt l 3) 256 (omega arith))
 
-word-at-requires-3 : tie.Need-word-at-requires-3
-word-at-requires-3 c κs = search needs
-
-refused-requires-6 : tie.Need-refused-requires-6
-refused-requires-6 c κs = search needs
-
 returns-6 : tie.Need-returns-6
 unfolding headerFault countFault countOf countPlace limitOf knownVersion need _orElse_
 returns-6 c = let l = now (c .before .before .before .before .before .before .before .before .before .before .before .before .args .image) in c .refused6 .ensures ∙ simp (le-leb 9 (length l) (omega arith), eq-eqb (getD l 0 0) 1 (omega arith), le-leb 9 (wordAt l 1) (omega arith), eq-eqb (wordAt l 1) (length l) (omega arith), le-leb (wordAt l 3) 256 (omega arith), lt-leb (wordAt l 5) 1024 (omega arith))
-
-word-at-requires-4 : tie.Need-word-at-requires-4
-word-at-requires-4 c κs = search needs
-
-refused-requires-7 : tie.Need-refused-requires-7
-refused-requires-7 c κs = search needs
 
 returns-7 : tie.Need-returns-7
 unfolding headerFault countFault countOf countPlace limitOf knownVersion need _orElse_
@@ -84,23 +48,23 @@ pub check-header-spec : {M : Type 1} → statement M
 check-header-spec =
     tie.close
     (tie.spec
-    refused-requires
+    (λ c κs. search needs)
     returns
-    shared-slice-read-if2
-    refused-requires-2
+    (λ c. search needs)
+    (λ c κs. search needs)
     returns-2
-    word-at-requires
-    refused-requires-3
+    (λ c κs. search needs)
+    (λ c κs. search needs)
     returns-3
-    refused-requires-4
+    (λ c κs. search needs)
     returns-4
-    word-at-requires-2
-    refused-requires-5
+    (λ c κs. search needs)
+    (λ c κs. search needs)
     returns-5
-    word-at-requires-3
-    refused-requires-6
+    (λ c κs. search needs)
+    (λ c κs. search needs)
     returns-6
-    word-at-requires-4
-    refused-requires-7
+    (λ c κs. search needs)
+    (λ c κs. search needs)
     returns-7
     returns-8)

@@ -7,25 +7,13 @@ use borrow.Author.Needs.{needs}
 use Rattle.image.proofs.fields.allow_fields.Statement.{statement}
 use Rattle.image.proofs.fields.allow_fields.Tie as tie
 
-type-at-requires : tie.Need-type-at-requires
-type-at-requires c κs = search needs
-
 returns : tie.Need-returns
 unfolding badAllow need _orElse_ readFields
 returns c = simp (told-false (c .before .type-at .ensures) (c .if1 .taken))
 
-type-at-requires-2 : tie.Need-type-at-requires-2
-type-at-requires-2 c κs = search needs
-
 returns-2 : tie.Need-returns-2
 unfolding badAllow need _orElse_ readFields
 returns-2 c = simp (told-true (c .before .before .before .type-at .ensures) (c .before .before .if1 .left), told-false (c .before .type-at2 .ensures) (c .if2 .taken))
-
-shared-slice-read-is-condition : tie.Need-shared-slice-read-is-condition
-shared-slice-read-is-condition c = search needs
-
-is-condition-requires : tie.Need-is-condition-requires
-is-condition-requires c κs = search needs
 
 returns-3 : tie.Need-returns-3
 unfolding badAllow need _orElse_ readFields
@@ -39,11 +27,11 @@ pub allow-fields-spec : {M : Type 1} → statement M
 allow-fields-spec =
     tie.close
     (tie.spec
-    type-at-requires
+    (λ c κs. search needs)
     returns
-    type-at-requires-2
+    (λ c κs. search needs)
     returns-2
-    shared-slice-read-is-condition
-    is-condition-requires
+    (λ c. search needs)
+    (λ c κs. search needs)
     returns-3
     returns-4)

@@ -23,35 +23,17 @@ listed d =
     let p = now (d .before .before .before .before .before .before .before .args .part) in
     d .list-ok .ensures ∙ ap (listOk (getD p 10 0)) (sym (length-words (drop 11 p) ∙ ap (λ n. n / 2) (length-drop 11 p)))
 
-type-at-requires : tie.Need-type-at-requires
-type-at-requires c κs = search needs
-
 returns : tie.Need-returns
 unfolding badConstraint need _orElse_ readFields
 returns c = simp (told-false (c .before .type-at .ensures) (c .if1 .taken))
-
-type-at-requires-2 : tie.Need-type-at-requires-2
-type-at-requires-2 c κs = search needs
 
 returns-2 : tie.Need-returns-2
 unfolding badConstraint need _orElse_ readFields
 returns-2 c = simp (told-true (c .before .before .before .type-at .ensures) (c .before .before .if1 .left), told-false (c .before .type-at2 .ensures) (c .if2 .taken))
 
-shared-slice-read-list-ok : tie.Need-shared-slice-read-list-ok
-shared-slice-read-list-ok c = search needs
-
-sub-list-ok : tie.Need-sub-list-ok
-sub-list-ok c = search needs
-
-list-ok-requires : tie.Need-list-ok-requires
-list-ok-requires c κs = search needs
-
 returns-3 : tie.Need-returns-3
 unfolding badConstraint need _orElse_ readFields
 returns-3 c = simp (told-true (c .before .before .before .before .before .before .type-at .ensures) (c .before .before .before .before .before .if1 .left), told-true (c .before .before .before .before .type-at2 .ensures) (c .before .before .before .if2 .left), told-false (listed (c .before)) (c .if3 .taken))
-
-type-list-requires : tie.Need-type-list-requires
-type-list-requires c κs = search needs
 
 returns-4 : tie.Need-returns-4
 unfolding badConstraint need _orElse_
@@ -61,13 +43,13 @@ pub constraint-fields-spec : {M : Type 1} → statement M
 constraint-fields-spec =
     tie.close
     (tie.spec
-    type-at-requires
+    (λ c κs. search needs)
     returns
-    type-at-requires-2
+    (λ c κs. search needs)
     returns-2
-    shared-slice-read-list-ok
-    sub-list-ok
-    list-ok-requires
+    (λ c. search needs)
+    (λ c. search needs)
+    (λ c κs. search needs)
     returns-3
-    type-list-requires
+    (λ c κs. search needs)
     returns-4)

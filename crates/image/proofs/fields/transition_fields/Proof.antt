@@ -7,15 +7,9 @@ use borrow.Author.Needs.{needs}
 use Rattle.image.proofs.fields.transition_fields.Statement.{statement}
 use Rattle.image.proofs.fields.transition_fields.Tie as tie
 
-type-at-requires : tie.Need-type-at-requires
-type-at-requires c κs = search needs
-
 returns : tie.Need-returns
 unfolding badTransition need _orElse_ readFields
 returns c = simp (told-false (c .before .type-at .ensures) (c .if1 .taken))
-
-type-at-requires-2 : tie.Need-type-at-requires-2
-type-at-requires-2 c κs = search needs
 
 returns-2 : tie.Need-returns-2
 unfolding badTransition need _orElse_ readFields
@@ -27,4 +21,4 @@ returns-3 c = simp (told-true (c .before .before .before .type-at .ensures) (c .
 
 pub transition-fields-spec : {M : Type 1} → statement M
 transition-fields-spec =
-    tie.close (tie.spec type-at-requires returns type-at-requires-2 returns-2 returns-3)
+    tie.close (tie.spec (λ c κs. search needs) returns (λ c κs. search needs) returns-2 returns-3)

@@ -5,14 +5,8 @@ use borrow.Author.Needs.{needs}
 use Rattle.image.proofs.fields.type_at.Statement.{statement}
 use Rattle.image.proofs.fields.type_at.Tie as tie
 
-word-at-requires : tie.Need-word-at-requires
-word-at-requires c κs = search needs
-
-is-type-requires : tie.Need-is-type-requires
-is-type-requires c κs = search needs
-
 returns : tie.Need-returns
-returns c = c .is-type .ensures ∙ ap (isType (c .before .before .before .args .groups)) (c .before .word-at .ensures .0)
+returns c = c .is-type .ensures ∙ ap (isType (c .before .before .before .args .groups)) (c .before .word-in .ensures .0)
 
 pub type-at-spec : {M : Type 1} → statement M
-type-at-spec = tie.close (tie.spec word-at-requires is-type-requires returns)
+type-at-spec = tie.close (tie.spec (λ c κs. search needs) (λ c κs. search needs) returns)

@@ -18,20 +18,8 @@ abbrev μ-loop : tie.MeasureT-loop
 loop-holds : tie.Need-loop-holds Inv-loop μ-loop
 loop-holds c = (omega arith, refl)
 
-sub-loop : tie.Need-sub-loop Inv-loop μ-loop
-sub-loop c = omega arith
-
-type-at-requires : tie.Need-type-at-requires Inv-loop μ-loop
-type-at-requires c κs = omega arith
-
 returns : tie.Need-returns Inv-loop μ-loop
 returns c = read-bad _ (c .before .before .before .loop .inv .1 ∙ types-bad _ _ _ (omega arith) (told-false (c .before .type-at .ensures) (c .if1 .taken)))
-
-add-at : tie.Need-add-at Inv-loop μ-loop
-add-at c = omega arith
-
-loop-less : tie.Need-loop-less Inv-loop μ-loop
-loop-less c = omega arith
 
 loop-again : tie.Need-loop-again Inv-loop μ-loop
 loop-again c = (omega arith, c .before .before .before .loop .inv .1 ∙ types-next _ _ _ (omega arith) (told-true (c .before .type-at .ensures) (c .if1 .left)))
@@ -46,10 +34,10 @@ type-list-spec =
     Inv-loop
     μ-loop
     loop-holds
-    sub-loop
-    type-at-requires
+    (λ c. omega arith)
+    (λ c κs. omega arith)
     returns
-    add-at
-    loop-less
+    (λ c. omega arith)
+    (λ c. omega arith)
     loop-again
     returns-2)

@@ -7,14 +7,8 @@ use borrow.Author.Needs.{needs}
 use Rattle.image.proofs.front_part.front.Statement.{statement}
 use Rattle.image.proofs.front_part.front.Tie as tie
 
-leading-requires : tie.Need-leading-requires
-leading-requires c κs = search needs
-
-layout-requires : tie.Need-layout-requires
-layout-requires c κs = search needs
-
 returns : tie.Need-returns
 returns c = c .layout .ensures ∙ ap (λ l. outcome (check l) (starts l)) (c .before .leading .ensures .bytes) ∙ front-outcome _
 
 pub front-spec : {M : Type 1} → statement M
-front-spec = tie.close (tie.spec leading-requires layout-requires returns)
+front-spec = tie.close (tie.spec (λ c κs. search needs) (λ c κs. search needs) returns)

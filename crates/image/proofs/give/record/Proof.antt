@@ -22,26 +22,8 @@ found d = outcome-gives _ _ (sym (ap foundOutcome (d .extent .given .1)) ∙ d .
 inside : (d : tie.After-extent) → d .extent .given .0 .0 .place + d .extent .given .0 .0 .length ≤ length (now (d .before .before .before .before .args .image))
 inside d = extent-inside _ _ _ (found d .0) _ (found d .1)
 
-find-requires : tie.Need-find-requires
-find-requires c κs = search needs
-
-enum-told : tie.Need-enum-told
-enum-told c = search needs
-
-slice-aggregate-result : tie.Need-slice-aggregate-result
-slice-aggregate-result c = search needs
-
-enum-known-extent : tie.Need-enum-known-extent
-enum-known-extent c = search needs
-
 add-to : tie.Need-add-to
 add-to c = omega (arith, inside (c .before .before))
-
-sub-result : tie.Need-sub-result
-sub-result c = search needs
-
-part-result-start : tie.Need-part-result-start
-part-result-start c = search needs
 
 part-result-end : tie.Need-part-result-end
 part-result-end c = omega (arith, inside (c .before .before))
@@ -69,13 +51,13 @@ pub record-spec : {M : Type 1} → statement M
 record-spec =
     tie.close
     (tie.spec
-    find-requires
-    enum-told
-    slice-aggregate-result
-    enum-known-extent
+    (λ c κs. search needs)
+    (λ c. search needs)
+    (λ c. search needs)
+    (λ c. search needs)
     add-to
-    sub-result
-    part-result-start
+    (λ c. search needs)
+    (λ c. search needs)
     part-result-end
     returns
     returns-2)

@@ -6,15 +6,6 @@ use borrow.Author.Needs.{needs}
 use Rattle.image.proofs.kind.kind_in.Statement.{statement}
 use Rattle.image.proofs.kind.kind_in.Tie as tie
 
-enum-told : tie.Need-enum-told
-enum-told c = search needs
-
-enum-told-2 : tie.Need-enum-told-2
-enum-told-2 c = search needs
-
-enum-told-3 : tie.Need-enum-told-3
-enum-told-3 c = search needs
-
 returns : tie.Need-returns
 unfolding kindIn
 returns c = simp (c .enum-told .given .1)
@@ -38,4 +29,4 @@ returns-5 c = simp (c .enum-told3 .given .1)
 pub kind-in-spec : {M : Type 1} → statement M
 kind-in-spec =
     tie.close
-    (tie.spec enum-told enum-told-2 enum-told-3 returns returns-2 returns-3 returns-4 returns-5)
+    (tie.spec (λ c. search needs) (λ c. search needs) (λ c. search needs) returns returns-2 returns-3 returns-4 returns-5)

@@ -62,26 +62,11 @@ four d =
 returns : tie.Need-returns
 returns c = sym (read-tiny _ _ _ _ refl (c .if1 .taken))
 
-shared-slice-read-wide : tie.Need-shared-slice-read-wide
-shared-slice-read-wide c = search needs
-
-wide-requires : tie.Need-wide-requires
-wide-requires c κs = search needs
-
 returns-2 : tie.Need-returns-2
 returns-2 c = sym (read-past _ _ _ _ (c .before .wide .ensures .0) (c .if2 .taken))
 
-shared-slice-read-kind : tie.Need-shared-slice-read-kind
-shared-slice-read-kind c = search needs
-
-kind-in-requires : tie.Need-kind-in-requires
-kind-in-requires c κs = search needs
-
 returns-3 : tie.Need-returns-3
 returns-3 c = sym (read-kind _ _ _ _ refl (told-false (c .before .kind-in .ensures) (c .if3 .taken)))
-
-length-ok-requires : tie.Need-length-ok-requires
-length-ok-requires c κs = search needs
 
 returns-4 : tie.Need-returns-4
 returns-4 c = sym (read-length _ _ _ _ (c .before .before .before .before .before .before .wide .ensures .0) (told-false (c .before .length-ok .ensures) (c .if4 .taken)))
@@ -90,7 +75,7 @@ slice-aggregate-whole : tie.Need-slice-aggregate-whole
 slice-aggregate-whole c = let d = c .before in sym (whole-size _ (d .before .before .before .before .before .before .before .before .before .before .args .groups) _ _ (size-is d) (fits d) (kind-is d) (ok d))
 
 group-fields-requires : tie.Need-group-fields-requires
-group-fields-requires c κs = let d = c .before .before in least-group _ (d .before .before .before .before .before .before .before .before .before .before .args .groups) _ _ (size-is d) (fits d) (kind-is d) (ok d)
+group-fields-requires c κs = let d = c .before .before in least-group _ (d .before .before .before .before .before .before .before .before .before .before .args .groups) _ _ (size-is d) (fits d) (kind-is d) (ok d) (c .match .keys1)
 
 allow-fields-requires : tie.Need-allow-fields-requires
 allow-fields-requires c κs = let d = c .before .before in least-allow _ (d .before .before .before .before .before .before .before .before .before .before .args .groups) _ _ (size-is d) (fits d) (kind-is d) (ok d) (c .match .keys2)
@@ -118,13 +103,13 @@ read-record-spec =
     tie.close
     (tie.spec
     returns
-    shared-slice-read-wide
-    wide-requires
+    (λ c. search needs)
+    (λ c κs. search needs)
     returns-2
-    shared-slice-read-kind
-    kind-in-requires
+    (λ c. search needs)
+    (λ c κs. search needs)
     returns-3
-    length-ok-requires
+    (λ c κs. search needs)
     returns-4
     slice-aggregate-whole
     group-fields-requires

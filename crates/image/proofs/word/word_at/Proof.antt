@@ -1,44 +1,37 @@
--- `word_at` meets its contract: two bytes make a number below 65,536. Assumes nothing.
+-- `word_at` meets its contract: past the end the definition reads 0. Assumes nothing.
 use native.Mathlib.Omega.{arith}
+use Prim.Native.Nat.{_+_}
+use denote.Ref.{now}
+use lib.ListN.{List·getD-eq-default}
 use Rattle.format.specs.Bytes.{wordAt}
 use borrow.Author.Needs.{needs}
 use Rattle.image.proofs.word.word_at.Statement.{statement}
 use Rattle.image.proofs.word.word_at.Tie as tie
 
-shared-slice-read-wide : tie.Need-shared-slice-read-wide
-shared-slice-read-wide c = search needs
-
-wide-requires : tie.Need-wide-requires
-wide-requires c κs = search needs
-
-mul-result : tie.Need-mul-result
-mul-result c = search needs
-
-add-wide : tie.Need-add-wide
-add-wide c = search needs
-
-shared-slice-read-wide-2 : tie.Need-shared-slice-read-wide-2
-shared-slice-read-wide-2 c = search needs
-
-wide-requires-2 : tie.Need-wide-requires-2
-wide-requires-2 c κs = search needs
-
-add-result : tie.Need-add-result
-add-result c = search needs
-
 returns : tie.Need-returns
 unfolding wordAt
-returns c = (omega arith, omega arith)
+returns c = let l = now (c .before .before .args .bytes) in
+    let at = c .before .before .args .at in
+    (omega (arith, List·getD-eq-default l 0 {n = at} (c .if1 .taken), List·getD-eq-default l 0 {n = at + 1} (omega arith)), omega arith)
+
+returns-2 : tie.Need-returns-2
+unfolding wordAt
+returns-2 c = let l = now (c .before .before .before .before .before .args .bytes) in
+    let at = c .before .before .before .before .before .args .at in
+    (omega (arith, c .wide .ensures .0, List·getD-eq-default l 0 {n = at + 1} (omega arith)), omega arith)
+
+returns-3 : tie.Need-returns-3
+returns-3 c = c .word-in .ensures
 
 pub word-at-spec : {M : Type 1} → statement M
 word-at-spec =
     tie.close
     (tie.spec
-    shared-slice-read-wide
-    wide-requires
-    mul-result
-    add-wide
-    shared-slice-read-wide-2
-    wide-requires-2
-    add-result
-    returns)
+    returns
+    (λ c. search needs)
+    (λ c. search needs)
+    (λ c κs. search needs)
+    (λ c. search needs)
+    returns-2
+    (λ c κs. search needs)
+    returns-3)
