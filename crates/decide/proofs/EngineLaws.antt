@@ -4,30 +4,26 @@ use mathlib.Core.Path.{_≡_, refl, sym, subst, ap, _∙_}
 use mathlib.Core.Bool.{Bool, true, false}
 use mathlib.Core.Option.{Option, none, some}
 use mathlib.Core.List.{List}
-use lib.ListN.{length, getD, replicate}
+use lib.ListN.{length, replicate}
 use Rattle.format.specs.declared.Section.the-variants.{Groups}
 use Rattle.format.specs.declared.Refusal.{Refusal}
 use Rattle.format.specs.Refusals.{refusal}
 use Rattle.format.specs.Format.{countOf, isType}
 use Rattle.format.specs.Policy.{policyOf}
-use Rattle.format.specs.Check.{check}
+use Rattle.format.specs.Check.{check, Accepted}
 use Rattle.format.specs.Claims.{IsType}
-use Rattle.format.specs.Answers.{refused, gives, outcome, sectionsOutcome, starts}
+use Rattle.format.specs.Answers.{refused, gives, outcome}
 use Rattle.decision.specs.declared.Query.{Query}
-use Rattle.decision.specs.Sets.{setOf}
+use Rattle.decision.specs.Reading.{constraintsOf}
 use Rattle.decision.specs.Decide as deciding
+use Rattle.decision.specs.Decide.{firstAt, covers, fails}
 use Rattle.decide.specs.declared.cover.Found.{Found}
 use Rattle.decide.specs.declared.cover.Found.the-variants.{At, Nothing}
-use Rattle.decide.specs.Ready.{placeIn, unless, groupPlace, Prepares, Ready}
-use Rattle.decide.specs.Inner.Spans.{groupsIn, Places}
+use Rattle.decide.specs.Inner.Parts.{rulesIn, requestIn, setIn}
 use Rattle.decide.specs.Inner.Marks.{markAll, Marked}
-use Rattle.decide.specs.Inner.Rules.{rulesIn, foundOf, firstRule, firstConstraint}
-use Rattle.decide.specs.declared.engine.Prepared.{Prepared}
-use Rattle.format.specs.declared.Starts.{Starts}
-use Rattle.format.specs.declared.Sections.the-variants as sections
-use Rattle.format.proofs.Chain.{orElse-next, orElse-first, need-none, need-some, outcome-gives}
-use Rattle.decide.proofs.ArrayLaws.{blank}
-use Rattle.decide.proofs.TypeLaws.{set-rising, places-placed}
+use Rattle.decide.specs.Inner.Rules.{foundOf, firstRule, firstConstraint}
+use Rattle.format.proofs.Chain.{orElse-next, orElse-first, need-none, need-some}
+use Rattle.decide.proofs.TypeLaws.{set-rising}
 use Rattle.decide.proofs.MarkedLaws.{marked-of}
 
 abbrev pub optionOf : Found → Option ℕ
@@ -39,26 +35,11 @@ unfolding foundOf
 found-back none = refl
 found-back (some n) = refl
 
-both : (o o' p p' : Option ℕ) → o ≡ o' → p ≡ p' → deciding.decisionOf o p ≡ deciding.decisionOf o' p'
-both o o' p p' e f = rw (e, f) refl
-
 -- the decision is that of the lowest covering rule and the lowest failing constraint
-pub engine-is : (l : List ℕ) (q : Query) → deciding.decide (policyOf l) q ≡ deciding.decisionOf (optionOf (firstRule l q)) (optionOf (firstConstraint l q))
-unfolding deciding.decide deciding.judge firstRule firstConstraint rulesIn
-engine-is l q = both _ _ _ _ (sym (found-back _)) (sym (found-back _))
-
 module _ (l : List ℕ) (q : Query) where
-  pub engine-none : Nothing ≡ firstRule l q → deciding.decide (policyOf l) q ≡ deciding.notPermitted
-  unfolding deciding.decisionOf
-  engine-none e = engine-is l q ∙ ap (λ f. deciding.decisionOf (optionOf f) (optionOf (firstConstraint l q))) (sym e)
-
-  pub engine-permitted : (r : ℕ) → At r ≡ firstRule l q → Nothing ≡ firstConstraint l q → deciding.decide (policyOf l) q ≡ deciding.permitted r
-  unfolding deciding.decisionOf
-  engine-permitted r e f = engine-is l q ∙ ap (λ f. deciding.decisionOf (optionOf f) (optionOf (firstConstraint l q))) (sym e) ∙ ap (λ f. deciding.decisionOf (some r) (optionOf f)) (sym f)
-
-  pub engine-unknown : (r c : ℕ) → At r ≡ firstRule l q → At c ≡ firstConstraint l q → deciding.decide (policyOf l) q ≡ deciding.unknown r c
-  unfolding deciding.decisionOf
-  engine-unknown r c e f = engine-is l q ∙ ap (λ f. deciding.decisionOf (optionOf f) (optionOf (firstConstraint l q))) (sym e) ∙ ap (λ f. deciding.decisionOf (some r) (optionOf f)) (sym f)
+  pub engine-is : (a b : Found) → a ≡ firstRule l q → b ≡ firstConstraint l q → deciding.decisionOf (optionOf a) (optionOf b) ≡ deciding.decide (policyOf l) q
+  unfolding deciding.decide deciding.judge firstRule firstConstraint
+  engine-is a b e f = rw (e, f, found-back (firstAt (covers (requestIn l q)) 0 (rulesIn l)), found-back (firstAt (fails (rulesIn l) (requestIn l q)) 0 (constraintsOf (policyOf l))))
 
   -- ---- the answer
 
@@ -66,7 +47,7 @@ module _ (l : List ℕ) (q : Query) where
   unfolding deciding.answer deciding.answerFault
   answer-refused f e = ap (λ x. outcome x (deciding.decide (policyOf l) q)) (orElse-first _ e)
 
-  pub answer-accepted : check l ≡ none → deciding.answer l q ≡ outcome (deciding.queryFault (countOf l Groups) q) (deciding.decide (policyOf l) q)
+  pub answer-accepted : Accepted l → deciding.answer l q ≡ outcome (deciding.queryFault (countOf l Groups) q) (deciding.decide (policyOf l) q)
   unfolding deciding.answer deciding.answerFault
   answer-accepted e = ap (λ x. outcome x (deciding.decide (policyOf l) q)) (orElse-next _ e)
 
@@ -87,12 +68,12 @@ pub type-told : (g h t w : ℕ) (b : Bool) → b ≡ isType g t → g ≡ h → 
 type-told g h t w b e f k = sym (e ∙ ap (λ x. isType x t) f ∙ ap (isType h) k)
 
 pub marked-type :
-    (l : List ℕ) (ms : List Bool) (size t w : ℕ) → check l ≡ none → IsType (countOf l Groups) w → t ≡ w → ms ≡ markAll (replicate 1024 false) (setOf (groupsIn l) t) → size ≡ length (setOf (groupsIn l) t)
-    → Marked (setOf (groupsIn l) w) ms size
+    (l : List ℕ) (ms : List Bool) (size t w : ℕ) → Accepted l → IsType (countOf l Groups) w → t ≡ w → ms ≡ markAll (replicate 1024 false) (setIn l t) → size ≡ length (setIn l t)
+    → Marked (setIn l w) ms size
 marked-type l ms size t w c ok is e f =
-    let S = setOf (groupsIn l) w in
-    let e' : ms ≡ markAll (replicate 1024 false) S = e ∙ ap (λ x. markAll (replicate 1024 false) (setOf (groupsIn l) x)) is in
-    let f' : size ≡ length S = f ∙ ap (λ x. length (setOf (groupsIn l) x)) is in
+    let S = setIn l w in
+    let e' : ms ≡ markAll (replicate 1024 false) S = e ∙ ap (λ x. markAll (replicate 1024 false) (setIn l x)) is in
+    let f' : size ≡ length S = f ∙ ap (λ x. length (setIn l x)) is in
     subst (λ n. Marked S ms n) (sym f') (subst (λ m. Marked S m (length S)) (sym e') (marked-of S (set-rising l w c ok)))
 
 module _ {A : Type 0} (f : Option Refusal) (a : A) where
@@ -101,22 +82,3 @@ module _ {A : Type 0} (f : Option Refusal) (a : A) where
 
   pub outcome-none : f ≡ none → gives a ≡ outcome f a
   outcome-none e = rw e refl
-
--- ---- the places that are handed out
-
-module _ (l ps : List ℕ) where
-  pub places-accepted : Places l ps → check l ≡ none → (g : ℕ) → getD ps g 0 ≡ groupPlace l g
-  unfolding groupPlace
-  places-accepted p e g = p .is g ∙ ap (λ f. unless f (placeIn l g)) (sym e)
-
-pub places-refused : (l : List ℕ) (f : Refusal) → check l ≡ some f → (g : ℕ) → getD {A = ℕ} (replicate 256 0) g 0 ≡ groupPlace l g
-unfolding groupPlace
-places-refused l f e g = blank 0 256 g ∙ ap (λ f. unless f (placeIn l g)) (sym e)
-
--- what `prepare` gives of an accepted image is what a decision relies on
-pub prepares-ready : (l : List ℕ) (p : Prepared) (s : Starts) → Prepares l p → p .sections ≡ sections.At s → Ready l (p .groups) s
-unfolding groupPlace
-prepares-ready l p s k e =
-    let a = outcome-gives (check l) (starts l) (sym (ap sectionsOutcome e) ∙ k .sections) in
-    let places : Places l (p .groups) = record { is = λ g. k .groups g ∙ ap (λ f. unless f (placeIn l g)) (a .0) } in
-    record { accepted = a .0; placed = places-placed l (p .groups) places; starting = a .1 }

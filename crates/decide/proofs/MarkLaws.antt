@@ -1,7 +1,7 @@
 -- Laws of walks over the members of a part of the image, one for each way that a turn goes. Assumes nothing.
-use Prim.Native.Nat.{ℕ, suc, _+_, _-_, _≤_, _<_}
+use Prim.Native.Nat.{ℕ, suc, _+_, _≤_, _<_}
 use mathlib.Core.Path.{_≡_}
-use mathlib.Core.Bool.{Bool, true, false}
+use mathlib.Core.Bool.{Bool, Bool·beq, true, false}
 use mathlib.Core.List.{List, [], _∷_}
 use native.Mathlib.Omega.{arith}
 use lib.ListN.{getD, set}
@@ -9,8 +9,8 @@ use Rattle.format.specs.Bytes.{wordAt}
 use Rattle.format.specs.Inner.Places.{wordsAt, Rising}
 use Rattle.format.proofs.Fields.{rising-nil, rising-cons, rising-parts}
 use Rattle.format.proofs.Places.{words-at-none, words-at-next}
-use Rattle.decision.specs.Sets.{anyOf, allOf}
-use Rattle.decide.specs.Inner.Marks.{markAll, anyMarked, allMarked, tallied}
+use Rattle.decision.specs.Sets.{anyOf}
+use Rattle.decide.specs.Inner.Marks.{markAll, anyIs, tallied}
 
 -- a rising list is rising from a lower bound too
 pub rising-lower : (low k : ℕ) (ms : List ℕ) → k ≤ low → Rising low ms → Rising k ms
@@ -32,13 +32,9 @@ module _ (ms : List Bool) (l : List ℕ) (at n : ℕ) where
   unfolding markAll
   mark-end e = rw (words-at-none l n at e)
 
-  pub any-end : n ≡ 0 → anyMarked ms (wordsAt l n at) ≡ false
-  unfolding anyMarked anyOf
-  any-end e = rw (words-at-none l n at e)
-
-  pub all-end : n ≡ 0 → allMarked ms (wordsAt l n at) ≡ true
-  unfolding allMarked allOf
-  all-end e = rw (words-at-none l n at e)
+  pub is-end : (v : Bool) → n ≡ 0 → anyIs ms v (wordsAt l n at) ≡ false
+  unfolding anyIs anyOf
+  is-end v e = rw (words-at-none l n at e)
 
   pub tally-end : n ≡ 0 → tallied ms (wordsAt l n at) ≡ 0
   unfolding tallied
@@ -49,21 +45,13 @@ module _ (ms : List Bool) (l : List ℕ) (at n : ℕ) where
     unfolding markAll
     mark-next = rw (words-at-next l n at k more, is)
 
-    pub any-yes : getD ms t false ≡ true → anyMarked ms (wordsAt l n at) ≡ true
-    unfolding anyMarked anyOf
-    any-yes y = rw (words-at-next l n at k more) (simp (rw is at y))
+    pub is-yes : (v : Bool) → Bool·beq (getD ms t false) v ≡ true → anyIs ms v (wordsAt l n at) ≡ true
+    unfolding anyIs anyOf
+    is-yes v y = rw (words-at-next l n at k more) (simp (rw is at y))
 
-    pub any-no : getD ms t false ≡ false → anyMarked ms (wordsAt l n at) ≡ anyMarked ms (wordsAt l k (at + 2))
-    unfolding anyMarked anyOf
-    any-no y = rw (words-at-next l n at k more) (simp (rw is at y))
-
-    pub all-no : getD ms t false ≡ false → allMarked ms (wordsAt l n at) ≡ false
-    unfolding allMarked allOf
-    all-no y = rw (words-at-next l n at k more) (simp (rw is at y))
-
-    pub all-yes : getD ms t false ≡ true → allMarked ms (wordsAt l n at) ≡ allMarked ms (wordsAt l k (at + 2))
-    unfolding allMarked allOf
-    all-yes y = rw (words-at-next l n at k more) (simp (rw is at y))
+    pub is-no : (v : Bool) → Bool·beq (getD ms t false) v ≡ false → anyIs ms v (wordsAt l n at) ≡ anyIs ms v (wordsAt l k (at + 2))
+    unfolding anyIs anyOf
+    is-no v y = rw (words-at-next l n at k more) (simp (rw is at y))
 
     pub tally-yes : getD ms t false ≡ true → tallied ms (wordsAt l n at) ≡ 1 + tallied ms (wordsAt l k (at + 2))
     unfolding tallied

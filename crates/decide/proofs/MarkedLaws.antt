@@ -4,8 +4,7 @@
 --     marked-of        a set and its marks
 use Prim.Native.Nat.{ℕ, zero, suc, _+_, _*_, _<_}
 use mathlib.Core.Path.{_≡_, refl, sym, subst, ap, _∙_}
-use mathlib.Core.Bool.{Bool, true, false, _||_}
-use mathlib.Core.Option.{none}
+use mathlib.Core.Bool.{Bool, true, false, or-true, or-false, _||_}
 use mathlib.Core.List.{List, [], _∷_, _++_}
 use native.Mathlib.Omega.{arith}
 use lib.ListN.{length, getD, set, replicate, length-set, length-replicate}
@@ -15,13 +14,13 @@ use borrow.Author.Tests.{eqb-true, eqb-false}
 use Rattle.format.specs.declared.Section.the-variants.{Groups}
 use Rattle.format.specs.Bytes.{wordAt}
 use Rattle.format.specs.Format.{countOf}
-use Rattle.format.specs.Check.{check}
+use Rattle.format.specs.Check.{Accepted}
 use Rattle.format.specs.Claims.{IsType}
 use Rattle.format.specs.Inner.Places.{wordsAt, Rising}
 use Rattle.format.proofs.Places.{words-at-length, words-at-none, words-at-next}
 use Rattle.format.proofs.Fields.{rising-parts}
 use Rattle.decision.specs.Sets.{anyOf, isIn, setOf, unionOf}
-use Rattle.decide.specs.Inner.Spans.{groupsIn, Spans}
+use Rattle.decide.specs.Inner.Parts.{groupsIn, Spans}
 use Rattle.decide.specs.Inner.Marks.{markAll, Marked}
 use Rattle.decide.proofs.ArrayLaws.{blank}
 use Rattle.decide.proofs.TypeLaws.{set-basic, set-rising}
@@ -39,22 +38,16 @@ unfolding markAll
 mark-append ms [] ys = refl
 mark-append ms (x ∷ xs) ys = mark-append (set ms x true) xs ys
 
-or-swap : (a b : Bool) → a || b ≡ b || a
-or-swap true true = refl
-or-swap true false = refl
-or-swap false true = refl
-or-swap false false = refl
-
 pub marked-get : (ms : List Bool) (xs : List ℕ) (m : ℕ) → length ms ≡ 1024 → Small xs → getD (markAll ms xs) m false ≡ getD ms m false || isIn m xs
 unfolding markAll isIn anyOf
-marked-get ms [] m e s = or-swap false (getD ms m false)
+marked-get ms [] m e s = sym (or-false (getD ms m false))
 marked-get ms (x ∷ xs) m e s = marked-get (set ms x true) xs m (length-set ms x true ∙ e) (s .1) ∙ go (eqb m x) refl
   where
     go : (b : Bool) → eqb m x ≡ b → getD (set ms x true) m false || anyOf (eqb m) xs ≡ getD ms m false || (eqb m x || anyOf (eqb m) xs)
     go true q =
         let r : m ≡ x = eqb-true m x q in
         let k : getD (set ms x true) m false ≡ true = rw r (getD-set-same ms x true false (omega (arith, s .0))) in
-        simp (k, q) (sym (or-swap (getD ms m false) true))
+        simp (k, q) (sym (or-true (getD ms m false)))
     go false q = simp (q, getD-set-other ms x m true false (eqb-false m x q))
 
 pub marked-blank : (xs : List ℕ) (m : ℕ) → Small xs → getD (markAll (replicate 1024 false) xs) m false ≡ isIn m xs
@@ -94,7 +87,7 @@ small-append (x ∷ xs) ys s t = (s .0, small-append xs ys (s .1) t)
 
 -- the sets of n types from a place on are of basic types
 pub union-small :
-    (l : List ℕ) (n at : ℕ) → check l ≡ none → ((i : ℕ) → i < n → IsType (countOf l Groups) (wordAt l (at + 2 * i))) → Small (unionOf (groupsIn l) (wordsAt l n at))
+    (l : List ℕ) (n at : ℕ) → Accepted l → ((i : ℕ) → i < n → IsType (countOf l Groups) (wordAt l (at + 2 * i))) → Small (unionOf (groupsIn l) (wordsAt l n at))
 unfolding unionOf
 union-small l zero at c h = rw (words-at-none l 0 at refl) tt
 union-small l (suc n) at c h =

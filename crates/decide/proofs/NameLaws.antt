@@ -3,26 +3,24 @@ use Prim.Native.Nat.{ℕ, zero, suc, _+_, _-_, _*_, _/_, _≤_, _<_}
 use mathlib.Core.Path.{_≡_, refl, sym, subst, ap, _∙_}
 use mathlib.Core.Logic.{inl, inr}
 use mathlib.Core.Bool.{Bool, true, false, cond}
-use mathlib.Core.Option.{none}
 use mathlib.Core.List.{List, [], _∷_}
 use native.Mathlib.Omega.{arith}
-use lib.ListN.{length, getD, set, replicate}
+use lib.ListN.{length, getD, set}
 use lib.Seq.{getD-set-same, getD-set-other}
 use lib.Dec.{eqb, ltb}
 use borrow.Author.Tests.{lt-ltb, le-ltb, eq-eqb, ne-eqb, eqb-true, eqb-false}
 use Rattle.format.specs.declared.Section.the-variants.{Groups}
 use Rattle.format.specs.Bytes.{wordAt}
 use Rattle.format.specs.Format.{countOf}
-use Rattle.format.specs.Check.{check}
+use Rattle.format.specs.Check.{Accepted}
 use Rattle.format.specs.Claims.{IsType}
 use Rattle.format.specs.Inner.Places.{wordsAt, Rising}
 use Rattle.format.proofs.Tests.{false-not-true}
 use Rattle.format.proofs.Fields.{rising-basic, rising-parts}
 use Rattle.format.proofs.Places.{words-at-length, words-at-nth, words-at-one}
 use Rattle.decision.specs.Sets.{setOf, sameSet}
-use Rattle.decide.specs.Inner.Spans.{groupsIn, Spans}
-use Rattle.decide.specs.Inner.Names.{sameList, twinFrom, keyOf, Firsts, nameOf, NamesKept}
-use Rattle.decide.proofs.ArrayLaws.{blank, by-set}
+use Rattle.decide.specs.Inner.Parts.{groupsIn, setIn, groupSet, Spans}
+use Rattle.decide.specs.Inner.Names.{sameList, twinFrom, keyOf, Firsts, nameOf}
 use Rattle.decide.proofs.TypeLaws.{few-groups, set-basic, set-rising}
 use Rattle.decide.proofs.CompareLaws.{same-is}
 
@@ -101,18 +99,18 @@ single [] low r e = absurd (omega arith)
 single (x ∷ []) low r e = (refl, rising-parts low x [] r .1)
 single (x ∷ (y ∷ ys)) low r e = absurd (omega arith)
 
-group-named : (l : List ℕ) (n : ℕ) → setNamed l (1024 + n) ≡ setOf (groupsIn l) (32768 + n)
+group-named : (l : List ℕ) (n : ℕ) → setNamed l (1024 + n) ≡ groupSet l n
 group-named l n =
     let z : 1024 + n - 1024 ≡ n = omega arith in
     simp (le-ltb (1024 + n) 1024 (omega arith), z)
 
-module _ (l : List ℕ) (t : ℕ) (c : check l ≡ none) where
-  name-back : IsType (countOf l Groups) t → (setNamed l (nameOf l (setOf (groupsIn l) t)) ≡ setOf (groupsIn l) t) × (nameOf l (setOf (groupsIn l) t) < 1280)
+module _ (l : List ℕ) (t : ℕ) (c : Accepted l) where
+  name-back : IsType (countOf l Groups) t → (setNamed l (nameOf l (setIn l t)) ≡ setIn l t) × (nameOf l (setIn l t) < 1280)
   unfolding nameOf
   name-back ok = go ok (eqb (length S) 1) refl
     where
       S : List ℕ
-      S = setOf (groupsIn l) t
+      S = setIn l t
 
       twin : ℕ
       twin = twinFrom (groupsIn l) S (countOf l Groups) 0
@@ -124,20 +122,20 @@ module _ (l : List ℕ) (t : ℕ) (c : check l ≡ none) where
       go (inl h) false e = absurd (eqb-false (length S) 1 e (ap length (set-basic l t (omega arith))))
       go (inr q) false e =
           let w = twin-found (groupsIn l) S (q .0) (ap (setOf (groupsIn l)) (q .2)) (countOf l Groups) 0 (omega arith) (omega (arith, q .1)) in
-          (group-named l twin ∙ sym (list-eq S (setOf (groupsIn l) (32768 + twin)) (w .1)), omega (arith, w .0, q .1, few-groups l c))
+          (group-named l twin ∙ sym (list-eq S (groupSet l twin) (w .1)), omega (arith, w .0, q .1, few-groups l c))
 
-  pub name-small : IsType (countOf l Groups) t → nameOf l (setOf (groupsIn l) t) < 1280
+  pub name-small : IsType (countOf l Groups) t → nameOf l (setIn l t) < 1280
   name-small ok = name-back ok .1
 
 -- the same name is the same set
-pub name-same : (l : List ℕ) (t u : ℕ) → check l ≡ none → IsType (countOf l Groups) t → IsType (countOf l Groups) u → eqb (nameOf l (setOf (groupsIn l) u)) (nameOf l (setOf (groupsIn l) t)) ≡ sameSet (setOf (groupsIn l) t) (setOf (groupsIn l) u)
+pub name-same : (l : List ℕ) (t u : ℕ) → Accepted l → IsType (countOf l Groups) t → IsType (countOf l Groups) u → eqb (nameOf l (setIn l u)) (nameOf l (setIn l t)) ≡ sameSet (setIn l t) (setIn l u)
 name-same l t u c okt oku = go (sameList S T) refl ∙ sym (same-is S T 0 0 (set-rising l t c okt) (set-rising l u c oku))
   where
     S : List ℕ
-    S = setOf (groupsIn l) t
+    S = setIn l t
 
     T : List ℕ
-    T = setOf (groupsIn l) u
+    T = setIn l u
 
     go : (b : Bool) → sameList S T ≡ b → eqb (nameOf l T) (nameOf l S) ≡ b
     go true e = eq-eqb (nameOf l T) (nameOf l S) (ap (nameOf l) (sym (list-eq S T e)))
@@ -154,29 +152,29 @@ key-small S r h = rising-basic 0 S r (length S / 2) (omega arith)
 module _ (l firsts : List ℕ) where
   -- a group with a key that has an entry
   pub firsts-more :
-      (left k : ℕ) → 0 < left → k < length firsts → k ≡ keyOf (setOf (groupsIn l) (32768 + (left - 1))) → ((g : ℕ) → left ≤ g → g < countOf l Groups → getD firsts (keyOf (setOf (groupsIn l) (32768 + g))) 0 ≤ g + 1)
-      → (g : ℕ) → left - 1 ≤ g → g < countOf l Groups → getD (set firsts k left) (keyOf (setOf (groupsIn l) (32768 + g))) 0 ≤ g + 1
-  firsts-more left k pos small is all g h c = go (eqb (keyOf (setOf (groupsIn l) (32768 + g))) k) refl
+      (left k : ℕ) → 0 < left → k < length firsts → k ≡ keyOf (groupSet l (left - 1)) → ((g : ℕ) → left ≤ g → g < countOf l Groups → getD firsts (keyOf (groupSet l g)) 0 ≤ g + 1)
+      → (g : ℕ) → left - 1 ≤ g → g < countOf l Groups → getD (set firsts k left) (keyOf (groupSet l g)) 0 ≤ g + 1
+  firsts-more left k pos small is all g h c = go (eqb (keyOf (groupSet l g)) k) refl
     where
-      go : (b : Bool) → eqb (keyOf (setOf (groupsIn l) (32768 + g))) k ≡ b → getD (set firsts k left) (keyOf (setOf (groupsIn l) (32768 + g))) 0 ≤ g + 1
-      go true e = rw (eqb-true (keyOf (setOf (groupsIn l) (32768 + g))) k e, getD-set-same firsts k left 0 small) (omega arith)
+      go : (b : Bool) → eqb (keyOf (groupSet l g)) k ≡ b → getD (set firsts k left) (keyOf (groupSet l g)) 0 ≤ g + 1
+      go true e = rw (eqb-true (keyOf (groupSet l g)) k e, getD-set-same firsts k left 0 small) (omega arith)
       go false e =
-          let differ = eqb-false (keyOf (setOf (groupsIn l) (32768 + g))) k e in
-          let above : g ≡ left - 1 → ⊥ = λ q. differ (ap (λ i. keyOf (setOf (groupsIn l) (32768 + i))) q ∙ sym is) in
-          rw (getD-set-other firsts k (keyOf (setOf (groupsIn l) (32768 + g))) left 0 differ) (all g (omega (arith, above)) c)
+          let differ = eqb-false (keyOf (groupSet l g)) k e in
+          let above : g ≡ left - 1 → ⊥ = λ q. differ (ap (λ i. keyOf (groupSet l i)) q ∙ sym is) in
+          rw (getD-set-other firsts k (keyOf (groupSet l g)) left 0 differ) (all g (omega (arith, above)) c)
 
   -- the search for a group's twin may start at the entry of its key, and that is not above the group
   pub twin-start :
-      (g h : ℕ) → Firsts l firsts → g < countOf l Groups → h ≡ getD firsts (keyOf (setOf (groupsIn l) (32768 + g))) 0 - 1
-      → (h ≤ g) × (twinFrom (groupsIn l) (setOf (groupsIn l) (32768 + g)) (countOf l Groups) 0 ≡ twinFrom (groupsIn l) (setOf (groupsIn l) (32768 + g)) (countOf l Groups - h) h)
+      (g h : ℕ) → Firsts l firsts → g < countOf l Groups → h ≡ getD firsts (keyOf (groupSet l g)) 0 - 1
+      → (h ≤ g) × (twinFrom (groupsIn l) (groupSet l g) (countOf l Groups) 0 ≡ twinFrom (groupsIn l) (groupSet l g) (countOf l Groups - h) h)
   twin-start g h f c e =
-      let S : List ℕ = setOf (groupsIn l) (32768 + g) in
+      let S : List ℕ = groupSet l g in
       let low : h ≤ g = omega (arith, f .is g c) in
-      (low, twin-skip (groupsIn l) S (countOf l Groups) h (omega arith) (λ i k. key-differs S (setOf (groupsIn l) (32768 + i)) (λ q. absurd (omega (arith, subst (λ x. getD firsts x 0 ≤ i + 1) (sym q) (f .is i (omega arith)))))))
+      (low, twin-skip (groupsIn l) S (countOf l Groups) h (omega arith) (λ i k. key-differs S (groupSet l i) (λ q. absurd (omega (arith, subst (λ x. getD firsts x 0 ≤ i + 1) (sym q) (f .is i (omega arith)))))))
 
 -- at the latest the group itself
-pub twin-itself : (l : List ℕ) (g h : ℕ) → g < countOf l Groups → h ≡ g → twinFrom (groupsIn l) (setOf (groupsIn l) (32768 + g)) (countOf l Groups - h) h ≡ g
-twin-itself l g h c e = twin-hit (groupsIn l) (setOf (groupsIn l) (32768 + g)) (countOf l Groups - h) h (countOf l Groups - (h + 1)) (omega arith) (ap (λ i. sameList (setOf (groupsIn l) (32768 + g)) (setOf (groupsIn l) (32768 + i))) e ∙ list-same (setOf (groupsIn l) (32768 + g))) ∙ e
+pub twin-itself : (l : List ℕ) (g h : ℕ) → g < countOf l Groups → h ≡ g → twinFrom (groupsIn l) (groupSet l g) (countOf l Groups - h) h ≡ g
+twin-itself l g h c e = twin-hit (groupsIn l) (groupSet l g) (countOf l Groups - h) h (countOf l Groups - (h + 1)) (omega arith) (ap (λ i. sameList (groupSet l g) (groupSet l i)) e ∙ list-same (groupSet l g)) ∙ e
 
 -- ---- a name, as the code finds it
 
@@ -197,23 +195,7 @@ module _ (l : List ℕ) (from count : ℕ) (S : List ℕ) (s : Spans l from coun
   pub span-one : count ≡ 1 → getD S 0 0 ≡ wordAt l from
   span-one e = ap (λ x. getD x 0 0) (sym (s .are)) ∙ rw (e, words-at-one l from)
 
-pub name-basic : (l : List ℕ) (t w : ℕ) → t ≡ w → t < 32768 → t ≡ nameOf l (setOf (groupsIn l) w)
+pub name-basic : (l : List ℕ) (t w : ℕ) → t ≡ w → t < 32768 → t ≡ nameOf l (setIn l w)
 name-basic l t w is h =
-    let e : setOf (groupsIn l) w ≡ w ∷ [] = set-basic l w (omega arith) in
-    is ∙ sym (name-single l (setOf (groupsIn l) w) (ap length e) ∙ ap (λ x. getD x 0 0) e)
-
-pub name-number : (l : List ℕ) (t w n : ℕ) → t ≡ w → 32768 ≤ t → n ≡ nameOf l (setOf (groupsIn l) (32768 + (t - 32768))) → n ≡ nameOf l (setOf (groupsIn l) w)
-name-number l t w n is h e = let z : 32768 + (t - 32768) ≡ w = omega arith in e ∙ ap (λ x. nameOf l (setOf (groupsIn l) x)) z
-
-pub names-none : (l : List ℕ) → NamesKept l (replicate 256 0)
-names-none l = record { is = λ g h. absurd (omega (arith, h, blank {A = ℕ} 0 256 g)) }
-
-module _ (l names : List ℕ) (k : NamesKept l names) (t w : ℕ) (is : t ≡ w) (h : 32768 ≤ t) where
-  number-is : 32768 + (t - 32768) ≡ w
-  number-is = omega arith
-
-  pub names-tell : (n : ℕ) → n ≡ getD names (t - 32768) 0 → 0 < n → n - 1 ≡ nameOf l (setOf (groupsIn l) w)
-  names-tell n e p = let f = rw number-is at (k .is (t - 32768) (omega arith)) in omega (arith, f)
-
-  pub names-more : (n : ℕ) → n ≡ nameOf l (setOf (groupsIn l) w) → NamesKept l (set names (t - 32768) (n + 1))
-  names-more n e = record { is = by-set 0 (λ (j x : ℕ). 0 < x → x ≡ nameOf l (setOf (groupsIn l) (32768 + j)) + 1) names (t - 32768) (n + 1) (k .is) (λ p. rw (number-is, e) refl) }
+    let e : setIn l w ≡ w ∷ [] = set-basic l w (omega arith) in
+    is ∙ sym (name-single l (setIn l w) (ap length e) ∙ ap (λ x. getD x 0 0) e)

@@ -33,7 +33,7 @@ unfolding tally
 tally-cong f g [] low r h = refl
 tally-cong f g (x ∷ xs) low r h = let q = rising-parts low x xs r in rw (h x (q .1), tally-cong f g xs (suc x) (q .2) h)
 
--- one number is met once, or not at allOf
+-- one number is met once, or not at all
 tally-one : (x : ℕ) (ws : List ℕ) (low : ℕ) → Rising low ws → tally (eqb x) ws ≡ cond (isIn x ws) 1 0
 unfolding tally isIn anyOf
 tally-one x [] low r = refl
@@ -64,22 +64,14 @@ unfolding tally isIn anyOf
 tally-none [] = refl
 tally-none (w ∷ ws) = omega (arith, tally-none ws)
 
-tally-head : (f : ℕ → Bool) (q : ℕ) (qs : List ℕ) → tally f (q ∷ qs) ≡ cond (f q) 1 0 + tally f qs
-unfolding tally
-tally-head f q qs = refl
-
-tally-nil : (f : ℕ → Bool) → tally f [] ≡ 0
-unfolding tally
-tally-nil f = refl
-
 -- the hits of a rising list in another are as many as those of the other in it
 tally-swap : (qs ws : List ℕ) (low k : ℕ) → Rising low qs → Rising k ws → tally (λ y. isIn y qs) ws ≡ tally (λ x. isIn x ws) qs
-tally-swap [] ws low k r s = tally-none ws ∙ sym (tally-nil (λ x. isIn x ws))
+unfolding tally
+tally-swap [] ws low k r s = tally-none ws
 tally-swap (q ∷ qs) ws low k r s =
     tally-cons q qs ws (rising-parts low q qs r .2)
     ∙ ap (λ (n : ℕ). n + tally (λ y. isIn y qs) ws) (tally-one q ws k s)
     ∙ ap (λ (n : ℕ). cond (isIn q ws) 1 0 + n) (tally-swap qs ws (suc q) k (rising-parts low q qs r .2) s)
-    ∙ sym (tally-head (λ x. isIn x ws) q qs)
 
 tally-le : (f : ℕ → Bool) (xs : List ℕ) → tally f xs ≤ length xs
 unfolding tally
@@ -93,7 +85,7 @@ tally-le f (x ∷ xs) = go (tally-le f xs) (f x)
 one-add : (n : ℕ) → 1 + n ≡ suc n
 one-add n = omega arith
 
--- allOf pass where as many pass as there are
+-- all pass where as many pass as there are
 tally-allOf : (f : ℕ → Bool) (xs : List ℕ) → eqb (tally f xs) (length xs) ≡ allOf f xs
 unfolding tally allOf
 tally-allOf f [] = refl

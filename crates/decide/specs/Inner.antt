@@ -1,5 +1,5 @@
--- Definitions that only proofs, laws and the contracts of private functions use; no claim rests on them.
-pub mod Spans
+-- What only private contracts and proofs use.
+pub mod Parts
 pub mod Marks
 pub mod Kept
 pub mod Rules

@@ -1,11 +1,11 @@
 // Two lists of members that are the same.
 use crate::types::Span;
-use crate::word::word_at;
+use crate::word::word_in;
 ghost use mathlib.Core.Path.{_≡_};
 ghost use Prim.Native.Nat.{_+_, _*_, _≤_};
 ghost use lib.ListN.{length};
-ghost use Rattle.format.specs.Inner.Places.{wordsAt};
 ghost use Rattle.decide.specs.Inner.Names.{sameList};
+ghost use Rattle.format.specs.Inner.Places.{wordsAt};
 
 // Whether two parts of the image hold the same members. Members rise, so the sets are then the same, and only then.
 pub(crate) fn same_members(image: &[u8], s: Span, t: Span) -> bool
@@ -20,7 +20,7 @@ pub(crate) fn same_members(image: &[u8], s: Span, t: Span) -> bool
         if right == 0 {
             return false;
         }
-        if word_at(image, i) != word_at(image, j) {
+        if word_in(image, i) != word_in(image, j) {
             return false;
         }
         i += 2;

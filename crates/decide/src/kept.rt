@@ -1,120 +1,100 @@
-// A test of the type in a field, with what is known of a group kept, so that a group is walked once and not once a rule.
-use crate::marks::all_marked;
-use crate::marks::any_marked;
+// A test of the type in a field, with what is found of a group kept, so that a group is walked once and not once a rule.
+use crate::marks::any_is;
 use crate::marks::fully_marked;
-use crate::types::members;
-use crate::word::word_at;
+use crate::types::group_span;
+use crate::word::word_in;
 ghost use mathlib.Core.Path.{_≡_};
-ghost use mathlib.Core.Option.{none};
 ghost use Prim.Native.Nat.{_+_, _<_};
-ghost use lib.ListN.{length};
-ghost use Rattle.format.specs.declared.Section.the-variants.{Groups};
-ghost use Rattle.format.specs.Bytes.{wordAt};
-ghost use Rattle.format.specs.Format.{countOf};
-ghost use Rattle.format.specs.Check.{check};
-ghost use Rattle.format.specs.Claims.{IsType};
-ghost use Rattle.decision.specs.Sets.{setOf};
-ghost use Rattle.decide.specs.Ready.{Placed};
-ghost use Rattle.decide.specs.Inner.Spans.{groupsIn};
-ghost use Rattle.decide.specs.Inner.Marks.{fullyMarked, anyMarked, allMarked};
-ghost use Rattle.decide.specs.Inner.Kept.{Kept};
+ghost use lib.ListN.{set};
+ghost use Rattle.decide.specs.Inner.Parts.{Known, TypeAt, setAt};
+ghost use Rattle.decide.specs.Inner.Marks.{anyIs, fullyMarked};
+ghost use Rattle.decide.specs.Inner.Kept.{bit, KeptTest, Leaves, outsideIn, keepOutside};
+
+// Keeps what was found of a number, 1 for no and 2 for yes, and answers it.
+pub(crate) fn keep(kept: &mut [u8; 256], n: usize, found: bool) -> bool
+    requires { ⌜ n < 256 ⌝ }
+    ensures { λ r. ⌜ (r ≡ found) × (now (kept .exit) ≡ set (now (kept .entry)) n (bit found + 1)) ⌝ }
+{
+    if found {
+        kept[n] = 2;
+        return true;
+    }
+    kept[n] = 1;
+    false
+}
+
+// Whether a type is a group that is known not to hold what is asked.
+pub(crate) fn kept_outside(t: usize, kept: &[u8; 256]) -> bool
+    requires { ⌜ t < 33024 ⌝ }
+    ensures { λ r. ⌜ r ≡ outsideIn (now (kept .entry)) t ⌝ }
+{
+    if t < 32768 {
+        return false;
+    }
+    kept[t - 32768] == 1
+}
+
+// Keeps, where a type is a group, that it does not hold what is asked.
+pub(crate) fn keep_outside(t: usize, kept: &mut [u8; 256])
+    requires { ⌜ t < 33024 ⌝ }
+    ensures { λ _. ⌜ now (kept .exit) ≡ keepOutside (now (kept .entry)) t ⌝ }
+{
+    if t < 32768 {
+        return;
+    }
+    kept[t - 32768] = 1;
+}
 
 // Whether the marked set, of a size, is within the type in the field at a place.
 pub(crate) fn inside(
     image: &[u8],
-    groups: &[usize; 256],
+    groups: &[u16; 256],
     at: usize,
     marks: &[bool; 1024],
     size: usize,
-    told: &mut [u8; 256],
+    kept: &mut [u8; 256],
 ) -> bool
-    requires { ⌜ (check (now image) ≡ none) × Placed (now image) (now groups) × (at + 1 < length (now image)) × IsType (countOf (now image) Groups) (wordAt (now image) at) × Kept (fullyMarked (now marks) size) (now image) (now told) ⌝ }
-    ensures { λ r. ⌜ (r ≡ fullyMarked (now (marks .entry)) size (setOf (groupsIn (now (image .entry))) (wordAt (now (image .entry)) at))) × Kept (fullyMarked (now (marks .entry)) size) (now (image .entry)) (now (told .exit)) ⌝ }
+    requires { ⌜ Known (now image) (now groups) × TypeAt (now image) at × KeptTest (fullyMarked (now marks) size) (now image) (now kept) ⌝ }
+    ensures { λ r. ⌜ Leaves (fullyMarked (now (marks .entry)) size (setAt (now (image .entry)) at))
+        (KeptTest (fullyMarked (now (marks .entry)) size) (now (image .entry)) (now (kept .exit))) r ⌝ }
 {
-    let t = word_at(image, at);
-    let s = members(image, groups, at);
+    let t = word_in(image, at);
     if t < 32768 {
-        return fully_marked(image, s.from, s.count, marks, size);
+        return fully_marked(image, at, 1, marks, size);
     }
     let g = t - 32768;
-    let k = told[g];
-    if k == 1 {
-        return false;
+    let k = kept[g];
+    if 0 < k {
+        return k == 2;
     }
-    if k == 2 {
-        return true;
-    }
-    if fully_marked(image, s.from, s.count, marks, size) {
-        told[g] = 2;
-        true
-    } else {
-        told[g] = 1;
-        false
-    }
+    let s = group_span(image, groups, g);
+    let found = fully_marked(image, s.from, s.count, marks, size);
+    keep(kept, g, found)
 }
 
-// Whether the type in the field at a place touches the marked set.
+// Whether the type in the field at a place has a member with a mark of a value.
 pub(crate) fn meets(
     image: &[u8],
-    groups: &[usize; 256],
+    groups: &[u16; 256],
     at: usize,
     marks: &[bool; 1024],
-    told: &mut [u8; 256],
+    value: bool,
+    kept: &mut [u8; 256],
 ) -> bool
-    requires { ⌜ (check (now image) ≡ none) × Placed (now image) (now groups) × (at + 1 < length (now image)) × IsType (countOf (now image) Groups) (wordAt (now image) at) × Kept (anyMarked (now marks)) (now image) (now told) ⌝ }
-    ensures { λ r. ⌜ (r ≡ anyMarked (now (marks .entry)) (setOf (groupsIn (now (image .entry))) (wordAt (now (image .entry)) at))) × Kept (anyMarked (now (marks .entry))) (now (image .entry)) (now (told .exit)) ⌝ }
+    requires { ⌜ Known (now image) (now groups) × TypeAt (now image) at × KeptTest (anyIs (now marks) value) (now image) (now kept) ⌝ }
+    ensures { λ r. ⌜ Leaves (anyIs (now (marks .entry)) value (setAt (now (image .entry)) at))
+        (KeptTest (anyIs (now (marks .entry)) value) (now (image .entry)) (now (kept .exit))) r ⌝ }
 {
-    let t = word_at(image, at);
-    let s = members(image, groups, at);
+    let t = word_in(image, at);
     if t < 32768 {
-        return any_marked(image, s.from, s.count, marks);
+        return any_is(image, at, 1, marks, value);
     }
     let g = t - 32768;
-    let k = told[g];
-    if k == 1 {
-        return false;
+    let k = kept[g];
+    if 0 < k {
+        return k == 2;
     }
-    if k == 2 {
-        return true;
-    }
-    if any_marked(image, s.from, s.count, marks) {
-        told[g] = 2;
-        true
-    } else {
-        told[g] = 1;
-        false
-    }
-}
-
-// Whether the type in the field at a place is within the marked set.
-pub(crate) fn among(
-    image: &[u8],
-    groups: &[usize; 256],
-    at: usize,
-    marks: &[bool; 1024],
-    told: &mut [u8; 256],
-) -> bool
-    requires { ⌜ (check (now image) ≡ none) × Placed (now image) (now groups) × (at + 1 < length (now image)) × IsType (countOf (now image) Groups) (wordAt (now image) at) × Kept (allMarked (now marks)) (now image) (now told) ⌝ }
-    ensures { λ r. ⌜ (r ≡ allMarked (now (marks .entry)) (setOf (groupsIn (now (image .entry))) (wordAt (now (image .entry)) at))) × Kept (allMarked (now (marks .entry))) (now (image .entry)) (now (told .exit)) ⌝ }
-{
-    let t = word_at(image, at);
-    let s = members(image, groups, at);
-    if t < 32768 {
-        return all_marked(image, s.from, s.count, marks);
-    }
-    let g = t - 32768;
-    let k = told[g];
-    if k == 1 {
-        return false;
-    }
-    if k == 2 {
-        return true;
-    }
-    if all_marked(image, s.from, s.count, marks) {
-        told[g] = 2;
-        true
-    } else {
-        told[g] = 1;
-        false
-    }
+    let s = group_span(image, groups, g);
+    let found = any_is(image, s.from, s.count, marks, value);
+    keep(kept, g, found)
 }

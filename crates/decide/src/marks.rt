@@ -1,10 +1,10 @@
 // Sets as 1,024 marks, and the members of a part of the image against them.
-use crate::word::word_at;
+use crate::word::word_in;
 ghost use mathlib.Core.Path.{_≡_};
 ghost use Prim.Native.Nat.{_+_, _*_, _≤_};
 ghost use lib.ListN.{length};
+ghost use Rattle.decide.specs.Inner.Marks.{markAll, anyIs, fullyMarked};
 ghost use Rattle.format.specs.Inner.Places.{wordsAt, Rising};
-ghost use Rattle.decide.specs.Inner.Marks.{markAll, anyMarked, allMarked, fullyMarked};
 
 // Marks the members of a part.
 pub(crate) fn mark(image: &[u8], from: usize, count: usize, marks: &mut [bool; 1024])
@@ -14,21 +14,27 @@ pub(crate) fn mark(image: &[u8], from: usize, count: usize, marks: &mut [bool; 1
     let mut at = from;
     let mut left = count;
     while 0 < left {
-        marks[word_at(image, at)] = true;
+        marks[word_in(image, at)] = true;
         at += 2;
         left -= 1;
     }
 }
 
-// Whether a member of a part is marked.
-pub(crate) fn any_marked(image: &[u8], from: usize, count: usize, marks: &[bool; 1024]) -> bool
+// Whether a member of a part has a mark of a value.
+pub(crate) fn any_is(
+    image: &[u8],
+    from: usize,
+    count: usize,
+    marks: &[bool; 1024],
+    value: bool,
+) -> bool
     requires { ⌜ (from + 2 * count ≤ length (now image)) × Rising 0 (wordsAt (now image) count from) ⌝ }
-    ensures { λ r. ⌜ r ≡ anyMarked (now (marks .entry)) (wordsAt (now (image .entry)) count from) ⌝ }
+    ensures { λ r. ⌜ r ≡ anyIs (now (marks .entry)) value (wordsAt (now (image .entry)) count from) ⌝ }
 {
     let mut at = from;
     let mut left = count;
     while 0 < left {
-        if marks[word_at(image, at)] {
+        if marks[word_in(image, at)] == value {
             return true;
         }
         at += 2;
@@ -37,24 +43,8 @@ pub(crate) fn any_marked(image: &[u8], from: usize, count: usize, marks: &[bool;
     false
 }
 
-// Whether each member of a part is marked.
-pub(crate) fn all_marked(image: &[u8], from: usize, count: usize, marks: &[bool; 1024]) -> bool
-    requires { ⌜ (from + 2 * count ≤ length (now image)) × Rising 0 (wordsAt (now image) count from) ⌝ }
-    ensures { λ r. ⌜ r ≡ allMarked (now (marks .entry)) (wordsAt (now (image .entry)) count from) ⌝ }
-{
-    let mut at = from;
-    let mut left = count;
-    while 0 < left {
-        if !marks[word_at(image, at)] {
-            return false;
-        }
-        at += 2;
-        left -= 1;
-    }
-    true
-}
-
-// Whether so many members of a part are marked: where that is the number of marks, all marks are among the members.
+// Whether so many members of a part are marked: where that is the number of marks, all marks are among the members. It walks
+// to the end, as a way out before it costs more than it saves.
 pub(crate) fn fully_marked(
     image: &[u8],
     from: usize,
@@ -69,7 +59,7 @@ pub(crate) fn fully_marked(
     let mut left = count;
     let mut hits: usize = 0;
     while 0 < left {
-        if marks[word_at(image, at)] {
+        if marks[word_in(image, at)] {
             hits += 1;
         }
         at += 2;

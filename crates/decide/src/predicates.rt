@@ -1,129 +1,79 @@
-// What the predicates ask of the rules: live ones alone, of every class and action. A live rule is an allow rule, of 11 bytes,
-// so that its length need not be read.
-use crate::kept::among;
+// What a roster and a companion ask of the rules: live ones alone, of every class and action.
 use crate::kept::meets;
-use crate::word::wide;
-use crate::word::word_at;
+use crate::rules::is_live;
+use crate::rules::past;
+use crate::word::word_in;
+use format::Starts;
+use format::header;
 ghost use mathlib.Core.Path.{_≡_};
-ghost use mathlib.Core.Bool.{true};
-ghost use mathlib.Core.Option.{none};
-ghost use Prim.Native.Nat.{_+_, _≤_, _<_};
-ghost use lib.ListN.{length, getD};
-ghost use Rattle.format.specs.declared.Section.the-variants.{Rules};
-ghost use Rattle.format.specs.Policy.{recordAt, startOf};
-ghost use Rattle.format.specs.Check.{check};
-ghost use Rattle.format.specs.Inner.Places.{RuleAt};
 ghost use Rattle.decision.specs.Sets.{anyOf};
-ghost use Rattle.decision.specs.Decide.{ruleOf};
-ghost use Rattle.decide.specs.Ready.{Placed};
-ghost use Rattle.decide.specs.Inner.Spans.{groupsIn};
-ghost use Rattle.decide.specs.Inner.Marks.{anyMarked, allMarked};
-ghost use Rattle.decide.specs.Inner.Kept.{Kept};
-ghost use Rattle.decide.specs.Inner.Rules.{rulesIn, liveAt, strays, friend};
+ghost use Rattle.decide.specs.Inner.Parts.{Ready, rulesIn, ruleIn};
+ghost use Rattle.decide.specs.Inner.Marks.{anyIs};
+ghost use Rattle.decide.specs.Inner.Kept.{KeptReach, Leaves};
+ghost use Rattle.decide.specs.Inner.Rules.{AtRule, reachingFrom};
 
-// Whether the rule at a place is an allow rule that is on.
-pub(crate) fn on(image: &[u8], at: usize) -> bool
-    requires { ⌜ (at + 8 ≤ length (now image)) × (getD (now image) (at + 1) 0 ≡ 2 → at + 11 ≤ length (now image)) ⌝ }
-    ensures { λ r. ⌜ r ≡ liveAt (now (image .entry)) at ⌝ }
-{
-    if image[at + 1] != 2 {
-        return false;
-    }
-    image[at + 10] == 1
-}
-
-// Whether the live rule at a place breaks a roster.
-fn stray(
+// Whether the rule at a place is live, its destination has a member that is marked in `reach`, and its source has one whose mark
+// in `source` is the value.
+fn reaches_from(
     image: &[u8],
-    groups: &[usize; 256],
+    groups: &[u16; 256],
     at: usize,
-    second: &[bool; 1024],
-    list: &[bool; 1024],
-    told: &mut [u8; 256],
-    known: &mut [u8; 256],
+    live: bool,
+    reach: &[bool; 1024],
+    source: &[bool; 1024],
+    value: bool,
+    kreach: &mut [u8; 256],
+    ksource: &mut [u8; 256],
 ) -> bool
-    requires { ⌜ (check (now image) ≡ none) × Placed (now image) (now groups) × RuleAt (now image) at (recordAt (now image) at) × (liveAt (now image) at ≡ true) × Kept (anyMarked (now second)) (now image) (now told) × Kept (allMarked (now list)) (now image) (now known) ⌝ }
-    ensures { λ r. ⌜ (r ≡ strays (now (second .entry)) (now (list .entry)) (ruleOf (groupsIn (now (image .entry))) (recordAt (now (image .entry)) at))) × Kept (anyMarked (now (second .entry))) (now (image .entry)) (now (told .exit)) × Kept (allMarked (now (list .entry))) (now (image .entry)) (now (known .exit)) ⌝ }
+    requires { ⌜ AtRule (now image) (now groups) at live
+        × KeptReach (now image) (now reach) (anyIs (now source) value) (now kreach) (now ksource) ⌝ }
+    ensures { λ r. ⌜ Leaves (reachingFrom (now (reach .entry)) (anyIs (now (source .entry)) value) (ruleIn (now (image .entry)) at))
+        (KeptReach (now (image .entry)) (now (reach .entry)) (anyIs (now (source .entry)) value)
+        (now (kreach .exit)) (now (ksource .exit))) r ⌝ }
 {
-    if !meets(image, groups, at + 4, second, told) {
+    if !live {
         return false;
     }
-    !among(image, groups, at + 2, list, known)
-}
-
-// Whether the live rule at a place is one that a companion wants.
-fn helps(
-    image: &[u8],
-    groups: &[usize; 256],
-    at: usize,
-    first: &[bool; 1024],
-    second: &[bool; 1024],
-    told: &mut [u8; 256],
-    known: &mut [u8; 256],
-) -> bool
-    requires { ⌜ (check (now image) ≡ none) × Placed (now image) (now groups) × RuleAt (now image) at (recordAt (now image) at) × (liveAt (now image) at ≡ true) × Kept (anyMarked (now first)) (now image) (now told) × Kept (anyMarked (now second)) (now image) (now known) ⌝ }
-    ensures { λ r. ⌜ (r ≡ friend (now (first .entry)) (now (second .entry)) (ruleOf (groupsIn (now (image .entry))) (recordAt (now (image .entry)) at))) × Kept (anyMarked (now (first .entry))) (now (image .entry)) (now (told .exit)) × Kept (anyMarked (now (second .entry))) (now (image .entry)) (now (known .exit)) ⌝ }
-{
-    if !meets(image, groups, at + 4, first, told) {
+    if !meets(image, groups, at + 4, reach, true, kreach) {
         return false;
     }
-    meets(image, groups, at + 2, second, known)
+    meets(image, groups, at + 2, source, value, ksource)
 }
 
-// Whether a rule breaks a roster, whose second argument and list are marked.
-pub(crate) fn strayed(
+// Whether there is such a rule.
+pub(crate) fn any_rule(
     image: &[u8],
-    groups: &[usize; 256],
-    from: usize,
-    second: &[bool; 1024],
-    list: &[bool; 1024],
+    groups: &[u16; 256],
+    s: Starts,
+    reach: &[bool; 1024],
+    source: &[bool; 1024],
+    value: bool,
 ) -> bool
-    requires { ⌜ (check (now image) ≡ none) × Placed (now image) (now groups) × (from ≡ startOf (now image) Rules) ⌝ }
-    ensures { λ r. ⌜ r ≡ anyOf (strays (now (second .entry)) (now (list .entry))) (rulesIn (now (image .entry))) ⌝ }
+    requires { ⌜ Ready (now image) (now groups) s ⌝ }
+    ensures { λ r. ⌜ r ≡ anyOf (reachingFrom (now (reach .entry)) (anyIs (now (source .entry)) value)) (rulesIn (now (image .entry))) ⌝ }
 {
-    let mut told = [0u8; 256];
-    let mut known = [0u8; 256];
-    let mut at = from;
-    let mut left = word_at(image, 5);
-    while 0 < left {
-        if on(image, at) {
-            if stray(image, groups, at, second, list, &mut told, &mut known) {
-                return true;
-            }
-            at += 11;
-        } else {
-            at += wide(image[at]);
+    let count = word_in(image, header::RULES_AT);
+    let mut kreach = [0u8; 256];
+    let mut ksource = [0u8; 256];
+    let mut at = s.rules;
+    let mut n: usize = 0;
+    while n < count {
+        let live = is_live(image, at);
+        if reaches_from(
+            image,
+            groups,
+            at,
+            live,
+            reach,
+            source,
+            value,
+            &mut kreach,
+            &mut ksource,
+        ) {
+            return true;
         }
-        left -= 1;
-    }
-    false
-}
-
-// Whether a companion, whose arguments are marked, has the rule that it wants.
-pub(crate) fn helped(
-    image: &[u8],
-    groups: &[usize; 256],
-    from: usize,
-    first: &[bool; 1024],
-    second: &[bool; 1024],
-) -> bool
-    requires { ⌜ (check (now image) ≡ none) × Placed (now image) (now groups) × (from ≡ startOf (now image) Rules) ⌝ }
-    ensures { λ r. ⌜ r ≡ anyOf (friend (now (first .entry)) (now (second .entry))) (rulesIn (now (image .entry))) ⌝ }
-{
-    let mut told = [0u8; 256];
-    let mut known = [0u8; 256];
-    let mut at = from;
-    let mut left = word_at(image, 5);
-    while 0 < left {
-        if on(image, at) {
-            if helps(image, groups, at, first, second, &mut told, &mut known) {
-                return true;
-            }
-            at += 11;
-        } else {
-            at += wide(image[at]);
-        }
-        left -= 1;
+        at = past(image, at, live);
+        n += 1;
     }
     false
 }

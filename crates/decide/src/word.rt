@@ -16,8 +16,8 @@ pub(crate) fn wide_word(x: u16) -> usize
     x as usize
 }
 
-// The 2-byte number at a place.
-pub(crate) fn word_at(bytes: &[u8], at: usize) -> usize
+// The 2-byte number at a place that has two bytes: `image::word_at` without its tests, which DECISIONS 12 has the cost of.
+pub(crate) fn word_in(bytes: &[u8], at: usize) -> usize
     requires { ⌜ at + 1 < length (now bytes) ⌝ }
     ensures { λ r. ⌜ (r ≡ wordAt (now (bytes .entry)) at) × (r < 65536) ⌝ }
 {

@@ -1,28 +1,75 @@
--- What is kept of the groups of an image for the length of a call.
---     Kept f l told         of a test f: 1 it fails for the group, 2 it passes, else it is not known
---     skippedOf, skipMore   groups that were passed over; `noSkips` none
---     Skips l S sk          groups that a set is known not to be within
-use Prim.Native.Nat.{ℕ, _+_, _-_}
+-- What is kept in tables of 256, so that it is found once, and what functions leave of it.
+--     bit b                    1 for yes and 0 for no
+--     Kept f table             what is kept of f: 1 more than f says of a number, or 0 where it was not asked
+--     KeptTest f l kept        of a test f of the groups' sets
+--     outsideIn kept t         that a set is not within the type t is kept; keepOutside kept t: it is then, of a group
+--     Side l t ms size table   a query's source or destination t: its marks and its size, and what is kept of the groups that it
+--                              is within
+--     Sides l q ..             a query's two sides
+--     verdictOf l n            whether the rules break the predicate of constraint n
+--     KeptNames l names, KeptVerdicts l verdicts   of the groups' names, and of the verdicts
+--     KeptReach l ms f ..      of the groups that touch marks, and of a test of sources; KeptNaming: and of names
+--     KeptPolicy l ..          of names and of verdicts
+--     Leaves x K r             the answer is x, and what is kept is right after it
+use Prim.Native.Nat.{ℕ, _+_, _-_, _<_}
 use mathlib.Core.Path.{_≡_}
-use mathlib.Core.Bool.{Bool, true, false, cond}
+use mathlib.Core.Bool.{Bool, false, cond}
 use mathlib.Core.List.{List}
-use lib.ListN.{getD, set, replicate}
-use lib.Dec.{ltb}
-use Rattle.decision.specs.Sets.{setOf, within}
-use Rattle.decide.specs.Inner.Spans.{groupsIn}
+use lib.ListN.{getD, set}
+use lib.Dec.{eqb, ltb}
+use Rattle.format.specs.declared.Section.the-variants.{Constraints}
+use Rattle.format.specs.Policy.{placeOf}
+use Rattle.decision.specs.declared.Query.{Query}
+use Rattle.decision.specs.Decide.{broken}
+use Rattle.decide.specs.Inner.Parts.{rulesIn, constraintIn, setIn, groupSet}
+use Rattle.decide.specs.Inner.Marks.{Marked, anyMarked, fullyMarked}
+use Rattle.decide.specs.Inner.Names.{nameOf}
 
-pub record Kept (f : List ℕ → Bool) (l : List ℕ) (told : List ℕ) : Type 0 where
-  pub no : (g : ℕ) → getD told g 0 ≡ 1 → f (setOf (groupsIn l) (32768 + g)) ≡ false
-  pub yes : (g : ℕ) → getD told g 0 ≡ 2 → f (setOf (groupsIn l) (32768 + g)) ≡ true
+unfoldable pub bit : Bool → ℕ
+bit b = cond b 1 0
 
-unfoldable pub skippedOf : List Bool → ℕ → Bool
-skippedOf sk t = cond (ltb t 32768) false (getD sk (t - 32768) false)
+pub record Kept (f : ℕ → ℕ) (table : List ℕ) : Type 0 where
+  pub is : (n : ℕ) → 0 < getD table n 0 → getD table n 0 ≡ f n + 1
 
-unfoldable pub skipMore : List Bool → ℕ → List Bool
-skipMore sk t = cond (ltb t 32768) sk (set sk (t - 32768) true)
+abbrev pub KeptTest : (List ℕ → Bool) → List ℕ → List ℕ → Type 0
+KeptTest f l = Kept (λ g. bit (f (groupSet l g)))
 
-unfoldable pub noSkips : List Bool
-noSkips = replicate 256 false
+unfoldable pub outsideIn : List ℕ → ℕ → Bool
+outsideIn kept t = cond (ltb t 32768) false (eqb (getD kept (t - 32768) 0) 1)
 
-pub record Skips (l S : List ℕ) (sk : List Bool) : Type 0 where
-  pub is : (g : ℕ) → getD sk g false ≡ true → within S (setOf (groupsIn l) (32768 + g)) ≡ false
+unfoldable pub keepOutside : List ℕ → ℕ → List ℕ
+keepOutside kept t = cond (ltb t 32768) kept (set kept (t - 32768) 1)
+
+pub record Side (l : List ℕ) (t : ℕ) (ms : List Bool) (size : ℕ) (table : List ℕ) : Type 0 where
+  pub marked : Marked (setIn l t) ms size
+  pub kept : KeptTest (fullyMarked ms size) l table
+
+pub record Sides (l : List ℕ) (q : Query) (ms : List Bool) (sources : ℕ) (ns : List Bool) (dests : ℕ) (ks kd : List ℕ) : Type 0 where
+  pub source : Side l (q .source) ms sources ks
+  pub dest : Side l (q .dest) ns dests kd
+
+abbrev pub KeptNames : List ℕ → List ℕ → Type 0
+KeptNames l = Kept (λ g. nameOf l (groupSet l g))
+
+abbrev pub verdictOf : List ℕ → ℕ → Bool
+verdictOf l n = broken (rulesIn l) (constraintIn l (placeOf l Constraints n))
+
+abbrev pub KeptVerdicts : List ℕ → List ℕ → Type 0
+KeptVerdicts l = Kept (λ n. bit (verdictOf l n))
+
+pub record KeptReach (l : List ℕ) (ms : List Bool) (f : List ℕ → Bool) (kr ks : List ℕ) : Type 0 where
+  pub reach : KeptTest (anyMarked ms) l kr
+  pub source : KeptTest f l ks
+
+pub record KeptNaming (l : List ℕ) (ms : List Bool) (kr ns : List ℕ) : Type 0 where
+  pub reach : KeptTest (anyMarked ms) l kr
+  pub names : KeptNames l ns
+
+pub record KeptPolicy (l ns vs : List ℕ) : Type 0 where
+  pub names : KeptNames l ns
+  pub verdicts : KeptVerdicts l vs
+
+module _ {A : Type 0} where
+  pub record Leaves (x : A) (K : Type 0) (r : A) : Type 0 where
+    pub is : r ≡ x
+    pub kept : K

@@ -1,27 +1,27 @@
 -- Sets as marks, one for each basic type.
 --     markAll ms xs         marks with those of a list
---     anyMarked, allMarked  some element of a list is marked, and each is
+--     anyIs ms v xs         an element of a list has a mark of a value; anyMarked: it is marked
 --     tallied ms xs         how many elements are marked
 --     fullyMarked ms n xs   n are
 --     Marked S ms size      marks and size of a set
 use Prim.Native.Nat.{ℕ, _+_, _<_}
 use mathlib.Core.Path.{_≡_}
-use mathlib.Core.Bool.{Bool, true, false, cond}
+use mathlib.Core.Bool.{Bool, Bool·beq, true, false, cond}
 use mathlib.Core.List.{List, [], _∷_}
 use lib.ListN.{length, getD, set}
 use lib.Dec.{eqb}
 use Rattle.format.specs.Inner.Places.{Rising}
-use Rattle.decision.specs.Sets.{anyOf, allOf, isIn}
+use Rattle.decision.specs.Sets.{anyOf, isIn}
 
 unfoldable pub markAll : List Bool → List ℕ → List Bool
 markAll ms [] = ms
 markAll ms (x ∷ xs) = markAll (set ms x true) xs
 
-unfoldable pub anyMarked : List Bool → List ℕ → Bool
-anyMarked ms xs = anyOf (λ x. getD ms x false) xs
+unfoldable pub anyIs : List Bool → Bool → List ℕ → Bool
+anyIs ms v xs = anyOf (λ x. Bool·beq (getD ms x false) v) xs
 
-unfoldable pub allMarked : List Bool → List ℕ → Bool
-allMarked ms xs = allOf (λ x. getD ms x false) xs
+abbrev pub anyMarked : List Bool → List ℕ → Bool
+anyMarked ms = anyIs ms true
 
 unfoldable pub tallied : List Bool → List ℕ → ℕ
 tallied ms [] = 0

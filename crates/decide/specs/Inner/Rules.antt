@@ -1,32 +1,30 @@
 -- What the walks over the rules and the constraints of an image look for.
---     rulesIn l             the rules of an image
 --     mayAt l at c a        what the condition, the class and the action of the rule at a place let through
 --     liveAt l at           the rule at a place is live
+--     AtRule l ps at live   a rule stands at a place, and it is live or not
 --     foundOf o             what a search answers, as the code's `Found`
 --     firstRule l q         the lowest rule that covers a query
 --     firstConstraint l q   the lowest constraint that fails
 --     reaching ms a         a live rule whose destination touches marks
---     wanted ms f a         such a rule, whose source passes a test: `strays`, one that breaks a roster by its second argument
---                           and list, and `friend`, one that a companion wants
---     pairedIn l ms s       a live rule whose destination touches marks has s for its source
+--     reachingFrom ms f a   such a rule, whose source passes a test
+--     sharesSource l ms s   a rule that reaches marks has s for its source
 use Prim.Native.Nat.{ℕ, _+_}
-use mathlib.Core.Bool.{Bool, true, false, not, _&&_, cond}
+use mathlib.Core.Path.{_≡_}
+use mathlib.Core.Bool.{Bool, true, false, _&&_, cond}
 use mathlib.Core.Option.{Option, none, some}
-use mathlib.Core.List.{List, map}
+use mathlib.Core.List.{List}
 use lib.ListN.{getD}
 use lib.Dec.{eqb}
 use Rattle.format.specs.Bytes.{wordAt}
 use Rattle.format.specs.Policy.{policyOf}
 use Rattle.decision.specs.declared.Query.{Query}
 use Rattle.decision.specs.Sets.{anyOf, sameSet}
-use Rattle.decision.specs.Decide.{Rule, ruleOf, constraintOf, requestOf, live, covers, fails, firstAt}
+use Rattle.decision.specs.Reading.{Rule, live, constraintsOf}
+use Rattle.decision.specs.Decide.{covers, fails, firstAt}
 use Rattle.decide.specs.declared.cover.Found.{Found}
 use Rattle.decide.specs.declared.cover.Found.the-variants.{At, Nothing}
-use Rattle.decide.specs.Inner.Spans.{groupsIn}
-use Rattle.decide.specs.Inner.Marks.{anyMarked, allMarked}
-
-unfoldable pub rulesIn : List ℕ → List Rule
-rulesIn l = map (ruleOf (groupsIn l)) (policyOf l .rules)
+use Rattle.decide.specs.Inner.Parts.{Known, RuleHere, rulesIn, requestIn}
+use Rattle.decide.specs.Inner.Marks.{anyMarked}
 
 unfoldable pub mayAt : List ℕ → ℕ → ℕ → ℕ → Bool
 mayAt l at class action =
@@ -36,28 +34,26 @@ mayAt l at class action =
 unfoldable pub liveAt : List ℕ → ℕ → Bool
 liveAt l at = cond (eqb (getD l (at + 1) 0) 2) (eqb (getD l (at + 10) 0) 1) false
 
+pub record AtRule (l ps : List ℕ) (at : ℕ) (live : Bool) : Type 0 where
+  pub known : Known l ps
+  pub here : RuleHere l at
+  pub is : live ≡ liveAt l at
+
 unfoldable pub foundOf : Option ℕ → Found
 foundOf none = Nothing
 foundOf (some n) = At n
 
 unfoldable pub firstRule : List ℕ → Query → Found
-firstRule l q = foundOf (firstAt (covers (requestOf (groupsIn l) q)) 0 (map (ruleOf (groupsIn l)) (policyOf l .rules)))
+firstRule l q = foundOf (firstAt (covers (requestIn l q)) 0 (rulesIn l))
 
 unfoldable pub firstConstraint : List ℕ → Query → Found
-firstConstraint l q =
-    foundOf (firstAt (fails (rulesIn l) (requestOf (groupsIn l) q)) 0 (map (constraintOf (groupsIn l)) (policyOf l .constraints)))
+firstConstraint l q = foundOf (firstAt (fails (rulesIn l) (requestIn l q)) 0 (constraintsOf (policyOf l)))
 
 unfoldable pub reaching : List Bool → Rule → Bool
 reaching ms a = live a && anyMarked ms (a .dest)
 
-unfoldable pub wanted : List Bool → (List ℕ → Bool) → Rule → Bool
-wanted ms f a = live a && anyMarked ms (a .dest) && f (a .source)
+unfoldable pub reachingFrom : List Bool → (List ℕ → Bool) → Rule → Bool
+reachingFrom ms f a = reaching ms a && f (a .source)
 
-abbrev pub strays : List Bool → List Bool → Rule → Bool
-strays second list = wanted second (λ s. not (allMarked list s))
-
-abbrev pub friend : List Bool → List Bool → Rule → Bool
-friend first second = wanted first (anyMarked second)
-
-unfoldable pub pairedIn : List ℕ → List Bool → List ℕ → Bool
-pairedIn l second s = anyOf (wanted second (sameSet s)) (rulesIn l)
+unfoldable pub sharesSource : List ℕ → List Bool → List ℕ → Bool
+sharesSource l ms s = anyOf (reachingFrom ms (sameSet s)) (rulesIn l)

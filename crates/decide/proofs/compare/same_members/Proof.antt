@@ -3,11 +3,11 @@ use native.Mathlib.Omega.{arith}
 use Prim.Native.Nat.{suc, _+_, _-_, _*_, _≤_}
 use mathlib.Core.Path.{_≡_, refl, sym, _∙_}
 use lib.ListN.{length}
-use Rattle.format.specs.Inner.Places.{wordsAt}
 use Rattle.decide.specs.Inner.Names.{sameList}
 use Rattle.decide.proofs.CompareLaws.{list-end, list-short, list-differ, list-next}
 use Rattle.decide.proofs.compare.same_members.Statement.{statement}
 use Rattle.decide.proofs.compare.same_members.Tie as tie
+use Rattle.format.specs.Inner.Places.{wordsAt}
 
 abbrev Inv-loop : tie.InvT-loop
 Inv-loop image i₀ j₀ left₀ right₀ i j left right = (i + 2 * left ≤ length image) × (j + 2 * right ≤ length image) × (sameList (wordsAt image left₀ i₀) (wordsAt image right₀ j₀) ≡ sameList (wordsAt image left i) (wordsAt image right j))
@@ -23,38 +23,17 @@ returns c = let L = c .before .before .loop in
     let e : L .left ≡ suc (L .left - 1) = omega arith in
     sym (c .before .before .loop .inv .2 ∙ list-short _ _ _ _ _ _ e (c .if1 .taken))
 
-word-at-requires : tie.Need-word-at-requires Inv-loop μ-loop
-word-at-requires c κs = omega arith
-
-word-at-requires-2 : tie.Need-word-at-requires-2 Inv-loop μ-loop
-word-at-requires-2 c κs = omega arith
-
 returns-2 : tie.Need-returns-2 Inv-loop μ-loop
 returns-2 c = let L = c .before .before .before .before .before .loop in
     let e : L .left ≡ suc (L .left - 1) = omega arith in
     let f : L .right ≡ suc (L .right - 1) = omega arith in
-    sym (c .before .before .before .before .before .loop .inv .2 ∙ list-differ _ _ _ _ _ _ e _ f _ _ (c .before .before .word-at .ensures .0) (c .before .word-at2 .ensures .0) (c .if2 .taken))
-
-add-i : tie.Need-add-i Inv-loop μ-loop
-add-i c = omega arith
-
-add-j : tie.Need-add-j Inv-loop μ-loop
-add-j c = omega arith
-
-sub-left : tie.Need-sub-left Inv-loop μ-loop
-sub-left c = omega arith
-
-sub-right : tie.Need-sub-right Inv-loop μ-loop
-sub-right c = omega arith
-
-loop-less : tie.Need-loop-less Inv-loop μ-loop
-loop-less c = omega arith
+    sym (c .before .before .before .before .before .loop .inv .2 ∙ list-differ _ _ _ _ _ _ e _ f _ _ (c .before .before .word-in .ensures .0) (c .before .word-in2 .ensures .0) (c .if2 .taken))
 
 loop-again : tie.Need-loop-again Inv-loop μ-loop
 loop-again c = let L = c .before .before .before .before .before .loop in
     let e : L .left ≡ suc (L .left - 1) = omega arith in
     let f : L .right ≡ suc (L .right - 1) = omega arith in
-    (omega arith, omega arith, L .inv .2 ∙ list-next _ _ _ _ _ _ e _ f _ _ (c .before .before .word-at .ensures .0) (c .before .word-at2 .ensures .0) (c .if2 .left))
+    (omega arith, omega arith, L .inv .2 ∙ list-next _ _ _ _ _ _ e _ f _ _ (c .before .before .word-in .ensures .0) (c .before .word-in2 .ensures .0) (c .if2 .left))
 
 returns-3 : tie.Need-returns-3 Inv-loop μ-loop
 returns-3 c = sym (c .before .loop .inv .2 ∙ list-end _ _ _ _ _ (omega arith))
@@ -67,13 +46,13 @@ same-members-spec =
     μ-loop
     loop-holds
     returns
-    word-at-requires
-    word-at-requires-2
+    (λ c κs. omega arith)
+    (λ c κs. omega arith)
     returns-2
-    add-i
-    add-j
-    sub-left
-    sub-right
-    loop-less
+    (λ c. omega arith)
+    (λ c. omega arith)
+    (λ c. omega arith)
+    (λ c. omega arith)
+    (λ c. omega arith)
     loop-again
     returns-3)

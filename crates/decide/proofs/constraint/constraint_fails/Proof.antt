@@ -1,79 +1,125 @@
 -- `constraint_fails` meets its contract: a test that fails settles it, and the predicate has the last word. Assumes nothing.
 use native.Mathlib.Omega.{arith}
-use borrow.Author.Needs.{needs}
-use mathlib.Core.Path.{sym, _∙_}
+use Prim.Native.Nat.{_+_}
+use mathlib.Core.Path.{_≡_, sym, ap, _∙_}
+use denote.Ref.{now}
 use borrow.Author.Tests.{not-true, not-false}
-use Rattle.decision.specs.Decide.{requestOf}
-use Rattle.decide.proofs.TypeLaws.{set-rising}
-use Rattle.decide.proofs.SetLaws.{full-within}
+use Rattle.format.specs.Bytes.{wordAt}
+use Rattle.decision.specs.Sets.{within}
+use Rattle.decision.specs.Decide.{broken, fails}
+use Rattle.decide.specs.Inner.Parts.{rulesIn, constraintIn, requestIn, setIn, setAt}
+use Rattle.decide.specs.Inner.Kept.{verdictOf}
+use Rattle.decide.proofs.PartLaws.{constraint-first, constraint-second}
+use Rattle.decide.proofs.KeptLaws.{kept-says, kept-adds, with-source, with-dest, side-within}
 use Rattle.decide.proofs.ConstraintLaws.{fails-class, fails-action, fails-first, fails-second, fails-broken}
+use borrow.Author.Needs.{needs}
 use Rattle.decide.proofs.constraint.constraint_fails.Statement.{statement}
 use Rattle.decide.proofs.constraint.constraint_fails.Tie as tie
 
-add-word-at : tie.Need-add-word-at
-add-word-at c = let h = c .before .pre .3 in omega (arith, h .long, h .here .inside)
+-- what the tests that were passed say
+same-class : (d : tie.Else1) → wordAt (now (d .before .before .before .before .args .image)) (d .before .before .before .before .args .at + 2) ≡ d .before .before .before .before .args .q .class
+same-class d = sym (d .before .before .word-in .ensures .0) ∙ d .if1 .left ∙ d .before .wide-word .ensures
 
-word-at-requires : tie.Need-word-at-requires
-word-at-requires c κs = let h = c .before .pre .3 in omega (arith, h .long, h .here .inside)
+same-action : (d : tie.Else2) → wordAt (now (d .before .before .before .before .before .before .before .args .image)) (d .before .before .before .before .before .before .before .args .at + 4) ≡ d .before .before .before .before .before .before .before .args .q .action
+same-action d = sym (d .before .before .word-in2 .ensures .0) ∙ d .if2 .left ∙ d .before .wide-word2 .ensures
 
-wide-word-requires : tie.Need-wide-word-requires
-wide-word-requires c κs = search needs
+first-told : (d : tie.After-inside) → within (setIn (now (d .before .before .before .before .before .before .before .before .before .args .image)) (d .before .before .before .before .before .before .before .before .before .args .q .source)) (setAt (now (d .before .before .before .before .before .before .before .before .before .args .image)) (d .before .before .before .before .before .before .before .before .before .args .at + 6)) ≡ d .inside .result
+first-told d = let p = d .before .before .before .before .before .before .before .before .before .pre in side-within (p .1 .source) (p .0 .known .accepted) (constraint-first _ _ _ (p .2 .here)) _ (d .inside .ensures .is)
+
+second-told : (d : tie.After-inside2) → within (setIn (now (d .before .before .before .before .before .before .before .before .before .before .before .before .args .image)) (d .before .before .before .before .before .before .before .before .before .before .before .before .args .q .dest)) (setAt (now (d .before .before .before .before .before .before .before .before .before .before .before .before .args .image)) (d .before .before .before .before .before .before .before .before .before .before .before .before .args .at + 8)) ≡ d .inside2 .result
+second-told d = let p = d .before .before .before .before .before .before .before .before .before .before .before .before .pre in side-within (p .1 .dest) (p .0 .known .accepted) (constraint-second _ _ _ (p .2 .here)) _ (d .inside2 .ensures .is)
+
+add-word-in : tie.Need-add-word-in
+add-word-in c = let h = c .before .pre .2 .here in omega (arith, h .long, h .here .inside)
+
+word-in-requires : tie.Need-word-in-requires
+word-in-requires c κs = let h = c .before .pre .2 .here in omega (arith, h .long, h .here .inside)
 
 returns : tie.Need-returns
-unfolding requestOf
-returns c = let a = c .before .before .before .before in (sym (fails-class _ _ _ (a .pre .3) _ _ _ _ (c .before .before .word-at .ensures .0) (c .before .wide-word .ensures) (c .if1 .taken)), a .pre .6, a .pre .7, a .pre .8)
+returns c = let p = c .before .before .before .before .pre in record { is = sym (fails-class _ _ _ (p .2 .here) _ (λ e. c .if1 .taken (c .before .before .word-in .ensures .0 ∙ e ∙ sym (c .before .wide-word .ensures)))); kept = (p .1, p .3) }
 
-add-word-at-2 : tie.Need-add-word-at-2
-add-word-at-2 c = let h = c .before .before .before .before .pre .3 in omega (arith, h .long, h .here .inside)
+add-word-in-2 : tie.Need-add-word-in-2
+add-word-in-2 c = let h = c .before .before .before .before .pre .2 .here in omega (arith, h .long, h .here .inside)
 
-word-at-requires-2 : tie.Need-word-at-requires-2
-word-at-requires-2 c κs = let h = c .before .before .before .before .pre .3 in omega (arith, h .long, h .here .inside)
-
-wide-word-requires-2 : tie.Need-wide-word-requires-2
-wide-word-requires-2 c κs = search needs
+word-in-requires-2 : tie.Need-word-in-requires-2
+word-in-requires-2 c κs = let h = c .before .before .before .before .pre .2 .here in omega (arith, h .long, h .here .inside)
 
 returns-2 : tie.Need-returns-2
-unfolding requestOf
-returns-2 c = let a = c .before .before .before .before .before .before .before in (sym (fails-action _ _ _ (a .pre .3) _ _ _ _ (c .before .before .before .before .before .word-at .ensures .0) (c .before .before .before .before .wide-word .ensures) (c .before .before .before .if1 .left) _ _ (c .before .before .word-at2 .ensures .0) (c .before .wide-word2 .ensures) (c .if2 .taken)), a .pre .6, a .pre .7, a .pre .8)
+returns-2 c = let p = c .before .before .before .before .before .before .before .pre in record { is = sym (fails-action _ _ _ (p .2 .here) _ (same-class (c .before .before .before)) (λ e. c .if2 .taken (c .before .before .word-in2 .ensures .0 ∙ e ∙ sym (c .before .wide-word2 .ensures)))); kept = (p .1, p .3) }
 
 add-inside : tie.Need-add-inside
-add-inside c = let h = c .before .before .before .before .before .before .before .pre .3 in omega (arith, h .long, h .here .inside)
+add-inside c = let h = c .before .before .before .before .before .before .before .pre .2 .here in omega (arith, h .long, h .here .inside)
 
 inside-requires : tie.Need-inside-requires
-inside-requires c κs = let p = c .before .before .before .before .before .before .before .before .pre in (p .0, p .1, omega (arith, p .3 .long, p .3 .here .inside), p .3 .first, p .6)
+inside-requires c κs = let p = c .before .before .before .before .before .before .before .before .pre in (p .0 .known, constraint-first _ _ _ (p .2 .here), p .1 .source .kept)
 
 returns-3 : tie.Need-returns-3
-unfolding requestOf
-returns-3 c = let a = c .before .before .before .before .before .before .before .before .before .before in (sym (fails-first _ _ _ (a .pre .3) _ _ _ _ (c .before .before .before .before .before .before .before .before .word-at .ensures .0) (c .before .before .before .before .before .before .before .wide-word .ensures) (c .before .before .before .before .before .before .if1 .left) _ _ (c .before .before .before .before .before .word-at2 .ensures .0) (c .before .before .before .before .wide-word2 .ensures) (c .before .before .before .if2 .left) (sym (c .before .inside .ensures .0 ∙ full-within _ _ _ (a .pre .4) _ (set-rising _ _ (a .pre .0) (a .pre .3 .first))) ∙ not-true _ (c .if3 .taken))), c .before .inside .ensures .1, a .pre .7, a .pre .8)
+returns-3 c = let p = c .before .before .before .before .before .before .before .before .before .before .pre in
+    record {
+      is = sym (fails-first _ _ _ (p .2 .here) _ (same-class (c .before .before .before .before .before .before)) (same-action (c .before .before .before)) (first-told (c .before) ∙ not-true _ (c .if3 .taken)));
+      kept = (with-source (p .1) (c .before .inside .ensures .kept), p .3);
+    }
 
 add-inside-2 : tie.Need-add-inside-2
-add-inside-2 c = let h = c .before .before .before .before .before .before .before .before .before .before .pre .3 in omega (arith, h .long, h .here .inside)
+add-inside-2 c = let h = c .before .before .before .before .before .before .before .before .before .before .pre .2 .here in omega (arith, h .long, h .here .inside)
 
 inside-requires-2 : tie.Need-inside-requires-2
-inside-requires-2 c κs = let p = c .before .before .before .before .before .before .before .before .before .before .before .pre in (p .0, p .1, omega (arith, p .3 .long, p .3 .here .inside), p .3 .second, p .7)
+inside-requires-2 c κs = let p = c .before .before .before .before .before .before .before .before .before .before .before .pre in (p .0 .known, constraint-second _ _ _ (p .2 .here), p .1 .dest .kept)
 
 returns-4 : tie.Need-returns-4
-unfolding requestOf
-returns-4 c = let a = c .before .before .before .before .before .before .before .before .before .before .before .before .before in (sym (fails-second _ _ _ (a .pre .3) _ _ _ _ (c .before .before .before .before .before .before .before .before .before .before .before .word-at .ensures .0) (c .before .before .before .before .before .before .before .before .before .before .wide-word .ensures) (c .before .before .before .before .before .before .before .before .before .if1 .left) _ _ (c .before .before .before .before .before .before .before .before .word-at2 .ensures .0) (c .before .before .before .before .before .before .before .wide-word2 .ensures) (c .before .before .before .before .before .before .if2 .left) (sym (c .before .before .before .before .inside .ensures .0 ∙ full-within _ _ _ (a .pre .4) _ (set-rising _ _ (a .pre .0) (a .pre .3 .first))) ∙ not-false _ (c .before .before .before .if3 .left)) (sym (c .before .inside2 .ensures .0 ∙ full-within _ _ _ (a .pre .5) _ (set-rising _ _ (a .pre .0) (a .pre .3 .second))) ∙ not-true _ (c .if4 .taken))), c .before .before .before .before .inside .ensures .1, c .before .inside2 .ensures .1, a .pre .8)
+returns-4 c = let p = c .before .before .before .before .before .before .before .before .before .before .before .before .before .pre in
+    record {
+      is =
+          sym
+          (fails-second _ _ _ (p .2 .here) _ (same-class (c .before .before .before .before .before .before .before .before .before)) (same-action (c .before .before .before .before .before .before)) (first-told (c .before .before .before .before) ∙ not-false _ (c .before .before .before .if3 .left)) (second-told (c .before) ∙ not-true _ (c .if4 .taken)));
+      kept = (with-dest (with-source (p .1) (c .before .before .before .before .inside .ensures .kept)) (c .before .inside2 .ensures .kept), p .3);
+    }
 
-predicate-fails-requires : tie.Need-predicate-fails-requires
-predicate-fails-requires c κs = let p = c .before .before .before .before .before .before .before .before .before .before .before .before .before .before .pre in (p .0, p .1, p .2, p .3, p .8)
+-- the predicate of the constraint at the place is that of constraint n
+by-place : (d : tie.Else4) → broken (rulesIn (now (d .before .before .before .before .before .before .before .before .before .before .before .before .before .args .image))) (constraintIn (now (d .before .before .before .before .before .before .before .before .before .before .before .before .before .args .image)) (d .before .before .before .before .before .before .before .before .before .before .before .before .before .args .at)) ≡ verdictOf (now (d .before .before .before .before .before .before .before .before .before .before .before .before .before .args .image)) (d .before .before .before .before .before .before .before .before .before .before .before .before .before .args .n)
+by-place d = let a = d .before .before .before .before .before .before .before .before .before .before .before .before .before in ap (λ x. broken (rulesIn (now (a .args .image))) (constraintIn (now (a .args .image)) x)) (a .pre .2 .place)
+
+-- what is left to the predicate
+by-rules : (d : tie.Else4) → fails (rulesIn (now (d .before .before .before .before .before .before .before .before .before .before .before .before .before .args .image))) (requestIn (now (d .before .before .before .before .before .before .before .before .before .before .before .before .before .args .image)) (d .before .before .before .before .before .before .before .before .before .before .before .before .before .args .q)) (constraintIn (now (d .before .before .before .before .before .before .before .before .before .before .before .before .before .args .image)) (d .before .before .before .before .before .before .before .before .before .before .before .before .before .args .at)) ≡ verdictOf (now (d .before .before .before .before .before .before .before .before .before .before .before .before .before .args .image)) (d .before .before .before .before .before .before .before .before .before .before .before .before .before .args .n)
+by-rules d =
+    fails-broken _ _ _ (d .before .before .before .before .before .before .before .before .before .before .before .before .before .pre .2 .here) _ (same-class (d .before .before .before .before .before .before .before .before .before)) (same-action (d .before .before .before .before .before .before)) (first-told (d .before .before .before .before) ∙ not-false _ (d .before .before .before .if3 .left)) (second-told (d .before) ∙ not-false _ (d .if4 .left))
+    ∙ by-place d
+
+element-copy-out-k : tie.Need-element-copy-out-k
+element-copy-out-k c = c .before .before .before .before .before .before .before .before .before .before .before .before .before .pre .2 .few
 
 returns-5 : tie.Need-returns-5
-unfolding requestOf
-returns-5 c = let a = c .before .before .before .before .before .before .before .before .before .before .before .before .before .before .before in (c .predicate-fails .ensures .0 ∙ sym (fails-broken _ _ _ (a .pre .3) _ _ _ _ (c .before .before .before .before .before .before .before .before .before .before .before .before .before .word-at .ensures .0) (c .before .before .before .before .before .before .before .before .before .before .before .before .wide-word .ensures) (c .before .before .before .before .before .before .before .before .before .before .before .if1 .left) _ _ (c .before .before .before .before .before .before .before .before .before .before .word-at2 .ensures .0) (c .before .before .before .before .before .before .before .before .before .wide-word2 .ensures) (c .before .before .before .before .before .before .before .before .if2 .left) (sym (c .before .before .before .before .before .before .inside .ensures .0 ∙ full-within _ _ _ (a .pre .4) _ (set-rising _ _ (a .pre .0) (a .pre .3 .first))) ∙ not-false _ (c .before .before .before .before .before .if3 .left)) (sym (c .before .before .before .inside2 .ensures .0 ∙ full-within _ _ _ (a .pre .5) _ (set-rising _ _ (a .pre .0) (a .pre .3 .second))) ∙ not-false _ (c .before .before .if4 .left))), c .before .before .before .before .before .before .inside .ensures .1, c .before .before .before .inside2 .ensures .1, c .predicate-fails .ensures .1)
+returns-5 c = let a = c .before .before .before .before .before .before .before .before .before .before .before .before .before .before .before in
+    let d = c .before .before in
+    record { is = kept-says (verdictOf (now (a .args .image))) _ (a .pre .3 .verdicts) _ (c .if5 .taken) ∙ sym (by-rules d); kept = (with-dest (with-source (a .pre .1) (d .before .before .before .before .inside .ensures .kept)) (d .before .inside2 .ensures .kept), a .pre .3) }
+
+predicate-broken-requires : tie.Need-predicate-broken-requires
+predicate-broken-requires c κs = let p = c .before .before .before .before .before .before .before .before .before .before .before .before .before .before .before .before .pre in (p .0, p .2 .here, p .3 .names)
+
+keep-requires : tie.Need-keep-requires
+keep-requires c κs = c .before .before .before .before .before .before .before .before .before .before .before .before .before .before .before .before .before .before .pre .2 .few
+
+returns-6 : tie.Need-returns-6
+returns-6 c = let a = c .before .before .before .before .before .before .before .before .before .before .before .before .before .before .before .before .before .before .before in
+    let d = c .before .before .before .before .before .before in
+    let k = c .before .before .predicate-broken .ensures in
+    let e = k .is ∙ by-place d in
+    record {
+      is = c .keep .ensures .0 ∙ e ∙ sym (by-rules d);
+      kept = (with-dest (with-source (a .pre .1) (d .before .before .before .before .inside .ensures .kept)) (d .before .inside2 .ensures .kept), record { names = k .kept; verdicts = rw (c .keep .ensures .1) (kept-adds (verdictOf (now (a .args .image))) _ (a .pre .3 .verdicts) _ _ e) });
+    }
 
 pub constraint-fails-spec : {M : Type 1} → statement M
 constraint-fails-spec =
     tie.close
     (tie.spec
-    add-word-at
-    word-at-requires
-    wide-word-requires
+    add-word-in
+    word-in-requires
+    (λ c κs. search needs)
     returns
-    add-word-at-2
-    word-at-requires-2
-    wide-word-requires-2
+    add-word-in-2
+    word-in-requires-2
+    (λ c κs. search needs)
     returns-2
     add-inside
     inside-requires
@@ -81,5 +127,8 @@ constraint-fails-spec =
     add-inside-2
     inside-requires-2
     returns-4
-    predicate-fails-requires
-    returns-5)
+    element-copy-out-k
+    returns-5
+    predicate-broken-requires
+    keep-requires
+    returns-6)

@@ -1,66 +1,59 @@
 -- `meets` meets its contract: what is kept of a group is what a walk over it would answer. Assumes nothing.
-use native.Mathlib.Omega.{arith}
-use mathlib.Core.Path.{refl, sym, _∙_}
+use Prim.Native.Nat.{_-_}
+use mathlib.Core.Path.{_≡_, ap, _∙_}
 use denote.Ref.{now}
-use Rattle.decide.specs.Inner.Marks.{anyMarked}
-use Rattle.decide.proofs.TypeLaws.{few-groups, group-number, span-rising, span-told, kept-no, kept-yes, kept-more}
+use Rattle.decide.specs.Inner.Parts.{Spans, groupSet, setAt}
+use Rattle.decide.specs.Inner.Marks.{anyIs}
+use Rattle.decide.proofs.TypeLaws.{span-basic, span-rising, span-told, group-number, group-few, group-is}
+use Rattle.decide.proofs.KeptLaws.{kept-says, kept-adds}
 use borrow.Author.Needs.{needs}
 use Rattle.decide.proofs.kept.meets.Statement.{statement}
 use Rattle.decide.proofs.kept.meets.Tie as tie
 
-word-at-requires : tie.Need-word-at-requires
-word-at-requires c κs = search needs
+-- a basic type is its own member, and a group's number is counted from 32,768 on
+basic : (d : tie.Then1) → Spans (now (d .before .before .before .args .image)) (d .before .before .before .args .at) 1 (setAt (now (d .before .before .before .args .image)) (d .before .before .before .args .at))
+basic d = let p = d .before .before .before .pre in span-basic _ _ _ _ (p .0) (p .1) (d .before .word-in .ensures .0) (d .if1 .taken)
 
-members-requires : tie.Need-members-requires
-members-requires c κs = search needs
+same : (d : tie.Else1) → groupSet (now (d .before .before .before .args .image)) (d .before .word-in .result - 32768) ≡ setAt (now (d .before .before .before .args .image)) (d .before .before .before .args .at)
+same d = let p = d .before .before .before .pre in group-is _ _ _ _ (p .0) (p .1) (d .before .word-in .ensures .0) (d .if1 .left)
 
-any-marked-requires : tie.Need-any-marked-requires
-any-marked-requires c κs = let s = c .before .members .ensures in (s .room, span-rising _ _ _ _ s)
+any-is-requires : tie.Need-any-is-requires
+any-is-requires c κs = let s = basic c in (s .room, span-rising _ _ _ _ s)
 
 returns : tie.Need-returns
-returns c = let a = c .before .before .before .before .before in (span-told _ _ _ _ (c .before .before .members .ensures) (anyMarked (now (a .args .marks))) _ (c .any-marked .ensures), a .pre .4)
+returns c = let a = c .before .before .before .before in record { is = span-told _ _ _ _ (basic (c .before)) (anyIs (now (a .args .marks)) (a .args .value)) _ (c .any-is .ensures); kept = a .pre .2 }
 
 element-copy-out-k : tie.Need-element-copy-out-k
-element-copy-out-k c = let a = c .before .before .before .before in omega (arith, group-number _ _ _ (c .before .before .word-at .ensures .0) (a .pre .2) (a .pre .3) _ (a .pre .0) (a .pre .1) (c .if1 .left), few-groups _ (a .pre .0))
+element-copy-out-k c = let p = c .before .before .before .pre in group-few _ _ _ _ (p .0) (p .1) (c .before .word-in .ensures .0) (c .if1 .left)
 
 returns-2 : tie.Need-returns-2
-returns-2 c = let a = c .before .before .before .before .before .before in (kept-no (anyMarked (now (a .args .marks))) _ _ (a .pre .4) _ _ (c .before .before .before .before .word-at .ensures .0) (c .before .before .if1 .left) (c .if2 .taken), a .pre .4)
+returns-2 c = let a = c .before .before .before .before .before in record { is = kept-says (λ g. anyIs (now (a .args .marks)) (a .args .value) (groupSet (now (a .args .image)) g)) _ (a .pre .2) _ (c .if2 .taken) ∙ ap (anyIs (now (a .args .marks)) (a .args .value)) (same (c .before .before)); kept = a .pre .2 }
+
+group-span-requires : tie.Need-group-span-requires
+group-span-requires c κs = let p = c .before .before .before .before .before .pre in (p .0, group-number _ _ _ _ (p .0) (p .1) (c .before .before .before .word-in .ensures .0) (c .before .before .if1 .left))
+
+any-is-requires-2 : tie.Need-any-is-requires-2
+any-is-requires-2 c κs = let s = c .group-span .ensures in (s .room, span-rising _ _ _ _ s)
+
+keep-requires : tie.Need-keep-requires
+keep-requires c κs = let d = c .before .before .before .before .before in let p = d .before .before .before .pre in group-few _ _ _ _ (p .0) (p .1) (d .before .word-in .ensures .0) (d .if1 .left)
 
 returns-3 : tie.Need-returns-3
-returns-3 c = let a = c .before .before .before .before .before .before .before in (kept-yes (anyMarked (now (a .args .marks))) _ _ (a .pre .4) _ _ (c .before .before .before .before .before .word-at .ensures .0) (c .before .before .before .if1 .left) (c .if3 .taken), a .pre .4)
-
-any-marked-requires-2 : tie.Need-any-marked-requires-2
-any-marked-requires-2 c κs = let s = c .before .before .before .before .members .ensures in (s .room, span-rising _ _ _ _ s)
-
-element-write-told : tie.Need-element-write-told
-element-write-told c = let a = c .before .before .before .before .before .before .before .before .before in omega (arith, group-number _ _ _ (c .before .before .before .before .before .before .before .word-at .ensures .0) (a .pre .2) (a .pre .3) _ (a .pre .0) (a .pre .1) (c .before .before .before .before .before .if1 .left), few-groups _ (a .pre .0))
-
-element-write-told-2 : tie.Need-element-write-told-2
-element-write-told-2 c = let a = c .before .before .before .before .before .before .before .before .before in omega (arith, group-number _ _ _ (c .before .before .before .before .before .before .before .word-at .ensures .0) (a .pre .2) (a .pre .3) _ (a .pre .0) (a .pre .1) (c .before .before .before .before .before .if1 .left), few-groups _ (a .pre .0))
-
-returns-4 : tie.Need-returns-4
-returns-4 c = let a = c .before .before .before .before .before .before .before .before .before in
-    let e = sym (c .if4 .taken) ∙ span-told _ _ _ _ (c .before .before .before .before .before .before .members .ensures) (anyMarked (now (a .args .marks))) _ (c .before .any-marked2 .ensures) in
-    (e, kept-more (anyMarked (now (a .args .marks))) _ _ (a .pre .4) _ _ (c .before .before .before .before .before .before .before .word-at .ensures .0) (c .before .before .before .before .before .if1 .left) 2 _ e (λ z. absurd (omega arith)) (λ z. refl))
-
-returns-5 : tie.Need-returns-5
-returns-5 c = let a = c .before .before .before .before .before .before .before .before .before in
-    let e = sym (c .if4 .left) ∙ span-told _ _ _ _ (c .before .before .before .before .before .before .members .ensures) (anyMarked (now (a .args .marks))) _ (c .before .any-marked2 .ensures) in
-    (e, kept-more (anyMarked (now (a .args .marks))) _ _ (a .pre .4) _ _ (c .before .before .before .before .before .before .before .word-at .ensures .0) (c .before .before .before .before .before .if1 .left) 1 _ e (λ z. refl) (λ z. absurd (omega arith)))
+returns-3 c = let d = c .before .before .before .before .before .before in
+    let a = d .before .before .before in
+    let e = span-told _ _ _ _ (c .before .before .before .group-span .ensures) (anyIs (now (a .args .marks)) (a .args .value)) _ (c .before .before .any-is2 .ensures) in
+    record { is = c .keep .ensures .0 ∙ e ∙ ap (anyIs (now (a .args .marks)) (a .args .value)) (same d); kept = rw (c .keep .ensures .1) (kept-adds (λ g. anyIs (now (a .args .marks)) (a .args .value) (groupSet (now (a .args .image)) g)) _ (a .pre .2) _ _ e) }
 
 pub meets-spec : {M : Type 1} → statement M
 meets-spec =
     tie.close
     (tie.spec
-    word-at-requires
-    members-requires
-    any-marked-requires
+    (λ c κs. search needs)
+    any-is-requires
     returns
     element-copy-out-k
     returns-2
-    returns-3
-    any-marked-requires-2
-    element-write-told
-    element-write-told-2
-    returns-4
-    returns-5)
+    group-span-requires
+    any-is-requires-2
+    keep-requires
+    returns-3)

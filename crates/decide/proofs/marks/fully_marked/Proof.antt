@@ -21,29 +21,14 @@ abbrev μ-loop : tie.MeasureT-loop
 loop-holds : tie.Need-loop-holds Inv-loop μ-loop
 loop-holds c = (c .before .pre .0, c .before .pre .1, omega arith, omega arith)
 
-word-at-requires : tie.Need-word-at-requires Inv-loop μ-loop
-word-at-requires c κs = omega arith
-
 element-copy-out-if1 : tie.Need-element-copy-out-if1 Inv-loop μ-loop
-element-copy-out-if1 c = let L = c .before .before .loop in let e : L .left ≡ suc (L .left - 1) = omega arith in omega (arith, walk-small _ _ _ _ e (L .inv .1), c .word-at .ensures .0)
-
-add-hits : tie.Need-add-hits Inv-loop μ-loop
-add-hits c = omega arith
-
-add-at : tie.Need-add-at Inv-loop μ-loop
-add-at c = omega arith
-
-sub-left : tie.Need-sub-left Inv-loop μ-loop
-sub-left c = omega arith
-
-loop-less : tie.Need-loop-less Inv-loop μ-loop
-loop-less c = omega arith
+element-copy-out-if1 c = let L = c .before .before .loop in let e : L .left ≡ suc (L .left - 1) = omega arith in omega (arith, walk-small _ _ _ _ e (L .inv .1), c .word-in .ensures .0)
 
 loop-again : tie.Need-loop-again Inv-loop μ-loop
 loop-again c = let L = c .before .before .before .before .loop in let e : L .left ≡ suc (L .left - 1) = omega arith in
     ⊎-elim
-    (λ w. (omega arith, walk-rest _ _ _ _ e (L .inv .1), hits-on (L .hits) _ _ (L .inv .2) (tally-yes _ _ _ _ _ e _ (c .before .before .word-at .ensures .0) (w .0 .taken)) (w .1), omega arith))
-    (λ w. (omega arith, walk-rest _ _ _ _ e (L .inv .1), hits-off (L .hits) _ _ (L .inv .2) (tally-no _ _ _ _ _ e _ (c .before .before .word-at .ensures .0) (w .0 .left)) (w .1), omega arith))
+    (λ w. (omega arith, walk-rest _ _ _ _ e (L .inv .1), hits-on (L .hits) _ _ (L .inv .2) (tally-yes _ _ _ _ _ e _ (c .before .before .word-in .ensures .0) (w .0 .taken)) (w .1), omega arith))
+    (λ w. (omega arith, walk-rest _ _ _ _ e (L .inv .1), hits-off (L .hits) _ _ (L .inv .2) (tally-no _ _ _ _ _ e _ (c .before .before .word-in .ensures .0) (w .0 .left)) (w .1), omega arith))
     (c .if1 .came)
 
 returns : tie.Need-returns Inv-loop μ-loop
@@ -61,11 +46,11 @@ fully-marked-spec =
     Inv-loop
     μ-loop
     loop-holds
-    word-at-requires
+    (λ c κs. omega arith)
     element-copy-out-if1
-    add-hits
-    add-at
-    sub-left
-    loop-less
+    (λ c. omega arith)
+    (λ c. omega arith)
+    (λ c. omega arith)
+    (λ c. omega arith)
     loop-again
     returns)

@@ -7,8 +7,7 @@ use denote.Ref.{now}
 use lib.ListN.{getD}
 use Rattle.format.specs.declared.Section.the-variants.{Groups}
 use Rattle.format.specs.Format.{countOf}
-use Rattle.decision.specs.Sets.{setOf}
-use Rattle.decide.specs.Inner.Spans.{groupsIn}
+use Rattle.decide.specs.Inner.Parts.{groupsIn, groupSet}
 use Rattle.decide.specs.Inner.Names.{sameList, twinFrom, keyOf, nameOf}
 use Rattle.decide.proofs.TypeLaws.{few-groups}
 use Rattle.decide.proofs.CompareLaws.{same-both}
@@ -17,35 +16,35 @@ use Rattle.decide.proofs.names.find_name.Statement.{statement}
 use Rattle.decide.proofs.names.find_name.Tie as tie
 
 abbrev Inv-loop : tie.InvT-loop
-Inv-loop image groups firsts g s h₀ h = (h ≤ g) × (twinFrom (groupsIn image) (setOf (groupsIn image) (32768 + g)) (countOf image Groups) 0 ≡ twinFrom (groupsIn image) (setOf (groupsIn image) (32768 + g)) (countOf image Groups - h) h)
+Inv-loop image groups firsts g s h₀ h = (h ≤ g) × (twinFrom (groupsIn image) (groupSet image g) (countOf image Groups) 0 ≡ twinFrom (groupsIn image) (groupSet image g) (countOf image Groups - h) h)
 
 abbrev μ-loop : tie.MeasureT-loop
 μ-loop image groups firsts g s h₀ h = g - h
 
 -- the group's key
-key-is : (d : tie.After-key Inv-loop μ-loop) → d .key .result ≡ keyOf (setOf (groupsIn (now (d .before .before .before .before .before .args .image))) (32768 + d .before .before .before .before .before .args .g))
+key-is : (d : tie.After-key Inv-loop μ-loop) → d .key .result ≡ keyOf (groupSet (now (d .before .before .before .before .before .args .image)) (d .before .before .before .before .before .args .g))
 key-is d = d .key .ensures ∙ ap keyOf (d .before .before .before .group-span .ensures .are)
 
 key-less : (d : tie.After-key Inv-loop μ-loop) → d .key .result ≤ 1023
 key-less d = let s = d .before .before .before .group-span .ensures in omega (arith, key-is d, key-small _ (s .rising) (omega (arith, span-length _ _ _ _ s, s .some)))
 
 -- a set of several members goes by the lowest group
-by-group : (d : tie.Else1 Inv-loop μ-loop) → nameOf (now (d .before .before .before .before .args .image)) (setOf (groupsIn (now (d .before .before .before .before .args .image))) (32768 + d .before .before .before .before .args .g)) ≡ 1024 + twinFrom (groupsIn (now (d .before .before .before .before .args .image))) (setOf (groupsIn (now (d .before .before .before .before .args .image))) (32768 + d .before .before .before .before .args .g)) (countOf (now (d .before .before .before .before .args .image)) Groups) 0
+by-group : (d : tie.Else1 Inv-loop μ-loop) → nameOf (now (d .before .before .before .before .args .image)) (groupSet (now (d .before .before .before .before .args .image)) (d .before .before .before .before .args .g)) ≡ 1024 + twinFrom (groupsIn (now (d .before .before .before .before .args .image))) (groupSet (now (d .before .before .before .before .args .image)) (d .before .before .before .before .args .g)) (countOf (now (d .before .before .before .before .args .image)) Groups) 0
 by-group d = name-group _ _ (λ e. d .if1 .left (sym (span-length _ _ _ _ (d .before .before .group-span .ensures)) ∙ e))
 
 -- what the comparison with the running group answered
-compared : (d : tie.After-same-members Inv-loop μ-loop) → sameList (setOf (groupsIn (now (d .before .before .before .before .before .before .before .before .before .before .before .before .args .image))) (32768 + d .before .before .before .before .before .before .before .before .before .before .before .before .args .g)) (setOf (groupsIn (now (d .before .before .before .before .before .before .before .before .before .before .before .before .args .image))) (32768 + d .before .before .before .loop .h)) ≡ d .same-members .result
+compared : (d : tie.After-same-members Inv-loop μ-loop) → sameList (groupSet (now (d .before .before .before .before .before .before .before .before .before .before .before .before .args .image)) (d .before .before .before .before .before .before .before .before .before .before .before .before .args .g)) (groupSet (now (d .before .before .before .before .before .before .before .before .before .before .before .before .args .image)) (d .before .before .before .loop .h)) ≡ d .same-members .result
 compared d = same-both _ _ _ _ (d .before .before .before .before .before .before .before .before .before .before .group-span .ensures .are) (d .before .group-span2 .ensures .are) ∙ sym (d .same-members .ensures)
 
 group-span-requires : tie.Need-group-span-requires Inv-loop μ-loop
-group-span-requires c κs = let p = c .before .pre in (p .0, p .1, p .3)
+group-span-requires c κs = let p = c .before .pre in (p .0, p .2)
 
-word-at-requires : tie.Need-word-at-requires Inv-loop μ-loop
-word-at-requires c κs = omega (arith, c .before .before .group-span .ensures .room, c .if1 .taken)
+word-in-requires : tie.Need-word-in-requires Inv-loop μ-loop
+word-in-requires c κs = omega (arith, c .before .before .group-span .ensures .room, c .if1 .taken)
 
 returns : tie.Need-returns Inv-loop μ-loop
 returns c = let s = c .before .before .before .group-span .ensures in
-    c .word-at .ensures .0 ∙ sym (name-single _ _ (span-length _ _ _ _ s ∙ c .before .if1 .taken) ∙ span-one _ _ _ _ s (c .before .if1 .taken))
+    c .word-in .ensures .0 ∙ sym (name-single _ _ (span-length _ _ _ _ s ∙ c .before .if1 .taken) ∙ span-one _ _ _ _ s (c .before .if1 .taken))
 
 key-requires : tie.Need-key-requires Inv-loop μ-loop
 key-requires c κs = (c .before .before .group-span .ensures .room, c .before .before .group-span .ensures .some)
@@ -56,50 +55,38 @@ mul-wide-word c = omega (arith, key-less c)
 element-copy-out-wide-word : tie.Need-element-copy-out-wide-word Inv-loop μ-loop
 element-copy-out-wide-word c = omega (arith, key-less c)
 
-wide-word-requires : tie.Need-wide-word-requires Inv-loop μ-loop
-wide-word-requires c κs = search needs
-
-one-less-requires : tie.Need-one-less-requires Inv-loop μ-loop
-one-less-requires c κs = search needs
-
 loop-holds : tie.Need-loop-holds Inv-loop μ-loop
 loop-holds c = let a = c .before .before .before .before .before .before .before .before in
-    twin-start _ _ _ _ (a .pre .2) (a .pre .3) (c .one-less .ensures ∙ ap (λ n. n - 1) (c .before .wide-word .ensures ∙ ap (λ k. getD (now (a .args .firsts)) k 0) (key-is (c .before .before .before))))
+    twin-start _ _ _ _ (a .pre .1) (a .pre .2) (c .one-less .ensures ∙ ap (λ n. n - 1) (c .before .wide-word .ensures ∙ ap (λ k. getD (now (a .args .firsts)) k 0) (key-is (c .before .before .before))))
 
 group-span-requires-2 : tie.Need-group-span-requires-2 Inv-loop μ-loop
-group-span-requires-2 c κs = let p = c .before .before .before .before .before .before .before .before .before .before .pre in (p .0, p .1, omega (arith, p .3))
+group-span-requires-2 c κs = let p = c .before .before .before .before .before .before .before .before .before .before .pre in (p .0, omega (arith, p .2))
 
 same-members-requires : tie.Need-same-members-requires Inv-loop μ-loop
 same-members-requires c κs = (c .before .before .before .before .before .before .before .before .before .group-span .ensures .room, c .group-span2 .ensures .room)
 
 add-result : tie.Need-add-result Inv-loop μ-loop
-add-result c = let p = c .before .before .before .before .before .before .before .before .before .before .before .before .before .pre in omega (arith, c .before .before .before .before .loop .inv .0, p .3, few-groups _ (p .0))
+add-result c = let p = c .before .before .before .before .before .before .before .before .before .before .before .before .before .pre in omega (arith, c .before .before .before .before .loop .inv .0, p .2, few-groups _ (p .0 .accepted))
 
 returns-2 : tie.Need-returns-2 Inv-loop μ-loop
 returns-2 c = let L = c .before .before .before .before .loop in
     let N : ℕ = countOf (now (c .before .before .before .before .before .before .before .before .before .before .before .before .before .args .image)) Groups in
-    let e : N - L .h ≡ suc (N - (L .h + 1)) = omega (arith, c .before .before .before .before .before .before .before .before .before .before .before .before .before .pre .3) in
+    let e : N - L .h ≡ suc (N - (L .h + 1)) = omega (arith, c .before .before .before .before .before .before .before .before .before .before .before .before .before .pre .2) in
     sym (by-group (c .before .before .before .before .before .before .before .before .before) ∙ ap (λ n. 1024 + n) (L .inv .1 ∙ twin-hit _ _ _ _ _ e (compared (c .before) ∙ c .if2 .taken)))
-
-add-h : tie.Need-add-h Inv-loop μ-loop
-add-h c = omega arith
-
-loop-less : tie.Need-loop-less Inv-loop μ-loop
-loop-less c = omega arith
 
 loop-again : tie.Need-loop-again Inv-loop μ-loop
 loop-again c = let L = c .before .before .before .before .loop in
     let N : ℕ = countOf (now (c .before .before .before .before .before .before .before .before .before .before .before .before .before .args .image)) Groups in
-    let e : N - L .h ≡ suc (N - (L .h + 1)) = omega (arith, c .before .before .before .before .before .before .before .before .before .before .before .before .before .pre .3) in
+    let e : N - L .h ≡ suc (N - (L .h + 1)) = omega (arith, c .before .before .before .before .before .before .before .before .before .before .before .before .before .pre .2) in
     (omega arith, L .inv .1 ∙ twin-next _ _ _ _ _ e (compared (c .before) ∙ c .if2 .left))
 
 add-result-2 : tie.Need-add-result-2 Inv-loop μ-loop
-add-result-2 c = let p = c .before .before .before .before .before .before .before .before .before .before .pre in omega (arith, p .3, few-groups _ (p .0))
+add-result-2 c = let p = c .before .before .before .before .before .before .before .before .before .before .pre in omega (arith, p .2, few-groups _ (p .0 .accepted))
 
 returns-3 : tie.Need-returns-3 Inv-loop μ-loop
 returns-3 c = let L = c .before .loop in
     let e : L .h ≡ c .before .before .before .before .before .before .before .before .before .before .args .g = omega (arith, L .inv .0) in
-    sym (by-group (c .before .before .before .before .before .before) ∙ ap (λ n. 1024 + n) (L .inv .1 ∙ twin-itself _ _ _ (c .before .before .before .before .before .before .before .before .before .before .pre .3) e))
+    sym (by-group (c .before .before .before .before .before .before) ∙ ap (λ n. 1024 + n) (L .inv .1 ∙ twin-itself _ _ _ (c .before .before .before .before .before .before .before .before .before .before .pre .2) e))
 
 pub find-name-spec : {M : Type 1} → statement M
 find-name-spec =
@@ -108,20 +95,20 @@ find-name-spec =
     Inv-loop
     μ-loop
     group-span-requires
-    word-at-requires
+    word-in-requires
     returns
     key-requires
     mul-wide-word
     element-copy-out-wide-word
-    wide-word-requires
-    one-less-requires
+    (λ c κs. search needs)
+    (λ c κs. search needs)
     loop-holds
     group-span-requires-2
     same-members-requires
     add-result
     returns-2
-    add-h
-    loop-less
+    (λ c. omega arith)
+    (λ c. omega arith)
     loop-again
     add-result-2
     returns-3)

@@ -8,8 +8,7 @@ use Rattle.format.specs.declared.Section.the-variants.{Groups}
 use Rattle.format.specs.Format.{countOf}
 use Rattle.format.proofs.Accepted.{accepted-header}
 use Rattle.format.proofs.ByCase.{count-groups}
-use Rattle.decision.specs.Sets.{setOf}
-use Rattle.decide.specs.Inner.Spans.{groupsIn}
+use Rattle.decide.specs.Inner.Parts.{groupSet}
 use Rattle.decide.specs.Inner.Names.{keyOf}
 use Rattle.decide.proofs.TypeLaws.{few-groups}
 use Rattle.decide.proofs.NameLaws.{span-length, key-small, firsts-more}
@@ -17,50 +16,41 @@ use Rattle.decide.proofs.names.first_groups.Statement.{statement}
 use Rattle.decide.proofs.names.first_groups.Tie as tie
 
 abbrev Inv-loop : tie.InvT-loop
-Inv-loop image groups firsts₀ left₀ firsts left = (left ≤ countOf image Groups) × (length firsts ≡ 1024) × ((g : ℕ) → left ≤ g → g < countOf image Groups → getD firsts (keyOf (setOf (groupsIn image) (32768 + g))) 0 ≤ g + 1)
+Inv-loop image groups firsts₀ left₀ firsts left = (left ≤ countOf image Groups) × (length firsts ≡ 1024) × ((g : ℕ) → left ≤ g → g < countOf image Groups → getD firsts (keyOf (groupSet image g)) 0 ≤ g + 1)
 
 abbrev μ-loop : tie.MeasureT-loop
 μ-loop image groups firsts₀ left₀ firsts left = left
 
-counted : (d : tie.After-word-at Inv-loop μ-loop) → d .word-at .result ≡ countOf (now (d .before .before .args .image)) Groups
-counted d = d .word-at .ensures .0 ∙ sym (count-groups _)
+counted : (d : tie.After-word-in Inv-loop μ-loop) → d .word-in .result ≡ countOf (now (d .before .before .args .image)) Groups
+counted d = d .word-in .ensures .0 ∙ sym (count-groups _)
 
 -- the running group's key
-key-is : (d : tie.After-key Inv-loop μ-loop) → d .key .result ≡ keyOf (setOf (groupsIn (now (d .before .before .before .before .before .before .args .image))) (32768 + (d .before .before .before .loop .left - 1)))
+key-is : (d : tie.After-key Inv-loop μ-loop) → d .key .result ≡ keyOf (groupSet (now (d .before .before .before .before .before .before .args .image)) (d .before .before .before .loop .left - 1))
 key-is d = d .key .ensures ∙ ap keyOf (d .before .group-span .ensures .are)
 
 key-less : (d : tie.After-key Inv-loop μ-loop) → d .key .result < 1024
 key-less d = let s = d .before .group-span .ensures in omega (arith, key-is d, key-small _ (s .rising) (omega (arith, span-length _ _ _ _ s, s .some)))
 
-word-at-requires : tie.Need-word-at-requires Inv-loop μ-loop
-word-at-requires c κs = omega (arith, accepted-header _ (c .before .pre .0) .long)
+word-in-requires : tie.Need-word-in-requires Inv-loop μ-loop
+word-in-requires c κs = omega (arith, accepted-header _ (c .before .pre .accepted) .long)
 
 loop-holds : tie.Need-loop-holds Inv-loop μ-loop
 loop-holds c = (omega (arith, counted c), refl, λ g h k. absurd (omega (arith, counted c)))
 
-sub-group-span : tie.Need-sub-group-span Inv-loop μ-loop
-sub-group-span c = omega arith
-
 group-span-requires : tie.Need-group-span-requires Inv-loop μ-loop
-group-span-requires c κs = (c .before .before .before .before .pre .0, c .before .before .before .before .pre .1, omega (arith, c .before .loop .inv .0))
+group-span-requires c κs = (c .before .before .before .before .pre, omega (arith, c .before .loop .inv .0))
 
 key-requires : tie.Need-key-requires Inv-loop μ-loop
 key-requires c κs = (c .group-span .ensures .room, c .group-span .ensures .some)
 
 cast-firsts : tie.Need-cast-firsts Inv-loop μ-loop
-cast-firsts c = omega (arith, c .before .before .before .loop .inv .0, few-groups _ (c .before .before .before .before .before .before .pre .0))
+cast-firsts c = omega (arith, c .before .before .before .loop .inv .0, few-groups _ (c .before .before .before .before .before .before .pre .accepted))
 
 mul-firsts : tie.Need-mul-firsts Inv-loop μ-loop
 mul-firsts c = omega (arith, key-less c)
 
 array-write-firsts : tie.Need-array-write-firsts Inv-loop μ-loop
 array-write-firsts c = omega (arith, key-less c)
-
-sub-left : tie.Need-sub-left Inv-loop μ-loop
-sub-left c = omega arith
-
-loop-less : tie.Need-loop-less Inv-loop μ-loop
-loop-less c = omega arith
 
 loop-again : tie.Need-loop-again Inv-loop μ-loop
 loop-again c = let L = c .before .before .before .loop in (
@@ -78,15 +68,15 @@ first-groups-spec =
     (tie.spec
     Inv-loop
     μ-loop
-    word-at-requires
+    word-in-requires
     loop-holds
-    sub-group-span
+    (λ c. omega arith)
     group-span-requires
     key-requires
     cast-firsts
     mul-firsts
     array-write-firsts
-    sub-left
-    loop-less
+    (λ c. omega arith)
+    (λ c. omega arith)
     loop-again
     returns)

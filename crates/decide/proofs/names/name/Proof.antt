@@ -1,53 +1,47 @@
 -- `name` meets its contract: what is kept of a group is what a walk over the groups would answer. Assumes nothing.
 use native.Mathlib.Omega.{arith}
-use borrow.Author.Needs.{needs}
-use mathlib.Core.Path.{_≡_}
+use Prim.Native.Nat.{_+_, _-_, _<_}
+use mathlib.Core.Path.{_≡_, ap, _∙_}
 use denote.Ref.{now}
-use Prim.Native.Nat.{_-_, _<_}
-use Rattle.format.specs.Bytes.{wordAt}
-use Rattle.decision.specs.Sets.{setOf}
-use Rattle.decide.specs.Inner.Spans.{groupsIn}
+use Rattle.decide.specs.Inner.Parts.{groupSet, setAt}
 use Rattle.decide.specs.Inner.Names.{nameOf}
-use Rattle.decide.proofs.TypeLaws.{few-groups, group-number}
-use Rattle.decide.proofs.NameLaws.{name-small, name-basic, name-number, names-tell, names-more}
+use Rattle.decide.proofs.TypeLaws.{group-number, group-few, group-is}
+use Rattle.decide.proofs.KeptLaws.{kept-more}
+use Rattle.decide.proofs.NameLaws.{name-basic, name-small}
+use borrow.Author.Needs.{needs}
 use Rattle.decide.proofs.names.name.Statement.{statement}
 use Rattle.decide.proofs.names.name.Tie as tie
 
--- the group's number is within the table
-number : (d : tie.Else1) → d .before .word-at .result - 32768 < 256
-number d = let p = d .before .before .before .pre in omega (arith, group-number _ _ _ (d .before .word-at .ensures .0) (p .3) (p .4) _ (p .0) (p .1) (d .if1 .left), few-groups _ (p .0))
+few : (d : tie.Else1) → d .before .word-in .result - 32768 < 256
+few d = let p = d .before .before .before .pre in group-few _ _ _ _ (p .0) (p .2) (d .before .word-in .ensures .0) (d .if1 .left)
 
-word-at-requires : tie.Need-word-at-requires
-word-at-requires c κs = search needs
+same : (d : tie.Else1) → groupSet (now (d .before .before .before .args .image)) (d .before .word-in .result - 32768) ≡ setAt (now (d .before .before .before .args .image)) (d .before .before .before .args .at)
+same d = let p = d .before .before .before .pre in group-is _ _ _ _ (p .0) (p .2) (d .before .word-in .ensures .0) (d .if1 .left)
+
+-- the name that was found is the type's, and small
+found : (d : tie.After-find-name) → d .find-name .result ≡ nameOf (now (d .before .before .before .before .before .before .before .args .image)) (setAt (now (d .before .before .before .before .before .before .before .args .image)) (d .before .before .before .before .before .before .before .args .at))
+found d = d .find-name .ensures ∙ ap (nameOf _) (same (d .before .before .before .before))
+
+small : (d : tie.After-find-name) → d .find-name .result < 1280
+small d = let p = d .before .before .before .before .before .before .before .pre in omega (arith, name-small _ _ (p .0 .accepted) (p .2 .is), found d)
 
 returns : tie.Need-returns
-returns c = (name-basic _ _ _ (c .before .word-at .ensures .0) (c .if1 .taken), c .before .before .before .pre .5)
+returns c = record { is = name-basic _ _ _ (c .before .word-in .ensures .0) (c .if1 .taken); kept = c .before .before .before .pre .3 }
 
 mul-wide-word : tie.Need-mul-wide-word
-mul-wide-word c = omega (arith, number c)
+mul-wide-word c = omega (arith, few c)
 
 element-copy-out-wide-word : tie.Need-element-copy-out-wide-word
-element-copy-out-wide-word c = omega (arith, number c)
-
-wide-word-requires : tie.Need-wide-word-requires
-wide-word-requires c κs = search needs
-
-sub-result : tie.Need-sub-result
-sub-result c = omega arith
+element-copy-out-wide-word c = omega (arith, few c)
 
 returns-2 : tie.Need-returns-2
-returns-2 c = let p = c .before .before .before .before .before .before .pre in (names-tell _ _ (p .5) _ _ (c .before .before .before .before .word-at .ensures .0) (c .before .before .before .if1 .left) _ (c .before .wide-word .ensures) (c .if2 .taken), p .5)
+returns-2 c = let a = c .before .before .before .before .before .before in
+    let d = c .before .before .before in
+    let e = a .pre .3 .is (d .before .word-in .result - 32768) (omega (arith, c .before .wide-word .ensures, c .if2 .taken)) in
+    record { is = omega (arith, c .before .wide-word .ensures, e, ap (nameOf (now (a .args .image))) (same d)); kept = a .pre .3 }
 
 find-name-requires : tie.Need-find-name-requires
-find-name-requires c κs = let p = c .before .before .before .before .before .before .pre in (p .0, p .1, p .2, group-number _ _ _ (c .before .before .before .before .word-at .ensures .0) (p .3) (p .4) _ (p .0) (p .1) (c .before .before .before .if1 .left))
-
--- the name that was found is the type's
-found : (d : tie.After-find-name) → d .find-name .result ≡ nameOf (now (d .before .before .before .before .before .before .before .args .image)) (setOf (groupsIn (now (d .before .before .before .before .before .before .before .args .image))) (wordAt (now (d .before .before .before .before .before .before .before .args .image)) (d .before .before .before .before .before .before .before .args .at)))
-found d = name-number _ _ _ _ (d .before .before .before .before .before .word-at .ensures .0) (d .before .before .before .before .if1 .left) (d .find-name .ensures)
-
--- and small
-small : (d : tie.After-find-name) → d .find-name .result < 1280
-small d = let p = d .before .before .before .before .before .before .before .pre in omega (arith, name-small _ _ (p .0) (p .4), found d)
+find-name-requires c κs = let d = c .before .before .before in let p = d .before .before .before .pre in (p .0, p .1, group-number _ _ _ _ (p .0) (p .2) (d .before .word-in .ensures .0) (d .if1 .left))
 
 add-names : tie.Need-add-names
 add-names c = omega (arith, small c)
@@ -56,24 +50,25 @@ cast-names : tie.Need-cast-names
 cast-names c = omega (arith, small c)
 
 mul-names : tie.Need-mul-names
-mul-names c = omega (arith, number (c .before .before .before .before))
+mul-names c = omega (arith, few (c .before .before .before .before))
 
 element-write-names : tie.Need-element-write-names
-element-write-names c = omega (arith, number (c .before .before .before .before))
+element-write-names c = omega (arith, few (c .before .before .before .before))
 
 returns-3 : tie.Need-returns-3
-returns-3 c = let p = c .before .before .before .before .before .before .before .pre in (found c, names-more _ _ (p .5) _ _ (c .before .before .before .before .before .word-at .ensures .0) (c .before .before .before .before .if1 .left) _ (found c))
+returns-3 c = let p = c .before .before .before .before .before .before .before .pre in
+    record { is = found c; kept = kept-more _ _ _ _ (p .3) (ap (λ n. n + 1) (c .find-name .ensures)) }
 
 pub name-spec : {M : Type 1} → statement M
 name-spec =
     tie.close
     (tie.spec
-    word-at-requires
+    (λ c κs. search needs)
     returns
     mul-wide-word
     element-copy-out-wide-word
-    wide-word-requires
-    sub-result
+    (λ c κs. search needs)
+    (λ c. search needs)
     returns-2
     find-name-requires
     add-names

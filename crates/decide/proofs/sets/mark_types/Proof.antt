@@ -10,7 +10,7 @@ use Rattle.format.specs.Format.{countOf}
 use Rattle.format.specs.Claims.{IsType}
 use Rattle.format.specs.Inner.Places.{wordsAt}
 use Rattle.decision.specs.Sets.{setOf, unionOf}
-use Rattle.decide.specs.Inner.Spans.{groupsIn}
+use Rattle.decide.specs.Inner.Parts.{groupsIn}
 use Rattle.decide.specs.Inner.Marks.{markAll}
 use Rattle.decide.proofs.MarkedLaws.{union-end, union-next, types-next}
 use Rattle.decide.proofs.sets.mark_types.Statement.{statement}
@@ -23,22 +23,10 @@ abbrev μ-loop : tie.MeasureT-loop
 μ-loop image groups from count marks₀ at₀ left₀ marks at left = left
 
 loop-holds : tie.Need-loop-holds Inv-loop μ-loop
-loop-holds c = (c .before .pre .2, c .before .pre .3, refl)
-
-word-at-requires : tie.Need-word-at-requires Inv-loop μ-loop
-word-at-requires c κs = omega arith
+loop-holds c = (c .before .pre .1 .room, c .before .pre .1 .are, refl)
 
 mark-type-requires : tie.Need-mark-type-requires Inv-loop μ-loop
-mark-type-requires c κs = let a = c .before .before .before .before .before in let L = c .before .before .before .loop in let e : L .left ≡ suc (L .left - 1) = omega arith in (a .pre .0, a .pre .1, subst (IsType _) (sym (c .before .word-at .ensures .0)) (types-next (λ w. IsType (countOf (now (a .args .image)) Groups) (wordAt (now (a .args .image)) w)) _ _ _ e (L .inv .1) .0))
-
-add-at : tie.Need-add-at Inv-loop μ-loop
-add-at c = omega arith
-
-sub-left : tie.Need-sub-left Inv-loop μ-loop
-sub-left c = omega arith
-
-loop-less : tie.Need-loop-less Inv-loop μ-loop
-loop-less c = omega arith
+mark-type-requires c κs = let a = c .before .before .before .before .before in let L = c .before .before .before .loop in let e : L .left ≡ suc (L .left - 1) = omega arith in (a .pre .0, subst (IsType _) (sym (c .before .word-in .ensures .0)) (types-next (λ w. IsType (countOf (now (a .args .image)) Groups) (wordAt (now (a .args .image)) w)) _ _ _ e (L .inv .1) .0))
 
 loop-again : tie.Need-loop-again Inv-loop μ-loop
 loop-again c = let a = c .before .before .before .before .before .before in
@@ -47,7 +35,7 @@ loop-again c = let a = c .before .before .before .before .before .before in
     let l = now (a .args .image) in (
       omega arith,
       types-next (λ w. IsType (countOf l Groups) (wordAt l w)) _ _ _ e (L .inv .1) .1,
-      L .inv .2 ∙ union-next _ _ _ _ _ e ∙ ap (λ m. markAll m (unionOf (groupsIn l) (wordsAt l (L .left - 1) (L .at + 2)))) (sym (c .mark-type .ensures .0 ∙ ap (λ w. markAll (L .marks) (setOf (groupsIn l) w)) (c .before .before .word-at .ensures .0))),
+      L .inv .2 ∙ union-next _ _ _ _ _ e ∙ ap (λ m. markAll m (unionOf (groupsIn l) (wordsAt l (L .left - 1) (L .at + 2)))) (sym (c .mark-type .ensures .0 ∙ ap (λ w. markAll (L .marks) (setOf (groupsIn l) w)) (c .before .before .word-in .ensures .0))),
     )
 
 returns : tie.Need-returns Inv-loop μ-loop
@@ -60,10 +48,10 @@ mark-types-spec =
     Inv-loop
     μ-loop
     loop-holds
-    word-at-requires
+    (λ c κs. omega arith)
     mark-type-requires
-    add-at
-    sub-left
-    loop-less
+    (λ c. omega arith)
+    (λ c. omega arith)
+    (λ c. omega arith)
     loop-again
     returns)

@@ -1,0 +1,64 @@
+// Many queries at once: rows of 8 bytes, and a slot for the number of each answer.
+use crate::engine::decide_surveyed;
+use decision::Query;
+use format::Sections;
+use image::survey;
+use image::word_at;
+use numbers::number;
+ghost use mathlib.Core.Path.{_≡_};
+ghost use Prim.Native.Nat.{_+_, _<_};
+ghost use lib.ListN.{length};
+ghost use Rattle.decision.specs.Decide.{answer};
+ghost use Rattle.decision.specs.Numbers.{decisionCode};
+ghost use Rattle.decision.specs.Rows.{queryAt, rowsIn, answered};
+ghost use Rattle.decide.specs.Inner.Parts.{Surveyed};
+ghost use Rattle.decide.specs.Inner.Kept.{KeptVerdicts, Leaves};
+
+// The query in the row at a place.
+fn query_at(queries: &[u8], at: usize) -> Query
+    requires { ⌜ at + 7 < length (now queries) ⌝ }
+    ensures { λ r. ⌜ r ≡ queryAt (now (queries .entry)) at ⌝ }
+{
+    Query {
+        source: word_at(queries, at) as u16,
+        dest: word_at(queries, at + 2) as u16,
+        class: word_at(queries, at + 4) as u16,
+        action: word_at(queries, at + 6) as u16,
+    }
+}
+
+// The number of the answer to the row at a place.
+fn row(
+    image: &[u8],
+    groups: &[u16; 256],
+    sections: Sections,
+    queries: &[u8],
+    at: usize,
+    verdicts: &mut [u8; 256],
+) -> u64
+    requires { ⌜ Surveyed (now image) (now groups) sections × KeptVerdicts (now image) (now verdicts) × (at + 7 < length (now queries)) ⌝ }
+    ensures { λ r. ⌜ Leaves (decisionCode (answer (now (image .entry)) (queryAt (now (queries .entry)) at)))
+        (KeptVerdicts (now (image .entry)) (now (verdicts .exit))) r ⌝ }
+{
+    let q = query_at(queries, at);
+    number(decide_surveyed(image, groups, sections, q, verdicts))
+}
+
+// Answers as many whole rows as there are slots, and tells how many. Every other slot stays as it is. A refused image gives its
+// refusal in the slot of each row. The image is checked once, and each constraint asks the rules at most once.
+pub fn decide_all(image: &[u8], queries: &[u8], answers: &mut [u64]) -> usize
+    ensures { λ r. ⌜ r ≡ rowsIn (now (queries .entry)) (length (now (answers .entry))) ⌝ }
+    ensures { λ _. ⌜ now (answers .exit) ≡ answered (now (image .entry)) (now (queries .entry)) (now (answers .entry)) ⌝ }
+{
+    let rows = queries.len() / 8;
+    let mut groups = [0u16; 256];
+    let sections = survey(image, &mut groups);
+    let mut verdicts = [0u8; 256];
+    for k in 0..answers.len() {
+        if rows <= k {
+            return rows;
+        }
+        answers[k] = row(image, &groups, sections, queries, 8 * k, &mut verdicts);
+    }
+    answers.len()
+}

@@ -1,0 +1,30 @@
+// An answer as a number of four 16-bit parts, the highest first. include/mungaite.h has the table.
+use decision::Answer;
+use format::Refusal;
+ghost use mathlib.Core.Path.{_≡_};
+ghost use Rattle.decision.specs.Decide.{answerOutcome};
+ghost use Rattle.decision.specs.Numbers.{partsOf, refusalCode, decisionCode};
+
+// The number whose parts are 0, a kind, and two more, each in its low 16 bits.
+pub fn parts(kind: u16, high: usize, low: usize) -> u64
+    ensures { λ r. ⌜ r ≡ partsOf kind high low ⌝ }
+{
+    (kind as usize * 4294967296 + high % 65536 * 65536 + low % 65536) as u64
+}
+
+pub fn refused(f: Refusal) -> u64
+    ensures { λ r. ⌜ r ≡ refusalCode f ⌝ }
+{
+    parts(2, f.number as usize, f.place)
+}
+
+pub fn number(answer: Answer) -> u64
+    ensures { λ r. ⌜ r ≡ decisionCode (answerOutcome answer) ⌝ }
+{
+    match answer {
+        Answer::NotPermitted => 0,
+        Answer::Permitted(r) => parts(1, 0, r),
+        Answer::UnKnown(r, c) => parts(3, r, c),
+        Answer::Refused(f) => refused(f),
+    }
+}
