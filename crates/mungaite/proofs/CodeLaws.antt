@@ -1,19 +1,15 @@
 -- Laws of the answers as numbers. Assumes nothing.
 use Prim.Native.Nat.{ℕ}
-use mathlib.Core.Path.{_≡_, refl, sym, ap, _∙_}
+use mathlib.Core.Path.{_≡_, refl, sym}
 use mathlib.Core.Option.{Option, none, some}
 use mathlib.Core.List.{List}
 use borrow.Author.Tests.{eq-eqb, ne-eqb}
-use Rattle.format.specs.declared.Section.{Section}
 use Rattle.format.specs.declared.Section.the-variants.{Groups, Rules, Constraints}
 use Rattle.format.specs.declared.Refusal.{Refusal}
-use Rattle.format.specs.declared.Found.{Found}
 use Rattle.format.specs.Refusals.{refusal, _orElse_}
 use Rattle.format.specs.Check.{check}
-use Rattle.format.specs.Answers.{foundOutcome, outcome, extent}
-use Rattle.format.specs.Give.{giveFault}
 use Rattle.format.proofs.Chain.{orElse-next, orElse-first}
-use Rattle.mungaite.specs.Code.{codeOf, faultCode, extentCode, recordIn, recordCode}
+use Rattle.mungaite.specs.Code.{faultCode, recordIn, recordCode}
 
 module _ (l : List ℕ) (s n : ℕ) where
   pub record-groups : s ≡ 0 → recordCode l s n ≡ recordIn l Groups n
@@ -31,11 +27,6 @@ module _ (l : List ℕ) (s n : ℕ) where
   pub record-nowhere : (s ≡ 0 → ⊥) → (s ≡ 1 → ⊥) → (s ≡ 2 → ⊥) → recordCode l s n ≡ faultCode (check l orElse some (refusal 14 0))
   unfolding recordCode
   record-nowhere a b c = simp (ne-eqb s 0 a, ne-eqb s 1 b, ne-eqb s 2 c)
-
--- what `find` tells of record n, with n as it was given
-pub found-is : (l : List ℕ) (s : Section) (m n : ℕ) (x : Found) → m ≡ n → foundOutcome x ≡ outcome (giveFault l s m) (extent l s m) → codeOf extentCode (foundOutcome x) ≡ recordIn l s n
-unfolding recordIn
-found-is l s m n x e f = ap (codeOf extentCode) f ∙ ap (λ k. codeOf extentCode (outcome (giveFault l s k) (extent l s k))) e
 
 module _ (f : Option Refusal) where
   pub no-section-accepted : none ≡ f → f orElse some (refusal 14 0) ≡ some (refusal 14 0)

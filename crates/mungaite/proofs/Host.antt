@@ -1,4 +1,4 @@
--- What a host reads from a number is the answer: claims CheckRead, DecideRead, RecordRead, AddRead. Each follows from the claim
+-- What a host reads from a number is the answer: claims CheckRead, RecordRead, AddRead. Each follows from the claim
 -- that no part is cut and from PartsRead alone. Assumes nothing.
 use Prim.Native.Nat.{ℕ}
 use mathlib.Core.Path.{_≡_, refl, ap, _∙_}
@@ -13,23 +13,13 @@ use Rattle.format.specs.Check.{check}
 use Rattle.format.specs.Answers.{Outcome, refused, gives, outcome, extent}
 use Rattle.format.specs.Give.{giveFault}
 use Rattle.extension.specs.Add.{addFault, newNumber}
-use Rattle.decision.specs.Decide.{Decision, notPermitted, permitted, unknown, answer}
-use Rattle.mungaite.specs.Code.{partsOf, refusalCode, faultCode, codeOf, decisionCode, extentCode, recordIn, recordCode, addCode}
-use Rattle.mungaite.specs.Host.{kindPart, sectionNumber, hostRefusal, hostChecked, hostDecision, hostFound, hostAdded}
-use Rattle.mungaite.specs.Claims.{RefusalFits, FaultFits, OutcomeFits, DecisionFits, ExtentFits, NumberFits, CheckRead, DecideRead, RecordRead, AddRead}
+use Rattle.decision.specs.Numbers.{partsOf, codeOf, OutcomeFits}
+use Rattle.decision.proofs.Numbers.{parts-read, refused-kind, refused-back}
+use Rattle.mungaite.specs.Code.{faultCode, extentCode, recordIn, recordCode, addCode}
+use Rattle.mungaite.specs.Host.{sectionNumber, hostChecked, hostFound, hostAdded}
+use Rattle.mungaite.specs.Claims.{FaultFits, ExtentFits, NumberFits, CheckRead, RecordRead, AddRead}
 use Rattle.mungaite.proofs.CodeLaws.{record-groups, record-rules, record-constraints, record-nowhere}
-use Rattle.mungaite.proofs.Whole.{check-whole, decide-whole, record-whole, add-whole, parts-read}
-
-module _ (f : Refusal) (fits : RefusalFits f) where
-  refused-kind : kindPart (refusalCode f) ≡ 2
-  unfolding refusalCode
-  refused-kind = parts-read 2 (f .number) (f .place) (omega arith) (fits .0) (fits .1) .0
-
-  refused-back : hostRefusal (refusalCode f) ≡ f
-  unfolding hostRefusal refusalCode
-  refused-back =
-      let p = parts-read 2 (f .number) (f .place) (omega arith) (fits .0) (fits .1) in
-      rw (p .1, p .2) refl
+use Rattle.mungaite.proofs.Whole.{check-whole, record-whole, add-whole}
 
 fault-back : (o : Option Refusal) → FaultFits o → hostChecked (faultCode o) ≡ o
 unfolding hostChecked
@@ -38,20 +28,6 @@ fault-back (some f) h = simp (refused-kind f h, refused-back f h)
 
 pub check-read : CheckRead
 check-read l b = fault-back (check l) (check-whole l b)
-
-decision-back : (o : Outcome Decision) → OutcomeFits DecisionFits o → hostDecision (decisionCode o) ≡ o
-unfolding hostDecision
-decision-back (refused f) h = simp (refused-kind f h, refused-back f h)
-decision-back (gives notPermitted) h = refl
-decision-back (gives (permitted r)) h =
-    let p = parts-read 1 0 r (omega arith) (omega arith) (omega arith) in
-    simp (p .0, p .2)
-decision-back (gives (unknown r c)) h =
-    let p = parts-read 3 r c (omega arith) (omega (arith, h .0)) (omega (arith, h .1)) in
-    simp (p .0, p .1, p .2)
-
-pub decide-read : DecideRead
-decide-read l b q = decision-back (answer l q) (decide-whole l b q)
 
 extent-back : (o : Outcome Extent) → OutcomeFits ExtentFits o → hostFound (codeOf extentCode o) ≡ o
 unfolding hostFound

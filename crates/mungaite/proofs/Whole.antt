@@ -1,35 +1,31 @@
--- No part of an answer is cut: claims CheckWhole, DecideWhole, RecordWhole, AddWhole, PartsWhole, PartsRead. Assumes nothing.
---     check-fits, give-fits, add-fits   a refusal fits, by the laws that say how large one is
-use Prim.Native.Nat.{ℕ, _≤_, _<_}
-use mathlib.Core.Path.{_≡_, refl, sym, subst}
+-- No part of an answer is cut: claims CheckWhole, RecordWhole, AddWhole. Assumes nothing.
+--     give-fits, add-fits   a refusal fits, by the laws that say how large one is
+use Prim.Native.Nat.{ℕ}
+use mathlib.Core.Path.{_≡_, refl, sym}
 use mathlib.Core.Logic.{⊎-elim}
 use mathlib.Core.Option.{Option, none, some}
 use mathlib.Core.List.{List}
 use native.Mathlib.Omega.{arith}
 use lib.ListN.{getD}
 use Rattle.format.specs.declared.Section.{Section}
-use Rattle.format.specs.declared.Section.the-variants.{Rules, Constraints}
 use Rattle.format.specs.declared.Refusal.{Refusal}
 use Rattle.format.specs.Bytes.{Bytes}
 use Rattle.format.specs.Refusals.{refusal, _orElse_}
-use Rattle.format.specs.Format.{countOf}
 use Rattle.format.specs.Policy.{recordAt, placeOf}
 use Rattle.format.specs.Check.{check}
-use Rattle.format.specs.Answers.{Outcome, refused, gives, outcome, extent}
+use Rattle.format.specs.Answers.{outcome, extent}
 use Rattle.format.specs.Give.{giveFault}
 use Rattle.format.proofs.Chain.{orElse-refuses}
-use Rattle.format.proofs.ByCase.{limit-rules, limit-constraints, limit-most}
+use Rattle.format.proofs.ByCase.{limit-most}
 use Rattle.format.proofs.Shapes.{shape-most}
-use Rattle.format.proofs.Accepted.{accepted-header, record-formed, record-is, give-split, given-at}
+use Rattle.format.proofs.Accepted.{record-formed, record-is, give-split, given-at}
 use Rattle.format.proofs.Images.{longest-image}
-use Rattle.format.proofs.Bounds.{check-small, front-small, give-refused}
+use Rattle.format.proofs.Bounds.{front-small, give-refused}
 use Rattle.extension.specs.Add.{sectionOf, newNumber, addFault}
 use Rattle.extension.proofs.Adds.{own-refused, add-refused, number-few}
-use Rattle.decision.specs.Decide.{Decision, notPermitted, permitted, unknown, answer}
-use Rattle.decision.proofs.Order.{answer-accepted}
-use Rattle.decision.proofs.Answers.{answer-refused, permitted-inside, unknown-inside}
-use Rattle.mungaite.specs.Code.{partsOf}
-use Rattle.mungaite.specs.Claims.{RefusalFits, FaultFits, OutcomeFits, DecisionFits, ExtentFits, NumberFits, CheckWhole, DecideWhole, RecordWhole, AddWhole, PartsWhole, PartsRead}
+use Rattle.decision.specs.Numbers.{RefusalFits, OutcomeFits}
+use Rattle.decision.proofs.Numbers.{known-fits, check-fits}
+use Rattle.mungaite.specs.Claims.{FaultFits, ExtentFits, NumberFits, CheckWhole, RecordWhole, AddWhole}
 
 fault-fits : (o : Option Refusal) → ((f : Refusal) → o ≡ some f → RefusalFits f) → FaultFits o
 fault-fits none h = tt
@@ -39,41 +35,10 @@ outcome-fits : {A : Type 0} (P : A → Type 0) (o : Option Refusal) (a : A) → 
 outcome-fits P none a h k = k refl
 outcome-fits P (some f) a h k = h f refl
 
--- a refusal that is known
-known-fits : (n at : ℕ) (f : Refusal) → refusal n at ≡ f → n ≤ 14 → at < 65536 → RefusalFits f
-known-fits n at f e h k = subst RefusalFits e (omega arith, k)
-
 -- ---- the check
-
-check-fits : (l : List ℕ) → Bytes l → (f : Refusal) → check l ≡ some f → RefusalFits f
-check-fits l b f e = let q = check-small l b f e in (omega (arith, q .0), q .1)
 
 pub check-whole : CheckWhole
 check-whole l b = fault-fits (check l) (check-fits l b)
-
--- ---- a decision
-
-module _ (l : List ℕ) (e : check l ≡ none) where
-  few-rules : countOf l Rules ≤ 1024
-  few-rules = omega (arith, accepted-header l e .few Rules, limit-rules)
-
-  few-constraints : countOf l Constraints ≤ 256
-  few-constraints = omega (arith, accepted-header l e .few Constraints, limit-constraints)
-
-pub decide-whole : DecideWhole
-decide-whole l b q = go (answer l q) refl
-  where
-    go : (o : Outcome Decision) → answer l q ≡ o → OutcomeFits DecisionFits o
-    go (refused f) e =
-        ⊎-elim (check-fits l b f)
-        (⊎-elim (λ z. known-fits 8 0 f (sym z) (omega arith) (omega arith)) (λ z. known-fits 9 0 f (sym z) (omega arith) (omega arith)))
-        (answer-refused l q f e)
-    go (gives notPermitted) e = tt
-    go (gives (permitted r)) e = omega (arith, permitted-inside l q r e, few-rules l (answer-accepted l q (permitted r) e .0))
-    go (gives (unknown r c)) e =
-        let a = answer-accepted l q (unknown r c) e .0 in
-        let h = unknown-inside l q r c e in
-        (omega (arith, h .0, few-rules l a), omega (arith, h .1, few-constraints l a))
 
 -- ---- a record's place and length
 
@@ -109,13 +74,3 @@ number-fits b r e = omega (arith, number-few b r e, limit-most (sectionOf (getD 
 
 pub add-whole : AddWhole
 add-whole b h r = outcome-fits NumberFits (addFault b r) (newNumber b r) (add-fits b h r) (number-fits b r)
-
--- ---- the number itself
-
-pub parts-whole : PartsWhole
-unfolding partsOf
-parts-whole kind high low h k = omega arith
-
-pub parts-read : PartsRead
-unfolding partsOf
-parts-read kind high low h k m = (omega arith, omega arith, omega arith)

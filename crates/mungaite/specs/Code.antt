@@ -1,13 +1,9 @@
--- Answers as numbers of four 16-bit parts, the highest first, of which the first is 0.
---     partsOf kind high low   the number of the parts 0, kind, high, low
---     refusalCode f           0, 2, number, place
---     faultCode f             0 where nothing is refused, else the refusal
---     codeOf g o              what an outcome comes to, where g says it of what is given
---     decisionCode o          0 NotPermitted; 0, 1, 0, rule Permitted; 0, 3, rule, constraint UnKnown; or the refusal
---     recordCode l s n        0, 1, place, length of record n of section s: 0 groups, 1 rules, 2 constraints; or the
---                             refusal, which is 14 where there is no such section
---     addCode b r             0, 1, 0, number of the new record, or the refusal
-use Prim.Native.Nat.{ℕ, _+_, _*_, _%_}
+-- The other answers as numbers of four 16-bit parts, as a decision's is (`decisionCode`).
+--     faultCode f         0 where nothing is refused, else the refusal
+--     recordCode l s n    0, 1, place, length of record n of section s: 0 groups, 1 rules, 2 constraints; or the refusal,
+--                         which is 14 where there is no such section
+--     addCode b r         0, 1, 0, number of the new record, or the refusal
+use Prim.Native.Nat.{ℕ}
 use mathlib.Core.Bool.{cond}
 use mathlib.Core.Option.{Option, none, some}
 use mathlib.Core.List.{List}
@@ -18,34 +14,15 @@ use Rattle.format.specs.declared.Refusal.{Refusal}
 use Rattle.format.specs.declared.Extent.{Extent}
 use Rattle.format.specs.Refusals.{refusal, _orElse_}
 use Rattle.format.specs.Check.{check}
-use Rattle.format.specs.Answers.{Outcome, refused, gives, outcome, extent}
+use Rattle.format.specs.Answers.{outcome, extent}
 use Rattle.format.specs.Give.{giveFault}
 use Rattle.extension.specs.Add.{addFault, newNumber}
 use Rattle.decision.specs.declared.Query.{Query}
-use Rattle.decision.specs.Decide.{Decision, notPermitted, permitted, unknown}
-
-unfoldable pub partsOf : ℕ → ℕ → ℕ → ℕ
-partsOf kind high low = kind * 4294967296 + high % 65536 * 65536 + low % 65536
-
-unfoldable pub refusalCode : Refusal → ℕ
-refusalCode f = partsOf 2 (f .number) (f .place)
+use Rattle.decision.specs.Numbers.{partsOf, refusalCode, codeOf}
 
 abbrev pub faultCode : Option Refusal → ℕ
 faultCode none = 0
 faultCode (some f) = refusalCode f
-
-module _ {A : Type 0} where
-  abbrev pub codeOf : (A → ℕ) → Outcome A → ℕ
-  codeOf g (refused f) = refusalCode f
-  codeOf g (gives a) = g a
-
-abbrev pub givenCode : Decision → ℕ
-givenCode notPermitted = 0
-givenCode (permitted r) = partsOf 1 0 r
-givenCode (unknown r c) = partsOf 3 r c
-
-abbrev pub decisionCode : Outcome Decision → ℕ
-decisionCode = codeOf givenCode
 
 abbrev pub extentCode : Extent → ℕ
 extentCode e = partsOf 1 (e .place) (e .length)

@@ -1,26 +1,25 @@
-// The C interface: numbers and byte slices only. An answer is a number of four 16-bit parts, the highest first:
-// 0, 0, 0, 0 NotPermitted, or an image that is accepted; 0, 1, 0, rule Permitted; 0, 3, rule, constraint UnKnown;
-// 0, 2, number, place a refusal. include/mungaite.h declares the functions.
-mod parts; // parts.rt: an answer as a number
+// The C interface: numbers and byte slices only. An answer is a number of four 16-bit parts. include/mungaite.h declares the
+// functions and has the table of answers.
 
 use decide::decide;
-use decision::Answer;
 use decision::Query;
 use extend::add;
 use extension::Added;
 use format::Checked;
+use format::Found;
+use format::Refusal;
 use format::Section;
 use image::check;
 use image::find;
-use parts::found;
-use parts::parts;
-use parts::refused;
-use parts::wide_word;
+use numbers::number;
+use numbers::parts;
+use numbers::refused;
 ghost use mathlib.Core.Path.{_≡_};
 ghost use Rattle.format.specs.Check as reading;
 ghost use Rattle.extension.specs.Add.{bufferAfter};
 ghost use Rattle.decision.specs.Decide as deciding;
-ghost use Rattle.mungaite.specs.Code.{faultCode, decisionCode, recordCode, addCode, queryOf};
+ghost use Rattle.decision.specs.Numbers.{decisionCode};
+ghost use Rattle.mungaite.specs.Code.{faultCode, recordIn, recordCode, addCode, queryOf};
 
 // 0 where the image is accepted, else the refusal.
 #[no_mangle]
@@ -50,11 +49,16 @@ pub extern "C" fn mungaite_decide(
         class,
         action,
     };
-    match decide(image, q) {
-        Answer::NotPermitted => 0,
-        Answer::Permitted(r) => parts(1, 0, r),
-        Answer::UnKnown(r, c) => parts(3, r, c),
-        Answer::Refused(f) => refused(f),
+    number(decide(image, q))
+}
+
+// Record n of one section.
+fn record_in(image: &[u8], section: Section, n: u16) -> u64
+    ensures { λ r. ⌜ r ≡ recordIn (now (image .entry)) section n ⌝ }
+{
+    match find(image, section, n as usize) {
+        Found::At(e) => parts(1, e.place, e.length),
+        Found::Refused(f) => refused(f),
     }
 }
 
@@ -64,11 +68,14 @@ pub extern "C" fn mungaite_record(section: u16, n: u16, image: &[u8]) -> u64
     ensures { λ r. ⌜ r ≡ recordCode (now (image .entry)) section n ⌝ }
 {
     match section {
-        0 => found(find(image, Section::Groups, wide_word(n))),
-        1 => found(find(image, Section::Rules, wide_word(n))),
-        2 => found(find(image, Section::Constraints, wide_word(n))),
+        0 => record_in(image, Section::Groups, n),
+        1 => record_in(image, Section::Rules, n),
+        2 => record_in(image, Section::Constraints, n),
         _ => match check(image) {
-            Checked::Accepted => parts(2, 14, 0),
+            Checked::Accepted => refused(Refusal {
+                number: 14,
+                place: 0,
+            }),
             Checked::Refused(f) => refused(f),
         },
     }

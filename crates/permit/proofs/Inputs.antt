@@ -19,8 +19,7 @@ use Rattle.format.proofs.Bytes.{word-take}
 use Rattle.lines.proofs.Image.{size-none, size-short, size-whole}
 use Rattle.permit.specs.declared.source.Got.{Got}
 use Rattle.permit.specs.declared.source.Got.the-variants as got
-use Rattle.permit.specs.declared.source.Stop.the-variants as stop
-use Rattle.permit.specs.Inner.Input.{broughtBy, tryAgain, Brings, ImageRead}
+use Rattle.permit.specs.Inner.Input.{broughtBy, tryAgain, Brings}
 
 pub again-interrupted : (e : ℤ) → SFits w32 e → ofZ w32 e ≡ 4 → true ≡ tryAgain e
 again-interrupted (pos n) f h = rw h refl
@@ -97,16 +96,6 @@ size-more l l' have more h t k f s = go (leb 9 have) refl
         word-take more l' 1 (omega arith) ∙ sym (word-take have l' 1 (omega arith)) ∙ ap (λ x. wordAt x 1) t in
         omega (arith, size-same (take have l) (take more l') (omega (arith, length-take-le have l h)) (omega (arith, length-take-le more l' f)) w)
 
-module _ (l : List ℕ) (have : ℕ) (few : have < 65536) (fits : have ≤ length l) where
-  pub image-whole : (size : ℕ) → have ≡ size → size ≡ imageSize (take have l) → ImageRead l (record { have = have; why = stop.Whole })
-  image-whole size e s = record { few = few; fits = fits; stops = e ∙ s }
-
-  -- l₀ is what there was before the read that brought nothing
-  short : (l₀ : List ℕ) → take have l ≡ take have l₀ → have < imageSize (take have l₀) → have < imageSize (take have l)
-  short l₀ t h = rw t h
-
-  pub image-ended : (l₀ : List ℕ) → take have l ≡ take have l₀ → have < imageSize (take have l₀) → ImageRead l (record { have = have; why = stop.Ended })
-  image-ended l₀ t h = record { few = few; fits = fits; stops = short l₀ t h }
-
-  pub image-failed : (l₀ : List ℕ) → take have l ≡ take have l₀ → have < imageSize (take have l₀) → ImageRead l (record { have = have; why = stop.Failed })
-  image-failed l₀ t h = record { few = few; fits = fits; stops = short l₀ t h }
+-- l₀ is what there was before the read that brought nothing
+pub still-short : (l l₀ : List ℕ) (have : ℕ) → take have l ≡ take have l₀ → have < imageSize (take have l₀) → have < imageSize (take have l)
+still-short l l₀ have t h = rw t h

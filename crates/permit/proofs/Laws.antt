@@ -4,17 +4,19 @@ use native.Mathlib.Numerals.{add-one}
 use native.Mathlib.Omega.{arith}
 use mathlib.Core.Path.{_≡_, refl, sym, subst, ap, _∙_}
 use mathlib.Core.List.{List, [], _∷_, _++_, append-assoc, append-nil}
-use lib.ListN.{length, getD, set, take, drop, length-append, length-drop}
-use lib.Seq.{getD-set-other, getD-drop, take-suc, take-suc-set, take-add, take-length, length-take-le, drop-at}
+use lib.ListN.{length, set, take, drop, length-append, length-drop}
+use lib.Seq.{take-suc-set, take-add, take-append-add, take-length, length-take-le, take-at, drop-at}
 use borrow.Author.Tests.{eq-eqb, ne-eqb}
 use Rattle.format.specs.Refusals.{refusal}
-use Rattle.format.specs.Answers.{refused}
-use Rattle.decision.specs.declared.Query.{Query}
-use Rattle.decision.specs.declared.Answer.{Answer}
-use Rattle.decision.specs.Decide.{answer, answerOutcome}
+use Rattle.format.specs.Check.{Accepted}
+use Rattle.format.specs.Answers.{Outcome, refused}
+use Rattle.decision.specs.Decide.{Decision, answer}
+use Rattle.decision.specs.Numbers.{decisionCode, hostDecision}
+use Rattle.decision.specs.Rows.{queryAt}
+use Rattle.decision.proofs.Numbers.{accepted-read}
 use Rattle.io.specs.Digits.{digits, Fewest}
 use Rattle.lines.proofs.Numbers.{decimal-fewest, fewest-same, decimal-one}
-use Rattle.lines.specs.Lines.{width, decimal, pairLine, line, queryAt, linesFrom, lines}
+use Rattle.lines.specs.Lines.{width, decimal, line, linesFrom, lines}
 use Rattle.lines.specs.Output.{restOf, ending}
 use Rattle.permit.specs.Inner.Put.{Put, Front}
 
@@ -30,30 +32,26 @@ put-then {l} {l'} {l''} {at} {m} {to} {s} {t} p q =
 pub put-one : (l : List ℕ) (at b : ℕ) → at < length l → Put l (set l at b) at (at + 1) (b ∷ [])
 put-one l at b h = record { ends = refl; bytes = ap (λ k. take k (set l at b)) (add-one at) ∙ take-suc-set l at b h }
 
-pub put-said : {l l' : List ℕ} {at to : ℕ} {a b : Answer} → a ≡ b → Put l l' at to (line (answerOutcome b)) → Put l l' at to (line (answerOutcome a))
-put-said {l} {l'} {at} {to} e p = subst (λ x. Put l l' at to (line (answerOutcome x))) (sym e) p
+pub put-said : {l l' : List ℕ} {at to : ℕ} {o o' : Outcome Decision} → o ≡ o' → Put l l' at to (line o') → Put l l' at to (line o)
+put-said {l} {l'} {at} {to} e p = subst (λ x. Put l l' at to (line x)) (sym e) p
 
-pub pair-said : {l l' : List ℕ} {at to n m : ℕ} (letter b : ℕ) → n ≡ m → Put l l' at to (pairLine letter n b) → Put l l' at to (pairLine letter m b)
-pair-said {l} {l'} {at} {to} letter b e p = subst (λ x. Put l l' at to (pairLine letter x b)) e p
+-- the part of a buffer from a place on
+pub part-long : (l : List ℕ) (at : ℕ) → length (take (length l - at) (drop at l)) ≡ length l - at
+part-long l at = length-take-le (length l - at) (drop at l) (omega (arith, length-drop at l))
 
-pub put-none : (l : List ℕ) (at to : ℕ) (s : List ℕ) → to ≡ at + 0 → Put l l at to (take 0 s)
-put-none l at to s e = let z : to ≡ at = omega arith in record { ends = e; bytes = ap (λ k. take k l) z ∙ sym (append-nil (take at l)) }
+-- what was copied to the front of a buffer
+pub copied-front : (s rest l : List ℕ) (n : ℕ) → n ≡ length s → l ≡ take (length s) s ++ rest → take n l ≡ s
+copied-front s rest l n e is = ap (take n) (is ∙ ap (λ x. x ++ rest) (take-length s)) ∙ take-at s rest n (sym e)
 
--- one more byte, the next of s
-pub put-next :
-    (l l' s : List ℕ) (at i to : ℕ) → i < length s → at + i < length l' → to ≡ at + (i + 1)
-    → Put l l' at (at + i) (take i s) → Put l (set l' (at + i) (getD s i 0)) at to (take (i + 1) s)
-put-next l l' s at i to h f e p =
-    let q = put-then p (put-one l' (at + i) (getD s i 0) f) in
-    let n : to ≡ at + i + 1 = omega arith in
-    let t : take i s ++ (getD s i 0 ∷ []) ≡ take (i + 1) s = sym (ap (λ k. take k s) (add-one i) ∙ take-suc s i 0 h) in
-    subst (λ k. Put l (set l' (at + i) (getD s i 0)) at k (take (i + 1) s)) (sym n)
-    (subst (λ x. Put l (set l' (at + i) (getD s i 0)) at (at + i + 1) x) t q)
-
-pub put-all :
-    (l l' s : List ℕ) (at i : ℕ) → i ≡ length s → Put l l' at (at + i) (take i s) → Put l l' at (at + length s) s
-put-all l l' s at i e p =
-    subst (λ x. Put l l' at (at + length s) x) (take-length s) (subst (λ k. Put l l' at (at + k) (take k s)) e p)
+-- and to the front of a part of it
+pub put-copied : (l s rest part post : List ℕ) (at n : ℕ) → at ≤ length l → n ≡ length s → part ≡ take (length s) s ++ rest → Put l (take at l ++ (part ++ post)) at (at + n) s
+put-copied l s rest part post at n h e is =
+    record {
+      ends = ap (λ k. at + k) e;
+      bytes = ap (λ k. take (k + n) (take at l ++ (part ++ post))) (sym (length-take-le at l h))
+          ∙ take-append-add (take at l) (part ++ post) n
+          ∙ ap (λ x. take at l ++ x) (copied-front s (rest ++ post) (part ++ post) n e (ap (λ x. x ++ post) is ∙ append-assoc (take (length s) s) rest post));
+    }
 
 pub put-digit : {l l' : List ℕ} {at to : ℕ} (n : ℕ) → n < 10 → Put l l' at to ((48 + n) ∷ []) → Put l l' at to (decimal n)
 put-digit {l} {l'} {at} {to} n h p = subst (λ x. Put l l' at to x) (sym (decimal-one n h)) p
@@ -69,70 +67,57 @@ put-decimal {l} {l'} {at} {to} s n k h f e p =
 pub put-front : {l l' : List ℕ} {n : ℕ} {s : List ℕ} → n ≤ length l' → Put l l' 0 n s → Front l' n s
 put-front h p = record { fits = h; bytes = p .bytes }
 
--- ---- bytes that are moved to the front, one more at `i`, of what is still as it was from `i` on
-
-module _ (l₀ l : List ℕ) (from i : ℕ) (as-was : (k : ℕ) → i ≤ k → getD l k 0 ≡ getD l₀ k 0) where
-  pub moved-rest : (v k : ℕ) → i + 1 ≤ k → getD (set l i v) k 0 ≡ getD l₀ k 0
-  moved-rest v k h = getD-set-other l i k v 0 (λ e. omega arith) ∙ as-was k (omega arith)
-
-  pub moved-next :
-      i < length l → from + i < length l₀ → take i l ≡ take i (drop from l₀)
-      → take (i + 1) (set l i (getD l (from + i) 0)) ≡ take (i + 1) (drop from l₀)
-  moved-next h f e =
-      let d : i < length (drop from l₀) = omega (arith, length-drop from l₀) in
-      let v : getD l (from + i) 0 ≡ getD (drop from l₀) i 0 = as-was (from + i) (omega arith) ∙ sym (getD-drop from l₀ i 0) in
-      ap (λ k. take k (set l i (getD l (from + i) 0))) (add-one i)
-      ∙ take-suc-set l i (getD l (from + i) 0) h
-      ∙ ap (λ x. take i l ++ (x ∷ [])) v
-      ∙ ap (λ x. x ++ (getD (drop from l₀) i 0 ∷ [])) e
-      ∙ sym (ap (λ k. take k (drop from l₀)) (add-one i) ∙ take-suc (drop from l₀) i 0 d)
-
 -- the bytes past the last whole query
-pub rest-taken : (l : List ℕ) (have : ℕ) → have ≤ length l → restOf (take have l) ≡ take (have % 8) (drop (have - have % 8) l)
+pub rest-taken : (l : List ℕ) (have : ℕ) → have ≤ length l → restOf (take have l) ≡ take (have - (have - have % 8)) (drop (have - have % 8) l)
 unfolding restOf
 rest-taken l have h =
-    let n : length (take have l) ≡ have = length-take-le have l h in
-    let m : 8 * (have / 8) ≡ have - have % 8 = omega arith in
-    let s : have ≡ have - have % 8 + have % 8 = omega arith in
-    ap (λ k. drop (8 * (k / 8)) (take have l)) n
-    ∙ ap (λ k. drop k (take have l)) m
-    ∙ ap (λ k. drop (have - have % 8) (take k l)) s
-    ∙ ap (drop (have - have % 8)) (take-add (have - have % 8) (have % 8) l)
-    ∙ drop-at (take (have - have % 8) l) (take (have % 8) (drop (have - have % 8) l)) (have - have % 8)
-    (length-take-le (have - have % 8) l (omega arith))
+    let from = have - have % 8 in
+    let n : 8 * (length (take have l) / 8) ≡ have - have % 8 = omega (arith, length-take-le have l h) in
+    let s : have ≡ have - have % 8 + (have - (have - have % 8)) = omega arith in
+    ap (λ k. drop k (take have l)) n
+    ∙ ap (λ k. drop from (take k l)) s
+    ∙ ap (drop from) (take-add from (have - from) l)
+    ∙ drop-at (take from l) (take (have - from) (drop from l)) from (length-take-le from l (omega arith))
 
-pub moved-all : (l l' : List ℕ) (i n : ℕ) → i ≡ n → take i l ≡ take i l' → take n l ≡ take n l'
-moved-all l l' i n e m = subst (λ k. take k l ≡ take k l') e m
+pub rest-long : (l : List ℕ) (have : ℕ) → have ≤ length l → have % 8 ≡ length (take (have - (have - have % 8)) (drop (have - have % 8) l))
+rest-long l have h =
+    let from = have - have % 8 in
+    sym (length-take-le (have - from) (drop from l) (omega (arith, length-drop (have - have % 8) l)) ∙ omega arith)
 
--- ---- the lines of queries
+-- ---- the lines of queries: those of k rows are put, up to `end`
 
 module _ (l b : List ℕ) where
-  pub lines-start : (out : List ℕ) → lines l b ≡ take 0 out ++ linesFrom l b ((length b - 0) / 8) 0
+  abbrev pub LinesTo : List ℕ → ℕ → ℕ → Type 0
+  LinesTo out k end = lines l b ≡ take end out ++ linesFrom l b (length b / 8 - k) (8 * k)
+
+  pub lines-start : (out : List ℕ) → LinesTo out 0 0
   unfolding lines
-  lines-start out = let e : length b / 8 ≡ (length b - 0) / 8 = omega arith in ap (λ k. linesFrom l b k 0) e
+  lines-start out = let e : length b / 8 ≡ length b / 8 - 0 = omega arith in ap (λ k. linesFrom l b k 0) e
 
   lines-more : (k at : ℕ) → linesFrom l b (suc k) at ≡ line (answer l (queryAt b at)) ++ linesFrom l b k (at + 8)
   unfolding linesFrom
   lines-more k at = refl
 
   pub lines-next :
-      (out out' : List ℕ) (at end to : ℕ) (q : Query) (a : Answer) → at + 8 ≤ length b → Put out out' end to (line (answerOutcome a)) → answerOutcome a ≡ answer l q → q ≡ queryAt b at
-      → lines l b ≡ take end out ++ linesFrom l b ((length b - at) / 8) at → lines l b ≡ take to out' ++ linesFrom l b ((length b - (at + 8)) / 8) (at + 8)
-  lines-next out out' at end to q a h p e f is =
-      let m = (length b - (at + 8)) / 8 in
-      let k : (length b - at) / 8 ≡ suc ((length b - (at + 8)) / 8) = omega arith in
-      let said : line (answer l (queryAt b at)) ≡ line (answerOutcome a) = ap line (sym (e ∙ ap (answer l) f)) in
+      (out out' : List ℕ) (k end to n : ℕ) → Accepted l → k < length b / 8 → n ≡ decisionCode (answer l (queryAt b (8 * k)))
+      → Put out out' end to (line (hostDecision n)) → LinesTo out k end → LinesTo out' (k + 1) to
+  lines-next out out' k end to n a h e p is =
+      let m = length b / 8 - (k + 1) in
+      let left : length b / 8 - k ≡ suc (length b / 8 - (k + 1)) = omega arith in
+      let at : 8 * k + 8 ≡ 8 * (k + 1) = omega arith in
+      let said : answer l (queryAt b (8 * k)) ≡ hostDecision n = sym (ap hostDecision e ∙ accepted-read l a (queryAt b (8 * k))) in
       is
-      ∙ ap (λ x. take end out ++ linesFrom l b x at) k
-      ∙ ap (λ x. take end out ++ x) (lines-more m at ∙ ap (λ x. x ++ linesFrom l b m (at + 8)) said)
-      ∙ sym (append-assoc (take end out) (line (answerOutcome a)) (linesFrom l b m (at + 8)))
-      ∙ ap (λ x. x ++ linesFrom l b m (at + 8)) (sym (p .bytes))
+      ∙ ap (λ x. take end out ++ linesFrom l b x (8 * k)) left
+      ∙ ap (λ x. take end out ++ x) (lines-more m (8 * k) ∙ ap (λ x. line x ++ linesFrom l b m (8 * k + 8)) said)
+      ∙ sym (append-assoc (take end out) (line (hostDecision n)) (linesFrom l b m (8 * k + 8)))
+      ∙ ap (λ x. x ++ linesFrom l b m (8 * k + 8)) (sym (p .bytes))
+      ∙ ap (λ x. take to out' ++ linesFrom l b m x) at
 
-  pub lines-end : (out : List ℕ) (at end : ℕ) → length b - at < 8 → lines l b ≡ take end out ++ linesFrom l b ((length b - at) / 8) at → take end out ≡ lines l b
+  pub lines-end : (out : List ℕ) (k end : ℕ) → k ≡ length b / 8 → LinesTo out k end → take end out ≡ lines l b
   unfolding linesFrom
-  lines-end out at end h is =
-      let z : (length b - at) / 8 ≡ 0 = omega arith in
-      sym (is ∙ ap (λ x. take end out ++ linesFrom l b x at) z ∙ append-nil (take end out))
+  lines-end out k end h is =
+      let z : length b / 8 - k ≡ 0 = omega arith in
+      sym (is ∙ ap (λ x. take end out ++ linesFrom l b x (8 * k)) z ∙ append-nil (take end out))
 
 -- ---- the last line
 

@@ -1,20 +1,14 @@
 -- A turn: what came, what is to be written and what is kept, for each way that it goes. Assumes nothing.
 use Prim.Native.Nat.{ℕ, _+_, _≤_, _<_}
 use native.Mathlib.Omega.{arith}
-use mathlib.Core.Path.{_≡_, refl, sym, subst, ap, _∙_}
-use mathlib.Core.Option.{Option, none, some}
+use mathlib.Core.Path.{_≡_, refl, sym, subst, ap}
 use mathlib.Core.List.{List}
 use lib.ListN.{length, take}
 use Rattle.format.specs.declared.Refusal.{Refusal}
-use Rattle.format.specs.declared.Sections.the-variants as sections
-use Rattle.format.specs.Check.{check}
-use Rattle.format.specs.Answers.{refused, outcome, sectionsOutcome, starts}
-use Rattle.decide.specs.declared.engine.Prepared.{Prepared}
-use Rattle.decide.specs.Ready.{Prepares}
+use Rattle.format.specs.Answers.{refused}
 use Rattle.lines.specs.Lines.{line, lines}
 use Rattle.lines.specs.Output.{restOf, ending}
 use Rattle.permit.specs.declared.serve.Turn.{Turn}
-use Rattle.permit.specs.declared.serve.Next.the-variants as next
 use Rattle.permit.specs.Inner.Put.{Front}
 use Rattle.permit.specs.declared.source.Got.{Got}
 use Rattle.permit.specs.declared.source.Got.the-variants as got
@@ -24,31 +18,29 @@ module _ (l input : List ℕ) (output : List ℕ) (kept end : ℕ) (few : kept <
   pub turn-more :
       (g : Got) (n rest : ℕ) (input' : List ℕ) → g ≡ got.Bytes n → Front output end (lines l (take (kept + n) input)) → rest < 8
       → Front input' rest (restOf (take (kept + n) input))
-      → Turned g l (take (kept + came g) input) input' output (record { kept = rest; end = end; next = next.More })
+      → Turned g l (take (kept + came g) input) input' output (record { kept = rest; end = end })
   turn-more g n rest input' e w r k =
-      subst (λ x. Turned x l (take (kept + came x) input) input' output (record { kept = rest; end = end; next = next.More })) (sym e)
-      (record { goes = refl; written = w; few = r; left = k })
+      subst (λ x. Turned x l (take (kept + came x) input) input' output (record { kept = rest; end = end })) (sym e)
+      (record { written = w; few = r; left = k })
 
   none-came : take kept input ≡ take (kept + 0) input
   none-came = (let z : kept ≡ kept + 0 = omega arith in ap (λ n. take n input) z)
 
   pub turn-ended :
       (g : Got) → g ≡ got.Ended → Front output end (ending (take kept input))
-      → Turned g l (take (kept + came g) input) input output (record { kept = kept; end = end; next = next.Ended })
+      → Turned g l (take (kept + came g) input) input output (record { kept = kept; end = end })
   turn-ended g e w =
-      subst (λ x. Turned x l (take (kept + came x) input) input output (record { kept = kept; end = end; next = next.Ended })) (sym e)
+      subst (λ x. Turned x l (take (kept + came x) input) input output (record { kept = kept; end = end })) (sym e)
       (record {
-        goes = refl;
         written = subst (λ x. Front output end (ending x)) none-came w;
         few = few;
         left = record { fits = fits; bytes = none-came };
       })
 
-  pub turn-failed : (g : Got) → g ≡ got.Failed → Turned g l (take (kept + came g) input) input output (record { kept = kept; end = 0; next = next.Failed })
+  pub turn-failed : (g : Got) → g ≡ got.Failed → Turned g l (take (kept + came g) input) input output (record { kept = kept; end = 0 })
   turn-failed g e =
-      subst (λ x. Turned x l (take (kept + came x) input) input output (record { kept = kept; end = 0; next = next.Failed })) (sym e)
+      subst (λ x. Turned x l (take (kept + came x) input) input output (record { kept = kept; end = 0 })) (sym e)
       (record {
-        goes = refl;
         written = record { fits = omega arith; bytes = refl };
         few = few;
         left = record { fits = fits; bytes = none-came };
@@ -59,11 +51,3 @@ due-turn {g} {l} {b} t = Due.turn g l b (t .written .bytes)
 
 pub due-fault : (f : Refusal) {s : List ℕ} → Faulty f → s ≡ line (refused f) → Due s
 due-fault f h e = Due.fault f h e
-
--- what preparing says of a refused image
-pub faulty : (l : List ℕ) (p : Prepared) (f : Refusal) → Prepares l p → p .sections ≡ sections.Refused f → Faulty f
-faulty l p f h e = record { image = l; refuses = go (check l) (sym (ap sectionsOutcome e) ∙ h .sections) }
-  where
-    go : (x : Option Refusal) → refused f ≡ outcome x (starts l) → x ≡ some f
-    go none q = absurd (let z : _≡_ {A = ℕ} 0 1 = cc in omega arith)
-    go (some g) q = let z : g ≡ f = cc in ap some z

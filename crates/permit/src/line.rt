@@ -1,12 +1,10 @@
 // An answer as a line: a letter, the numbers in decimal with one space before each, and a line feed. Each function puts
 // bytes into a buffer, from a place on, and tells the place past them.
-use crate::word::wide;
-use decision::Answer;
 ghost use mathlib.Core.Path.{_≡_};
 ghost use mathlib.Core.List.{[], _∷_, _++_};
 ghost use Prim.Native.Nat.{_+_, _≤_, _<_};
 ghost use lib.ListN.{length};
-ghost use Rattle.decision.specs.Decide.{answerOutcome};
+ghost use Rattle.decision.specs.Numbers.{hostDecision};
 ghost use Rattle.lines.specs.Lines.{decimal, field, pairLine, line};
 ghost use Rattle.permit.specs.Inner.Put.{Put};
 
@@ -16,17 +14,6 @@ fn put_byte(byte: u8, output: &mut [u8], at: usize) -> usize
 {
     output[at] = byte;
     at + 1
-}
-
-// Bytes as they are.
-fn put_bytes(bytes: &[u8], output: &mut [u8], at: usize) -> usize
-    requires { ⌜ at + length (now bytes) ≤ length (now output) ⌝ }
-    ensures { λ r. ⌜ Put (now (output .entry)) (now (output .exit)) at r (now (bytes .entry)) ⌝ }
-{
-    for i in 0..bytes.len() {
-        output[at + i] = bytes[i];
-    }
-    at + bytes.len()
 }
 
 // A number in decimal. Most have one digit, and that is put at once.
@@ -39,7 +26,7 @@ fn put_number(n: usize, output: &mut [u8], at: usize) -> usize
     }
     let mut digits = [0u8; 20];
     let count = io::decimal(n as u64, &mut digits);
-    put_bytes(&digits[..count], output, at)
+    at + bytes::copy(&digits[..count], &mut output[at..])
 }
 
 // A space and a number.
@@ -81,16 +68,19 @@ fn put_not_permitted(output: &mut [u8], at: usize) -> usize
     put_byte(b'\n', output, end)
 }
 
-// The line of an answer. It has at most 44 bytes: a letter, two numbers of at most 20 digits with their spaces, and a line
-// feed.
-pub(crate) fn put_line(answer: Answer, output: &mut [u8], at: usize) -> usize
+// The line of an answer, from its number: the kind, and the two lowest parts. It has at most 44 bytes: a letter, two numbers
+// of at most 20 digits with their spaces, and a line feed.
+pub(crate) fn put_line(number: u64, output: &mut [u8], at: usize) -> usize
     requires { ⌜ at + 44 ≤ length (now output) ⌝ }
-    ensures { λ r. ⌜ Put (now (output .entry)) (now (output .exit)) at r (line (answerOutcome answer)) × (r ≤ at + 44) ⌝ }
+    ensures { λ r. ⌜ Put (now (output .entry)) (now (output .exit)) at r (line (hostDecision number)) × (r ≤ at + 44) ⌝ }
 {
-    match answer {
-        Answer::NotPermitted => put_not_permitted(output, at),
-        Answer::Permitted(rule) => put_permitted(rule, output, at),
-        Answer::UnKnown(rule, constraint) => put_pair(b'U', rule, constraint, output, at),
-        Answer::Refused(f) => put_pair(b'R', wide(f.number), f.place, output, at),
+    let kind = number / 4294967296 % 65536;
+    let third = (number / 65536 % 65536) as usize;
+    let fourth = (number % 65536) as usize;
+    match kind {
+        1 => put_permitted(fourth, output, at),
+        2 => put_pair(b'R', third, fourth, output, at),
+        3 => put_pair(b'U', third, fourth, output, at),
+        _ => put_not_permitted(output, at),
     }
 }

@@ -3,7 +3,6 @@
 // The image is the bytes up to its length field. A refused image gives one line and nothing more. What a query is
 // answered is `decide`'s; here are only the reads, the writes and the lines. An input that cannot be read, or an output
 // that cannot be written, ends the program, which says so on standard error.
-mod word; // word.rt: numbers in bytes
 mod line; // line.rt: an answer as a line
 mod again; // again.rt: a call that failed
 mod source; // source.rt: what standard input holds
@@ -15,7 +14,7 @@ use crate::serve::refuse;
 use crate::serve::serve;
 use crate::source::Stop;
 use crate::source::read_image;
-use format::Sections;
+use format::Checked;
 
 fn main() {
     let mut space = io::large_buffer();
@@ -26,15 +25,12 @@ fn main() {
     }
     let have = taken.have;
     let image = image::leading(&space[..have]);
-    let prepared = decide::prepare(image);
-    let sections = prepared.sections;
-    let groups = prepared.groups;
-    match sections {
-        Sections::Refused(f) => {
+    match image::check(image) {
+        Checked::Refused(f) => {
             refuse(f);
         }
-        Sections::At(s) => {
-            serve(image, &groups, s);
+        Checked::Accepted => {
+            serve(image);
         }
     }
 }

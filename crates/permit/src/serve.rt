@@ -1,4 +1,4 @@
-// One turn after the other: a read, and the lines for it, on an image that was checked once.
+// One turn after the other: a read, and the lines for it, on an accepted image.
 use crate::answers::put_answers;
 use crate::answers::put_ending;
 use crate::answers::put_refusal;
@@ -7,64 +7,47 @@ use crate::source::Got;
 use crate::source::keep_rest;
 use crate::source::read_between;
 use format::Refusal;
-use format::Starts;
 ghost use mathlib.Core.Path.{_≡_};
 ghost use Prim.Native.Nat.{_+_, _-_, _<_};
 ghost use lib.ListN.{length, take};
-ghost use Rattle.decide.specs.Ready.{Ready};
+ghost use Rattle.format.specs.Check.{Accepted};
 ghost use Rattle.permit.specs.Inner.Input.{Brings};
 ghost use Rattle.permit.specs.Inner.Turn.{came, Turned, Faulty};
 
-// Whether there may be more queries.
-pub(crate) enum Next {
-    More,
-    Ended,
-    Failed,
-}
-
-// What a turn leaves: how many bytes of the input are kept, how many of the output are to be written, and how it goes on.
+// What a turn leaves: how many bytes of the input are kept, and how many of the output are to be written.
 pub(crate) struct Turn {
     pub kept: usize,
     pub end: usize,
-    pub next: Next,
 }
 
 // Makes the lines that are to be written for what a read has brought, behind the bytes that were kept. The whole queries'
 // lines if bytes came, the last line if the input has ended.
 fn take_turn(
     image: &[u8],
-    groups: &[usize; 256],
-    s: Starts,
     got: Got,
     input: &mut [u8],
     kept: usize,
+    numbers: &mut [u64],
     output: &mut [u8],
 ) -> Turn
-    requires { ⌜ Ready (now image) (now groups) s × (kept < 8) × (16384 ≡ length (now input)) × (98304 ≡ length (now output)) × Brings (16384 - kept) got ⌝ }
+    requires { ⌜ (Accepted (now image)) × (kept < 8) × (16384 ≡ length (now input)) × (2048 ≡ length (now numbers))
+        × (98304 ≡ length (now output)) × Brings (16384 - kept) got ⌝ }
     ensures { λ r. ⌜ Turned got (now (image .entry)) (take (kept + came got) (now (input .entry))) (now (input .exit)) (now (output .exit)) r ⌝ }
 {
     match got {
         Got::Bytes(n) => {
             let have = kept + n;
-            let end = put_answers(image, groups, s, &input[..have], output);
+            let end = put_answers(image, &input[..have], numbers, output);
             Turn {
                 kept: keep_rest(input, have),
-                end: end,
-                next: Next::More,
+                end,
             }
         }
-        Got::Ended => {
-            Turn {
-                kept: kept,
-                end: put_ending(&input[..kept], output),
-                next: Next::Ended,
-            }
-        }
-        Got::Failed => Turn {
-            kept: kept,
-            end: 0,
-            next: Next::Failed,
+        Got::Ended => Turn {
+            kept,
+            end: put_ending(&input[..kept], output),
         },
+        Got::Failed => Turn { kept, end: 0 },
     }
 }
 
@@ -73,6 +56,13 @@ fn input_space() -> [u8; 16384]
     ensures { λ r. ⌜ 16384 ≡ length r ⌝ }
 {
     [0; 16384]
+}
+
+// 2,048 zeros, for the numbers of so many answers.
+fn number_space() -> [u64; 2048]
+    ensures { λ r. ⌜ 2048 ≡ length r ⌝ }
+{
+    [0; 2048]
 }
 
 // 98,304 zeros: the lines of so many queries fit.
@@ -84,29 +74,26 @@ fn output_space() -> [u8; 98304]
 
 // Takes turns until the input ends, an error ends it, or the output cannot be written. A proved loop has to end, so it
 // counts its turns down, from a number that no run uses up.
-pub(crate) fn serve(image: &[u8], groups: &[usize; 256], s: Starts)
-    requires { ⌜ Ready (now image) (now groups) s ⌝ }
+pub(crate) fn serve(image: &[u8])
+    requires { ⌜ Accepted (now image) ⌝ }
 {
     let mut input = input_space();
+    let mut numbers = number_space();
     let mut output = output_space();
     let mut kept: usize = 0;
     let mut turns = u64::MAX;
     while 0 < turns {
         let got = read_between(&mut input, kept, 16384);
-        let t = take_turn(image, groups, s, got, &mut input, kept, &mut output);
+        let t = take_turn(image, got, &mut input, kept, &mut numbers, &mut output);
         let end = t.end;
         if !write_all(&output[..end]) {
             return;
         }
-        let next = t.next;
-        match next {
-            Next::More => {
+        match got {
+            Got::Bytes(_) => {
                 kept = t.kept;
             }
-            Next::Ended => {
-                return;
-            }
-            Next::Failed => {
+            _ => {
                 return;
             }
         }

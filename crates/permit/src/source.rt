@@ -1,6 +1,6 @@
 // What standard input holds: the image's bytes, then what each read brings.
 use crate::again::retry;
-use crate::word::word_at;
+use format::header;
 use libc::STDIN_FILENO;
 ghost use mathlib.Core.Path.{_≡_};
 ghost use Prim.Native.Nat.{_-_, _≤_, _<_};
@@ -8,9 +8,6 @@ ghost use lib.ListN.{length, take};
 ghost use Rattle.lines.specs.Output.{imageSize, restOf};
 ghost use Rattle.permit.specs.Inner.Put.{Front};
 ghost use Rattle.permit.specs.Inner.Input.{broughtBy, Brings, ImageRead};
-
-// An image's header: the version, the length field and three counts.
-const HEADER: usize = 9;
 
 // What a read brought: some bytes, the end of the input, or an error.
 pub(crate) enum Got {
@@ -83,12 +80,12 @@ pub(crate) fn read_between(buffer: &mut [u8], from: usize, to: usize) -> Got
 fn image_size(bytes: &[u8]) -> usize
     ensures { λ r. ⌜ (r ≡ imageSize (now (bytes .entry))) × (r < 65536) ⌝ }
 {
-    if bytes.len() < HEADER {
-        return HEADER;
+    if bytes.len() < header::SIZE {
+        return header::SIZE;
     }
-    let size = word_at(bytes, 1) as usize;
-    if size < HEADER {
-        return HEADER;
+    let size = image::word_at(bytes, header::LENGTH_AT);
+    if size < header::SIZE {
+        return header::SIZE;
     }
     size
 }
@@ -133,9 +130,8 @@ pub(crate) fn keep_rest(buffer: &mut [u8], have: usize) -> usize
     ensures { λ r. ⌜ (r < 8) × Front (now (buffer .exit)) r (restOf (take have (now (buffer .entry)))) ⌝ }
 {
     let rest = have % 8;
-    let from = have - rest;
-    for i in 0..rest {
-        buffer[i] = buffer[from + i];
-    }
+    let mut cut = [0u8; 8];
+    bytes::copy(&buffer[have - rest..have], &mut cut);
+    bytes::copy(&cut[..rest], buffer);
     rest
 }

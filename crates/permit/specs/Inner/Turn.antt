@@ -1,6 +1,5 @@
 -- One turn of the program: what is to be written for what a read brought, as `served` says.
 --     came g           how many bytes came
---     nextOf g         how it goes on
 --     says g l b       what is to be written, on the image l, where b is what was left before and what came
 --     leaves g b       what is left of b for the next turn
 --     Turned g l b input output r   a turn; input and output after it
@@ -18,19 +17,12 @@ use Rattle.lines.specs.Output.{restOf, ending}
 use Rattle.permit.specs.Inner.Put.{Front}
 use Rattle.permit.specs.declared.source.Got.{Got}
 use Rattle.permit.specs.declared.source.Got.the-variants as got
-use Rattle.permit.specs.declared.serve.Next.{Next}
-use Rattle.permit.specs.declared.serve.Next.the-variants as next
 use Rattle.permit.specs.declared.serve.Turn.{Turn}
 
 abbrev pub came : Got → ℕ
 came (got.Bytes n) = n
 came got.Ended = 0
 came got.Failed = 0
-
-abbrev pub nextOf : Got → Next
-nextOf (got.Bytes n) = next.More
-nextOf got.Ended = next.Ended
-nextOf got.Failed = next.Failed
 
 abbrev pub says : Got → List ℕ → List ℕ → List ℕ
 says (got.Bytes n) l b = lines l b
@@ -43,7 +35,6 @@ leaves got.Ended b = b
 leaves got.Failed b = b
 
 pub record Turned (g : Got) (l b input output : List ℕ) (r : Turn) : Type 0 where
-  pub goes : r .next ≡ nextOf g
   pub written : Front output (r .end) (says g l b)
   pub few : r .kept < 8
   pub left : Front input (r .kept) (leaves g b)

@@ -6,12 +6,6 @@ use borrow.Author.Needs.{needs}
 use Rattle.permit.proofs.again.retry.Statement.{statement}
 use Rattle.permit.proofs.again.retry.Tie as tie
 
-is-again-requires : tie.Need-is-again-requires
-is-again-requires c κs = search needs
-
-wait-requires : tie.Need-wait-requires
-wait-requires c κs = search needs
-
 returns : tie.Need-returns
 returns c = sym (c .before .if1 .taken) ∙ c .before .before .is-again .ensures ∙ ap tryAgain (toZ-ofZ (c .before .before .before .fits .error))
 
@@ -19,4 +13,4 @@ returns-2 : tie.Need-returns-2
 returns-2 c = sym (c .if1 .left) ∙ c .before .is-again .ensures ∙ ap tryAgain (toZ-ofZ (c .before .before .fits .error))
 
 pub retry-spec : {M : Type 1} → statement M
-retry-spec = tie.close (tie.spec is-again-requires wait-requires returns returns-2)
+retry-spec = tie.close (tie.spec (λ c κs. search needs) (λ c κs. search needs) returns returns-2)

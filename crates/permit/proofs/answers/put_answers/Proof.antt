@@ -1,49 +1,34 @@
--- `put_answers` meets its contract: the lines so far, and those of the queries from `at` on. Assumes nothing.
+-- `put_answers` meets its contract: the lines of `k` rows are put. Assumes nothing.
 use native.Mathlib.Omega.{arith}
 use Prim.Native.Nat.{_-_, _*_, _/_, _≤_}
-use mathlib.Core.Path.{_≡_, refl}
-use mathlib.Core.List.{_++_}
-use lib.ListN.{length, take}
-use Rattle.lines.specs.Lines.{linesFrom, lines}
-use Rattle.permit.proofs.Laws.{lines-start, lines-next, lines-end}
+use mathlib.Core.Path.{_≡_, refl, ap, _∙_}
+use lib.ListN.{length, getD}
+use Rattle.decision.proofs.Rows.{rows-answered}
+use Rattle.permit.proofs.Laws.{LinesTo, lines-start, lines-next, lines-end}
 use Rattle.permit.proofs.answers.put_answers.Statement.{statement}
 use Rattle.permit.proofs.answers.put_answers.Tie as tie
 
 abbrev Inv-loop : tie.InvT-loop
-Inv-loop image groups s input output₀ at₀ end₀ output at end = (at ≤ length input) × (end ≤ 6 * at) × (length output ≡ length output₀) × (lines image input ≡ take end output ++ linesFrom image input ((length input - at) / 8) at)
+Inv-loop image input numbers output₀ rows end₀ k₀ output end k = (k ≤ rows) × (rows ≡ length input / 8) × (end ≤ 44 * k) × (length output ≡ length output₀) × LinesTo image input output k end
 
 abbrev μ-loop : tie.MeasureT-loop
-μ-loop image groups s input output₀ at₀ end₀ output at end = length input - at
+μ-loop image input numbers output₀ rows end₀ k₀ output end k = rows - k
 
 loop-holds : tie.Need-loop-holds Inv-loop μ-loop
-loop-holds c = (omega arith, omega arith, refl, lines-start _ _ (c .before .before .before .args .output .now))
-
-sub-loop : tie.Need-sub-loop Inv-loop μ-loop
-sub-loop c = omega arith
-
-query-at-requires : tie.Need-query-at-requires Inv-loop μ-loop
-query-at-requires c κs = omega arith
-
-decide-prepared-requires : tie.Need-decide-prepared-requires Inv-loop μ-loop
-decide-prepared-requires c κs = c .before .before .before .before .before .before .pre .0
-
-put-line-requires : tie.Need-put-line-requires Inv-loop μ-loop
-put-line-requires c κs = omega arith
-
-add-at : tie.Need-add-at Inv-loop μ-loop
-add-at c = omega arith
-
-loop-less : tie.Need-loop-less Inv-loop μ-loop
-loop-less c = omega arith
+loop-holds c = (omega arith, omega (arith, c .before .before .decide-all .ensures .0), omega arith, refl, lines-start _ _ (c .before .before .before .before .before .before .before .before .args .output .now))
 
 loop-again : tie.Need-loop-again Inv-loop μ-loop
-loop-again c = (omega arith, omega arith, omega arith, lines-next _ _ _ _ _ _ _ _ (c .before .before .before .before .decide-prepared .result) (omega arith) (c .before .before .put-line .ensures .0) (c .before .before .before .before .decide-prepared .ensures) (c .before .before .before .before .before .query-at .ensures) (c .before .before .before .before .before .before .before .loop .inv .3))
-
-same-length : tie.Need-same-length Inv-loop μ-loop
-same-length c = omega arith
+loop-again c =
+    let start = c .before .before .before .before .before .before .before .before .before .before .before .before .before .before .before in
+    let decided = c .before .before .before .before .before .before .before .before .before .decide-all .ensures in
+    let now = c .before .before .before .before .before .before .loop in
+    let number = ap (λ x. getD x (now .k) 0) (decided .1) ∙ rows-answered _ _ _ (now .k) (omega (arith, decided .0)) in
+    (omega arith, omega arith, omega arith, omega arith, lines-next _ _ (now .output) _ (now .k) (now .end) _ _ (start .pre .0) (omega arith) number (c .before .before .put-line .ensures .0) (now .inv .4))
 
 returns : tie.Need-returns Inv-loop μ-loop
-returns c = record { fits = omega arith; bytes = lines-end _ _ (c .before .loop .output) (c .before .loop .at) (c .before .loop .end) (omega arith) (c .before .loop .inv .3) }
+returns c =
+    let now = c .before .loop in
+    record { fits = omega arith; bytes = lines-end _ _ (now .output) (now .k) (now .end) (omega arith) (now .inv .4) }
 
 pub put-answers-spec : {M : Type 1} → statement M
 put-answers-spec =
@@ -51,13 +36,14 @@ put-answers-spec =
     (tie.spec
     Inv-loop
     μ-loop
+    (λ c κs. tt)
     loop-holds
-    sub-loop
-    query-at-requires
-    decide-prepared-requires
-    put-line-requires
-    add-at
-    loop-less
+    (λ c. omega arith)
+    (λ c. omega arith)
+    (λ c κs. omega arith)
+    (λ c. omega arith)
+    (λ c. omega arith)
     loop-again
-    same-length
+    (λ c. omega arith)
+    (λ c. omega arith)
     returns)

@@ -8,14 +8,8 @@ use Rattle.permit.proofs.answers.put_ending.Tie as tie
 returns : tie.Need-returns
 returns c = ending-none _ _ (c .if1 .taken)
 
-put-refusal-requires : tie.Need-put-refusal-requires
-put-refusal-requires c κs = omega arith
-
-same-length : tie.Need-same-length
-same-length c = search needs
-
 returns-2 : tie.Need-returns-2
 returns-2 c = ending-some _ _ _ (c .before .before .before .before .if1 .left) (c .before .before .put-refusal .ensures)
 
 pub put-ending-spec : {M : Type 1} → statement M
-put-ending-spec = tie.close (tie.spec returns put-refusal-requires same-length returns-2)
+put-ending-spec = tie.close (tie.spec returns (λ c κs. omega arith) (λ c. search needs) returns-2)

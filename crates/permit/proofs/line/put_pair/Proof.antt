@@ -5,21 +5,6 @@ use Rattle.permit.proofs.Laws.{put-then}
 use Rattle.permit.proofs.line.put_pair.Statement.{statement}
 use Rattle.permit.proofs.line.put_pair.Tie as tie
 
-put-byte-requires : tie.Need-put-byte-requires
-put-byte-requires c κs = search needs
-
-put-field-requires : tie.Need-put-field-requires
-put-field-requires c κs = search needs
-
-put-field-requires-2 : tie.Need-put-field-requires-2
-put-field-requires-2 c κs = search needs
-
-put-byte-requires-2 : tie.Need-put-byte-requires-2
-put-byte-requires-2 c κs = search needs
-
-same-length : tie.Need-same-length
-same-length c = search needs
-
 returns : tie.Need-returns
 returns c = (put-then (c .before .before .before .before .before .before .before .before .before .before .before .before .before .before .put-byte .ensures .0) (put-then (c .before .before .before .before .before .before .before .before .before .before .put-field .ensures .0) (put-then (c .before .before .before .before .before .before .put-field2 .ensures .0) (c .before .before .put-byte2 .ensures .0))), omega arith)
 
@@ -27,9 +12,9 @@ pub put-pair-spec : {M : Type 1} → statement M
 put-pair-spec =
     tie.close
     (tie.spec
-    put-byte-requires
-    put-field-requires
-    put-field-requires-2
-    put-byte-requires-2
-    same-length
+    (λ c κs. search needs)
+    (λ c κs. search needs)
+    (λ c κs. search needs)
+    (λ c κs. search needs)
+    (λ c. search needs)
     returns)

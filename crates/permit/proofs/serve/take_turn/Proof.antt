@@ -9,12 +9,9 @@ use Rattle.permit.proofs.Turns.{turn-more, turn-ended, turn-failed}
 use Rattle.permit.proofs.serve.take_turn.Statement.{statement}
 use Rattle.permit.proofs.serve.take_turn.Tie as tie
 
-enum-known-got : tie.Need-enum-known-got
-enum-known-got c = search needs
-
 -- what a read of some bytes has brought
-some : (c : tie.After-known-told) → (0 < c .before .got .given .0 .0) × (c .before .got .given .0 .0 ≤ 16384 - c .before .before .before .before .before .before .args .kept)
-some c = bytes-brought _ _ _ (c .before .got .given .1) (c .before .before .before .before .before .before .pre .4)
+some : (c : tie.After-known-told) → (0 < c .before .got .given .0 .0) × (c .before .got .given .0 .0 ≤ 16384 - c .before .before .before .before .before .before .before .args .kept)
+some c = bytes-brought _ _ _ (c .before .got .given .1) (c .before .before .before .before .before .before .before .pre .5)
 
 add-have : tie.Need-add-have
 add-have c = omega (arith, some c)
@@ -23,76 +20,57 @@ slice-reshare-prefix-put-answers : tie.Need-slice-reshare-prefix-put-answers
 slice-reshare-prefix-put-answers c = omega (arith, some c)
 
 slice-aggregate-put-answers : tie.Need-slice-aggregate-put-answers
-slice-aggregate-put-answers c = sym (length-take-le (c .before .before .before .before .before .before .before .args .kept + c .before .before .got .given .0 .0) (c .before .before .before .before .before .before .before .args .input .now) (omega (arith, some (c .before))))
+slice-aggregate-put-answers c = sym (length-take-le (c .before .before .before .before .before .before .before .before .args .kept + c .before .before .got .given .0 .0) (c .before .before .before .before .before .before .before .before .args .input .now) (omega (arith, some (c .before))))
 
 put-answers-requires : tie.Need-put-answers-requires
-put-answers-requires c κs = (c .before .before .before .before .before .before .before .before .pre .0, omega (arith, some (c .before .before), length-take-le (c .before .before .before .before .before .before .before .before .args .kept + c .before .before .before .got .given .0 .0) (c .before .before .before .before .before .before .before .before .args .input .now) (omega (arith, some (c .before .before)))))
+put-answers-requires c κs =
+    let start = c .before .before .before .before .before .before .before .before .before .before in
+    let got = some (c .before .before .before) in
+    let long = length-take-le (start .args .kept + c .before .before .before .before .got .given .0 .0) (start .args .input .now) (omega (arith, got)) in
+    (start .pre .0, omega (arith, got, long), omega (arith, got, long))
 
 keep-rest-requires : tie.Need-keep-rest-requires
-keep-rest-requires c κs = omega (arith, some (c .before .before .before .before .before .before))
-
-enum-told : tie.Need-enum-told
-enum-told c = search needs
-
-slice-reshare-prefix-put-ending : tie.Need-slice-reshare-prefix-put-ending
-slice-reshare-prefix-put-ending c = omega arith
+keep-rest-requires c κs = omega (arith, some (c .before .before .before .before .before .before .before .before .before))
 
 slice-aggregate-put-ending : tie.Need-slice-aggregate-put-ending
-slice-aggregate-put-ending c = sym (length-take-le (c .before .before .before .before .before .before .args .kept) (c .before .before .before .before .before .before .args .input .now) (omega arith))
-
-put-ending-requires : tie.Need-put-ending-requires
-put-ending-requires c κs = omega arith
-
-enum-told-2 : tie.Need-enum-told-2
-enum-told-2 c = search needs
-
-same-length : tie.Need-same-length
-same-length c = search needs
-
-same-length-2 : tie.Need-same-length-2
-same-length-2 c = search needs
+slice-aggregate-put-ending c = sym (length-take-le (c .before .before .before .before .before .before .before .args .kept) (c .before .before .before .before .before .before .before .args .input .now) (omega arith))
 
 returns : tie.Need-returns
 returns c =
-    let start = c .before .before .before .before .before .before .before .before .before .before .before .before .before .before .before .args in
+    let start = c .before .before .before .before .before .before .before .before .before .before .before .before .before .before .before .before .before .before .before .args in
     let kept = c .before .before .keep-rest in
-    turn-more _ (start .input .now) _ (start .kept) _ (omega arith) (omega arith) (start .got) _ _ _ (c .before .before .before .before .before .before .before .before .before .before .got .given .1) (c .before .before .before .before .before .before .put-answers .ensures) (kept .ensures .0) (kept .ensures .1)
-
-same-length-3 : tie.Need-same-length-3
-same-length-3 c = search needs
-
-same-length-4 : tie.Need-same-length-4
-same-length-4 c = search needs
+    turn-more _ (start .input .now) _ (start .kept) _ (omega arith) (omega arith) (start .got) _ _ _ (c .before .before .before .before .before .before .before .before .before .before .before .before .before .got .given .1) (c .before .before .before .before .before .before .before .before .put-answers .ensures) (kept .ensures .0) (kept .ensures .1)
 
 returns-2 : tie.Need-returns-2
 returns-2 c =
-    let start = c .before .before .before .before .before .before .before .before .before .before .args in
+    let start = c .before .before .before .before .before .before .before .before .before .before .before .args in
     turn-ended _ (start .input .now) _ (start .kept) _ (omega arith) (omega arith) (start .got) (c .before .before .before .before .before .enum-told .given .1) (c .before .before .put-ending .ensures)
 
 returns-3 : tie.Need-returns-3
 returns-3 c =
-    let start = c .before .before .before .before .before .args in
+    let start = c .before .before .before .before .before .before .args in
     turn-failed _ (start .input .now) _ (start .kept) 0 (omega arith) (omega arith) (start .got) (c .enum-told2 .given .1)
 
 pub take-turn-spec : {M : Type 1} → statement M
 take-turn-spec =
     tie.close
     (tie.spec
-    enum-known-got
+    (λ c. search needs)
     add-have
     slice-reshare-prefix-put-answers
     slice-aggregate-put-answers
     put-answers-requires
     keep-rest-requires
-    enum-told
-    slice-reshare-prefix-put-ending
+    (λ c. search needs)
+    (λ c. omega arith)
     slice-aggregate-put-ending
-    put-ending-requires
-    enum-told-2
-    same-length
-    same-length-2
+    (λ c κs. omega arith)
+    (λ c. search needs)
+    (λ c. search needs)
+    (λ c. search needs)
+    (λ c. search needs)
     returns
-    same-length-3
-    same-length-4
+    (λ c. search needs)
+    (λ c. search needs)
     returns-2
     returns-3)

@@ -6,9 +6,6 @@ use borrow.Author.Needs.{needs}
 use Rattle.permit.proofs.source.brought.Statement.{statement}
 use Rattle.permit.proofs.source.brought.Tie as tie
 
-count-requires : tie.Need-count-requires
-count-requires c κs = search needs
-
 returns : tie.Need-returns
 returns c =
     let start = c .before .before .before in
@@ -23,4 +20,4 @@ returns-3 c =
     brought-error (start .args .answer) _ _ (toZ-ofZ (start .fits .answer)) (c .before .if1 .left) (c .if2 .left)
 
 pub brought-spec : {M : Type 1} → statement M
-brought-spec = tie.close (tie.spec count-requires returns returns-2 returns-3)
+brought-spec = tie.close (tie.spec (λ c κs. search needs) returns returns-2 returns-3)

@@ -8,21 +8,6 @@ use borrow.Author.Needs.{needs}
 use Rattle.permit.proofs.source.read_between.Statement.{statement}
 use Rattle.permit.proofs.source.read_between.Tie as tie
 
-sub-read-some : tie.Need-sub-read-some
-sub-read-some c = search needs
-
-part-read-some-start : tie.Need-part-read-some-start
-part-read-some-start c = search needs
-
-part-read-some-end : tie.Need-part-read-some-end
-part-read-some-end c = search needs
-
-read-some-requires : tie.Need-read-some-requires
-read-some-requires c κs = search needs
-
-same-length : tie.Need-same-length
-same-length c = search needs
-
 returns : tie.Need-returns
 returns c =
     let start = c .before .before .before .before .before .args in
@@ -33,9 +18,9 @@ pub read-between-spec : {M : Type 1} → statement M
 read-between-spec =
     tie.close
     (tie.spec
-    sub-read-some
-    part-read-some-start
-    part-read-some-end
-    read-some-requires
-    same-length
+    (λ c. search needs)
+    (λ c. search needs)
+    (λ c. search needs)
+    (λ c κs. search needs)
+    (λ c. search needs)
     returns)

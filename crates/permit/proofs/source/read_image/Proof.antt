@@ -2,11 +2,11 @@
 use borrow.Author.Needs.{needs}
 use native.Mathlib.Omega.{arith}
 use Prim.Native.Nat.{_-_, _≤_, _<_}
-use mathlib.Core.Path.{_≡_, sym}
+use mathlib.Core.Path.{_≡_, sym, _∙_}
 use lib.ListN.{length, take}
 use lib.Seq.{length-take-le}
 use Rattle.lines.specs.Output.{imageSize}
-use Rattle.permit.proofs.Inputs.{bytes-brought, size-more, image-whole, image-ended, image-failed}
+use Rattle.permit.proofs.Inputs.{bytes-brought, size-more, still-short}
 use Rattle.permit.proofs.source.read_image.Statement.{statement}
 use Rattle.permit.proofs.source.read_image.Tie as tie
 
@@ -19,26 +19,14 @@ abbrev μ-loop : tie.MeasureT-loop
 loop-holds : tie.Need-loop-holds Inv-loop μ-loop
 loop-holds c = (omega arith, omega arith, omega arith)
 
-slice-reshare-prefix-image-size : tie.Need-slice-reshare-prefix-image-size Inv-loop μ-loop
-slice-reshare-prefix-image-size c = search needs
-
 slice-aggregate-image-size : tie.Need-slice-aggregate-image-size Inv-loop μ-loop
 slice-aggregate-image-size c = sym (length-take-le (c .before .loop .have) (c .before .loop .space) (omega arith))
 
-image-size-requires : tie.Need-image-size-requires Inv-loop μ-loop
-image-size-requires c κs = search needs
-
-same-length : tie.Need-same-length Inv-loop μ-loop
-same-length c = search needs
-
 returns : tie.Need-returns Inv-loop μ-loop
-returns c = image-whole _ _ (omega arith) (omega arith) _ (c .if1 .taken) (c .before .image-size .ensures .0)
+returns c = record { few = omega arith; fits = omega arith; stops = c .if1 .taken ∙ c .before .image-size .ensures .0 }
 
 read-between-requires : tie.Need-read-between-requires Inv-loop μ-loop
 read-between-requires c κs = (omega (arith, c .before .before .image-size .ensures .0), omega arith)
-
-enum-known-n : tie.Need-enum-known-n Inv-loop μ-loop
-enum-known-n c = search needs
 
 -- what a read of some bytes has brought
 some : (c : tie.After-known-told Inv-loop μ-loop) → (0 < c .before .n .given .0 .0) × (c .before .n .given .0 .0 ≤ c .before .before .before .before .before .before .before .before .image-size .result - c .before .before .before .before .before .before .before .before .before .before .loop .have)
@@ -57,31 +45,19 @@ loop-again c =
     let read = c .before .before .before .before .before .read-between in
     (omega (arith, some c), omega arith, size-more (loop .space) (read .last .0) (loop .have) _ (omega arith) (read .ensures .1) (omega (arith, some c)) (omega (arith, some c)) (omega (arith, some c, size .ensures .0)))
 
-enum-told : tie.Need-enum-told Inv-loop μ-loop
-enum-told c = search needs
-
-same-length-2 : tie.Need-same-length-2 Inv-loop μ-loop
-same-length-2 c = search needs
-
 returns-2 : tie.Need-returns-2 Inv-loop μ-loop
 returns-2 c =
     let loop = c .before .before .before .before .before .before .before .before .before .loop in
     let size = c .before .before .before .before .before .before .before .image-size in
     let read = c .before .before .before .before .read-between in
-    image-ended (read .last .0) (loop .have) (omega arith) (omega arith) (loop .space) (read .ensures .1) (omega (arith, size .ensures .0))
-
-enum-told-2 : tie.Need-enum-told-2 Inv-loop μ-loop
-enum-told-2 c = search needs
-
-same-length-3 : tie.Need-same-length-3 Inv-loop μ-loop
-same-length-3 c = search needs
+    record { few = omega arith; fits = omega arith; stops = still-short (read .last .0) (loop .space) (loop .have) (read .ensures .1) (omega (arith, size .ensures .0)) }
 
 returns-3 : tie.Need-returns-3 Inv-loop μ-loop
 returns-3 c =
     let loop = c .before .before .before .before .before .before .before .before .before .loop in
     let size = c .before .before .before .before .before .before .before .image-size in
     let read = c .before .before .before .before .read-between in
-    image-failed (read .last .0) (loop .have) (omega arith) (omega arith) (loop .space) (read .ensures .1) (omega (arith, size .ensures .0))
+    record { few = omega arith; fits = omega arith; stops = still-short (read .last .0) (loop .space) (loop .have) (read .ensures .1) (omega (arith, size .ensures .0)) }
 
 pub read-image-spec : {M : Type 1} → statement M
 read-image-spec =
@@ -90,19 +66,19 @@ read-image-spec =
     Inv-loop
     μ-loop
     loop-holds
-    slice-reshare-prefix-image-size
+    (λ c. search needs)
     slice-aggregate-image-size
-    image-size-requires
-    same-length
+    (λ c κs. search needs)
+    (λ c. search needs)
     returns
     read-between-requires
-    enum-known-n
+    (λ c. search needs)
     add-have
     loop-less
     loop-again
-    enum-told
-    same-length-2
+    (λ c. search needs)
+    (λ c. search needs)
     returns-2
-    enum-told-2
-    same-length-3
+    (λ c. search needs)
+    (λ c. search needs)
     returns-3)
