@@ -1,9 +1,8 @@
 #!/usr/bin/env bash
-# The hand-written engine of bench/ passes its own tests, and the benchmark builds, finds both engines' answers the same and
-# runs to its end.
+# The benchmark's policies hold every decision, and it builds, finds both engines' answers the same and runs to its end.
 set -euo pipefail
-cd "$(dirname "$0")/../bench"
-PERMIT=$(realpath ../target/bin/permit)
+cd "$(dirname "$0")/.."
+PERMIT=$(realpath target/bin/permit)
 export PERMIT
-cargo test --release --offline --quiet -j1
-cargo run --release --offline --quiet -j1 -- --quick
+cargo test --release --offline --quiet -j1 -p bench
+cargo run --profile measured --offline --quiet -j1 -p bench -- --quick

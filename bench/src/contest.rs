@@ -1,14 +1,11 @@
 //! One policy and its queries, put to both engines.
 
+use crate::measure::{least, Effort};
+use crate::ours;
+use hand_written::{check, decide, decide_checked, Prepared};
+use mungaite::Query;
 use std::hint::black_box;
 use std::process::exit;
-
-use crate::engine::answer::Query;
-use crate::engine::check::check;
-use crate::engine::decide::{decide, decide_checked};
-use crate::engine::prepared::Prepared;
-use crate::measure::{least, Effort};
-use crate::ours::{self, number_of};
 
 pub struct Case {
     pub name: String,
@@ -25,69 +22,50 @@ pub struct Figures {
 }
 
 impl Case {
-    /// Compares the answers to every query, then times; a decision's figure
-    /// is the mean over the queries.
+    /// Compares the answers to every query, then times; a decision's figure is the mean over the queries.
     pub fn run(&self, effort: Effort) -> [Figures; 3] {
         self.compare();
         let image = self.image.as_slice();
         let prepared = Prepared::new(image);
-        let each = |decide: &dyn Fn(&[u8], &Query) -> u64| {
-            for query in &self.queries {
-                black_box(decide(black_box(image), black_box(query)));
-            }
-        };
         let times = least(
             effort,
             [
                 &mut || _ = black_box(ours::check(black_box(image))),
                 &mut || _ = black_box(check(black_box(image))),
-                &mut || each(&ours::decide),
-                &mut || each(&|image, query| number_of(decide(image, query))),
-                &mut || each(&|image, query| number_of(decide_checked(image, query))),
-                &mut || each(&|_, query| number_of(prepared.decide(query))),
+                &mut || self.each(ours::decide),
+                &mut || self.each(decide),
+                &mut || self.each(decide_checked),
+                &mut || self.each(|_, query| prepared.decide(query)),
                 &mut || drop(black_box(Prepared::new(black_box(image)))),
             ],
         );
-        let [our_check, its_check, our_both, its_both, its_decide, prepared_decide, prepare] =
-            times;
+        let [our_check, its_check, our_both, its_both, its_decide, prepared_decide, prepare] = times;
         let count = self.queries.len() as f64;
+        let figures = |work, ours, hand_written, prepared| Figures { work, ours, hand_written, prepared };
         [
-            Figures {
-                work: "check",
-                ours: our_check,
-                hand_written: its_check,
-                prepared: Some(its_check + prepare),
-            },
-            Figures {
-                work: "check + decide",
-                ours: our_both / count,
-                hand_written: its_both / count,
-                prepared: None,
-            },
-            Figures {
-                work: "decide",
-                ours: our_both / count - our_check,
-                hand_written: its_decide / count,
-                prepared: Some(prepared_decide / count),
-            },
+            figures("check", our_check, its_check, Some(its_check + prepare)),
+            figures("check + decide", our_both / count, its_both / count, None),
+            figures("decide", our_both / count - our_check, its_decide / count, Some(prepared_decide / count)),
         ]
+    }
+
+    fn each<T>(&self, decide: impl Fn(&[u8], Query) -> T) {
+        for query in &self.queries {
+            black_box(decide(black_box(&self.image), black_box(*query)));
+        }
     }
 
     /// Ends the program where the engines differ.
     fn compare(&self) {
-        if ours::check(&self.image) != 0 || check(&self.image).is_err() {
+        if mungaite::check(&self.image).is_err() || check(&self.image).is_err() {
             self.fail("the image is refused");
         }
         let prepared = Prepared::new(&self.image);
-        for query in &self.queries {
-            let answers = [
-                number_of(decide(&self.image, query)),
-                number_of(decide_checked(&self.image, query)),
-                number_of(prepared.decide(query)),
-            ];
-            let ours = ours::decide(&self.image, query);
+        for &query in &self.queries {
+            let ours = mungaite::decide(&self.image, query);
+            let answers = [decide(&self.image, query), decide_checked(&self.image, query), prepared.decide(query)];
             if answers != [ours; 3] {
-                self.fail(&format!("{query:?}: {ours:016x}, and {answers:016x?}"));
+                self.fail(&format!("{query:?}: {ours:?}, and {answers:?}"));
             }
         }
     }

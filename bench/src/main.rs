@@ -2,52 +2,37 @@
 
 mod cases;
 mod contest;
-#[allow(dead_code)] // giving and adding records are not timed
-mod engine;
 mod measure;
 mod ours;
 mod program;
 mod table;
 
-use std::env;
-use std::process::exit;
-
 use cases::constraints::{bans, companions, rosters, separations};
 use cases::search::search;
 use cases::sizes::{limit, middle, sample};
 use measure::Effort;
+use program::Program;
+use std::env;
+use std::process::exit;
 
 fn main() {
     let arguments: Vec<String> = env::args().skip(1).collect();
-    let (effort, repeats) = match arguments.iter().map(String::as_str).collect::<Vec<_>>()[..] {
+    let (effort, runs) = match arguments.iter().map(String::as_str).collect::<Vec<_>>()[..] {
         [] => (Effort::FULL, 3),
         ["--quick"] => (Effort::QUICK, 1),
         _ => {
-            eprintln!("usage: cargo run --release --offline [-- --quick]");
+            eprintln!("usage: bench/run [--quick]");
             exit(2);
         }
     };
-    println!(
-        "Nanoseconds, the least of up to {} samples.",
-        effort.samples
-    );
-    table::print(
-        "Three sizes of policy, a mix of queries",
-        &[sample(), middle(), limit()],
-        effort,
-    );
-    table::print(
-        "The longest searches",
-        &[
-            search("uncovered, 1024 rules".to_string(), 256, 1024, false),
-            search("covered by the last of them".to_string(), 256, 1024, true),
-            bans(),
-            separations(),
-            rosters(),
-            companions(),
-        ],
-        effort,
-    );
+    println!("Nanoseconds, the least of up to {} samples.", effort.samples);
+    table::print("Three sizes of policy, a mix of queries", &[sample(), middle(), limit()], effort);
+    let searches = [
+        search("uncovered, 1024 rules".to_string(), 256, 1024, false),
+        search("covered by the last of them".to_string(), 256, 1024, true),
+    ];
+    let held = [bans(), separations(), rosters(), companions()];
+    table::print("The longest searches", searches.iter().chain(&held), effort);
     table::print(
         "Growth with the rules: uncovered, 256 groups",
         &[128, 256, 512, 1024].map(|rules| search(format!("{rules} rules"), 256, rules, false)),
@@ -58,9 +43,12 @@ fn main() {
         &[32, 64, 128, 256].map(|groups| search(format!("{groups} groups"), groups, 1024, false)),
         effort,
     );
-    program::print(
-        "The program permit, policy of 256 groups, 1024 rules, 256 constraints",
-        &limit(),
-        repeats,
-    );
+    match Program::find() {
+        Ok(permit) => {
+            permit.growth(&limit(), runs);
+            permit.many(&[(sample(), 100_000), (middle(), 50_000), (limit(), 1_000)], 5 * runs);
+            permit.held(&held, 10 * runs);
+        }
+        Err(what) => println!("\nThe program permit is left out: {what}"),
+    }
 }

@@ -4,8 +4,7 @@ use std::time::{Duration, Instant};
 
 #[derive(Clone, Copy)]
 pub struct Effort {
-    /// How many samples are taken of each piece of work, unless the time for
-    /// all of them is over.
+    /// How many samples are taken of each piece of work, unless the time for all of them is over.
     pub samples: usize,
     pub in_all: Duration,
     /// How long a sample is meant to take; it has one run at least.
@@ -13,23 +12,16 @@ pub struct Effort {
 }
 
 impl Effort {
-    pub const FULL: Effort = Effort {
-        samples: 1000,
-        in_all: Duration::from_secs(3),
-        sample: Duration::from_micros(100),
-    };
-    pub const QUICK: Effort = Effort {
-        samples: 150,
-        in_all: Duration::from_millis(400),
-        sample: Duration::from_micros(50),
-    };
+    pub const FULL: Effort =
+        Effort { samples: 1000, in_all: Duration::from_secs(3), sample: Duration::from_micros(100) };
+    pub const QUICK: Effort =
+        Effort { samples: 150, in_all: Duration::from_millis(400), sample: Duration::from_micros(50) };
 }
 
 const LEAST_SAMPLES: usize = 5;
 
-/// Nanoseconds of one run of each piece of work, the least of its samples.
-/// Samples are short and taken in turn, so that other load on the machine
-/// meets all pieces of work alike.
+/// Nanoseconds of one run of each piece of work, the least of its samples. Samples are short and taken in turn, so that
+/// other load on the machine meets all pieces of work alike.
 pub fn least<const N: usize>(effort: Effort, mut works: [&mut dyn FnMut(); N]) -> [f64; N] {
     let runs: [u32; N] = std::array::from_fn(|index| runs_in(effort.sample, works[index]));
     let mut least = [f64::INFINITY; N];

@@ -6,17 +6,15 @@ use crate::measure::Effort;
 const FIRST: usize = 40;
 
 /// Runs the cases and prints three lines for each.
-pub fn print(title: &str, cases: &[Case], effort: Effort) {
+pub fn print<'a>(title: &str, cases: impl IntoIterator<Item = &'a Case>, effort: Effort) {
     println!("\n{title}\n");
     println!(
         "{:FIRST$} {:14} {:>12} {:>12} {:>6} {:>12}",
         "policy and queries", "work", "ours", "hand-written", "ratio", "prepared"
     );
     for case in cases {
-        let figures = case.run(effort);
-        for (line, figures) in figures.iter().enumerate() {
-            let name = if line == 0 { case.name.as_str() } else { "" };
-            print_line(name, figures);
+        for (line, figures) in case.run(effort).iter().enumerate() {
+            print_line(if line == 0 { &case.name } else { "" }, figures);
         }
     }
 }

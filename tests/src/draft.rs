@@ -2,6 +2,12 @@
 
 use mungaite::Section;
 
+/// The predicates.
+pub const BAN: u8 = 0;
+pub const SEPARATION: u8 = 1;
+pub const ROSTER: u8 = 2;
+pub const COMPANION: u8 = 3;
+
 /// The records of a policy to be, right or wrong.
 #[derive(Clone, Default)]
 pub struct Draft {
@@ -17,6 +23,12 @@ impl Draft {
             Section::Rules => &self.rules,
             Section::Constraints => &self.constraints,
         }
+    }
+
+    /// Adds a group and gives the type field that names it.
+    pub fn add_group(&mut self, members: impl IntoIterator<Item = u16>) -> u16 {
+        self.groups.push(group(&members.into_iter().collect::<Vec<u16>>()));
+        mungaite::group(self.groups.len() as u16 - 1)
     }
 
     /// The records in the order in which they stand.

@@ -1,17 +1,17 @@
-//! Tests of the engine against an independent model of document 01. README.md says how to run them.
+//! Tests of two engines against an independent model of document 01. README.md says how to run them.
 
+mod by_hand;
 mod compare;
-mod draft;
 mod engine;
 mod generate;
 mod model;
 mod options;
 mod random;
 mod runner;
-mod sample;
 mod subject;
 mod suite;
 
+use mungaite_tests::{draft, sample};
 use options::{Options, USAGE};
 use runner::Run;
 use std::process::ExitCode;

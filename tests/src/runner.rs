@@ -1,11 +1,14 @@
 //! Named tests, run one after the other and counted.
 
+use crate::by_hand::ByHand;
 use crate::compare::{Outcome, Pair};
 use crate::engine::Engine;
 use crate::model::Model;
 use crate::options::Options;
 use crate::random::case_seed;
+use crate::subject::Subject;
 use std::panic::{catch_unwind, AssertUnwindSafe};
+use std::thread::{available_parallelism, scope};
 use std::time::Instant;
 
 /// How many times more cases a long run has.
@@ -75,27 +78,48 @@ impl Run {
         (0..count).map(move |case| if random { case_seed(start, name, case) } else { case })
     }
 
+    /// A test of Mungaite.
     pub fn cases(&mut self, cases: &Cases) {
-        if !self.options.selects(cases.name) {
+        self.count_cases(cases.name, cases, |run| &run.engine);
+    }
+
+    /// The same test of the hand-written engine, on the same inputs.
+    pub fn cases_by_hand(&mut self, cases: &Cases) {
+        self.count_cases(&format!("hand-written/{}", cases.name), cases, |_| &ByHand);
+    }
+
+    fn count_cases(&mut self, name: &str, cases: &Cases, subject: fn(&Run) -> &dyn Subject) {
+        if !self.options.selects(name) {
             return;
         }
         let began = Instant::now();
-        let pair = self.pair(Model::RIGHT);
+        let pair = Pair { engine: subject(self), model: Model::RIGHT };
         let seeds: Vec<u64> = match self.options.case {
             Some(case) => vec![case],
             None => self.seeds(cases).collect(),
         };
-        let failure = seeds.iter().find_map(|&seed| {
-            if self.options.trace {
-                eprintln!("{}", again(cases.name, seed));
-            }
-            run_case(cases, &pair, seed).err().map(|what| format!("{what}\n    again: {}", again(cases.name, seed)))
-        });
-        let result = match failure {
+        let result = match self.first_failure(name, cases, &pair, &seeds) {
             Some(what) => Err(what),
             None => Ok(format!("{} cases", seeds.len())),
         };
-        self.count(cases.name, result, began);
+        self.count(name, result, began);
+    }
+
+    /// Each processor takes its part of the cases.
+    fn first_failure(&self, name: &str, cases: &Cases, pair: &Pair, seeds: &[u64]) -> Option<String> {
+        let run = |&seed: &u64| {
+            let again = format!("cargo run --release -- --only {name} --seed {seed}");
+            if self.options.trace {
+                eprintln!("{again}");
+            }
+            run_case(cases, pair, seed).err().map(|what| format!("{what}\n    again: {again}"))
+        };
+        let threads = if self.options.trace { 1 } else { available_parallelism().map_or(1, usize::from) };
+        let part = seeds.len().div_ceil(threads).max(1);
+        scope(|scope| {
+            let parts: Vec<_> = seeds.chunks(part).map(|part| scope.spawn(move || part.iter().find_map(run))).collect();
+            parts.into_iter().find_map(|part| part.join().expect("a case's panic is caught"))
+        })
     }
 
     pub fn whole(&mut self, whole: &Whole) {
@@ -139,9 +163,4 @@ fn caught<T>(run: impl FnOnce() -> Result<T, String>) -> Result<T, String> {
         let text = panic.downcast_ref::<String>().map(String::as_str);
         Err(format!("{PANIC}{}", text.or(panic.downcast_ref::<&str>().copied()).unwrap_or("no message")))
     })
-}
-
-/// The command that runs one case again.
-fn again(name: &str, seed: u64) -> String {
-    format!("cargo run --release -- --only {name} --seed {seed}")
 }

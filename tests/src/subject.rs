@@ -1,9 +1,9 @@
-//! What is tested, be it the library and the program or the model.
+//! What is tested, be it the library and the program, the hand-written engine or the model.
 
 use mungaite::{Decision, Query, Refusal, Section};
 use std::ops::Range;
 
-pub trait Subject {
+pub trait Subject: Sync {
     fn check(&self, image: &[u8]) -> Result<(), Refusal>;
 
     /// Where record `n` stands in the image.

@@ -1,11 +1,16 @@
-//! A policy of any size with a fixed mix of queries: covered early, covered
-//! late and uncovered, of basic types and of groups, some of which constraints
-//! apply to.
+//! A policy of any size with a fixed mix of queries: covered early, covered late and uncovered, of basic types and of
+//! groups, some of which constraints apply to.
 
-use super::policy::{query, Kind, Pair, Policy};
 use crate::contest::Case;
-use crate::engine::answer::Query;
-use crate::engine::record::{BAN, COMPANION, ROSTER, SEPARATION};
+use mungaite::Query;
+use mungaite_tests::draft::{allow, constraint, transition, Draft, BAN, COMPANION, ROSTER, SEPARATION};
+use mungaite_tests::sample::query;
+
+/// A source and a destination.
+type Pair = (u16, u16);
+
+/// A class and an action.
+type Kind = (u16, u16);
 
 pub struct Size {
     pub groups: u16,
@@ -24,29 +29,18 @@ const PREDICATES: [u8; 4] = [SEPARATION, ROSTER, COMPANION, BAN];
 
 impl Size {
     pub fn case(&self, name: &str) -> Case {
-        let mut policy = Policy::default();
+        let mut policy = Draft::default();
         let types = self.add_groups(&mut policy);
-        let rules: Vec<(Pair, Kind)> = (0..usize::from(self.rules))
-            .map(|rule| (self.rule_types(rule, &types), kind_of(rule)))
-            .collect();
+        let rules: Vec<(Pair, Kind)> =
+            (0..usize::from(self.rules)).map(|rule| (self.rule_types(rule, &types), kind_of(rule))).collect();
         let asked = self.asked_rules();
         add_rules(&mut policy, &rules, &types);
         self.add_constraints(&mut policy, &asked, &rules, &types);
-        Case {
-            name: name.to_string(),
-            image: policy.image(),
-            queries: self.queries(&asked, &rules, &types),
-        }
+        Case { name: name.to_string(), image: policy.image(), queries: self.queries(&asked, &rules, &types) }
     }
 
     /// One of four is about a rule that queries are made from.
-    fn add_constraints(
-        &self,
-        policy: &mut Policy,
-        asked: &[usize],
-        rules: &[(Pair, Kind)],
-        types: &Types,
-    ) {
+    fn add_constraints(&self, policy: &mut Draft, asked: &[usize], rules: &[(Pair, Kind)], types: &Types) {
         for number in 0..usize::from(self.constraints) {
             let about = match number % 4 {
                 0 => asked[number / 4 % asked.len()],
@@ -54,24 +48,23 @@ impl Size {
             };
             let other = rules[number * 11 % rules.len()].0;
             let (pair, kind) = rules[about];
-            match PREDICATES[(number / 4 + number) % 4] {
-                BAN => policy.constraint(kind, (pair.0, other.1), BAN, &[]),
-                ROSTER => policy.constraint(kind, pair, ROSTER, &types.list()),
-                predicate => policy.constraint(kind, pair, predicate, &[]),
-            }
+            let predicate = PREDICATES[(number / 4 + number) % 4];
+            let second = if predicate == BAN { other.1 } else { pair.1 };
+            let list = if predicate == ROSTER { types.list() } else { Vec::new() };
+            policy.constraints.push(constraint(kind.0, kind.1, pair.0, second, predicate, &list));
         }
     }
 
     /// Groups of sources and groups of destinations in turn.
-    fn add_groups(&self, policy: &mut Policy) -> Types {
+    fn add_groups(&self, policy: &mut Draft) -> Types {
         let mut types = Types::default();
         for pair in 0..self.groups / 2 {
             let members = self.members_of(pair);
-            let source = policy.group(members.iter().copied());
+            let source = policy.add_group(members.iter().copied());
             types.sources.push((source, members[0]));
             let members = self.members_of(pair + 3).into_iter();
             let members: Vec<u16> = members.map(|member| member + DESTINATIONS).collect();
-            let destination = policy.group(members.iter().copied());
+            let destination = policy.add_group(members.iter().copied());
             types.destinations.push((destination, members[0]));
         }
         types
@@ -81,14 +74,8 @@ impl Size {
     fn members_of(&self, group: u16) -> Vec<u16> {
         let zone = PARTITION * self.members;
         let stride = if group < PARTITION { 1 } else { 2 * group + 1 };
-        let start = if group < PARTITION {
-            group * self.members
-        } else {
-            group * 29
-        };
-        let mut members: Vec<u16> = (0..self.members)
-            .map(|member| (start + member * stride) % zone)
-            .collect();
+        let start = if group < PARTITION { group * self.members } else { group * 29 };
+        let mut members: Vec<u16> = (0..self.members).map(|member| (start + member * stride) % zone).collect();
         members.sort_unstable();
         members
     }
@@ -99,21 +86,12 @@ impl Size {
         let place = (rule * 3 + rule / 16) % types.destinations.len();
         let destination = types.destinations[place];
         (
-            if rule.is_multiple_of(3) {
-                source.1
-            } else {
-                source.0
-            },
-            if rule.is_multiple_of(4) {
-                destination.1
-            } else {
-                destination.0
-            },
+            if rule.is_multiple_of(3) { source.1 } else { source.0 },
+            if rule.is_multiple_of(4) { destination.1 } else { destination.0 },
         )
     }
 
-    /// The rules that the covered queries are made from: the first, some in
-    /// the middle and the last.
+    /// The rules that the covered queries are made from: the first, some in the middle and the last.
     fn asked_rules(&self) -> [usize; 9] {
         let last = usize::from(self.rules) - 2;
         let middle = last / 2;
@@ -133,24 +111,20 @@ impl Size {
             queries.push((pair, (kind.0 + 100, kind.1)));
         }
         queries.push(((types.sources[2].1, types.destinations[9].0), (200, 200)));
-        queries
-            .into_iter()
-            .map(|(types, kind)| query(types, kind))
-            .collect()
+        queries.into_iter().map(|(types, kind)| query(types.0, types.1, kind.0, kind.1)).collect()
     }
 }
 
-/// One of ten is off, one a transition; the last leads back from a destination
-/// to a source, for companions.
-fn add_rules(policy: &mut Policy, rules: &[(Pair, Kind)], types: &Types) {
+/// One of ten is off, one a transition; the last leads back from a destination to a source, for companions.
+fn add_rules(policy: &mut Draft, rules: &[(Pair, Kind)], types: &Types) {
     for (number, &(pair, kind)) in rules.iter().enumerate() {
-        let back = (types.destinations[0].0, types.sources[0].0);
-        match number % 10 {
-            _ if number + 1 == rules.len() => policy.allow(back, kind, true),
-            4 => policy.allow(pair, kind, false),
-            9 => policy.transition((types.sources[number % 7].1, pair.1), kind.0),
-            _ => policy.allow(pair, kind, true),
-        }
+        let rule = |types: Pair, on: u8| allow(types.0, types.1, kind.0, kind.1, on);
+        policy.rules.push(match number % 10 {
+            _ if number + 1 == rules.len() => rule((types.destinations[0].0, types.sources[0].0), 1),
+            4 => rule(pair, 0),
+            9 => transition(types.sources[number % 7].1, pair.1, kind.0),
+            _ => rule(pair, 1),
+        });
     }
 }
 
@@ -175,8 +149,6 @@ impl Types {
     /// A basic type of a type.
     fn member(&self, field: u16) -> u16 {
         let mut groups = self.sources.iter().chain(&self.destinations);
-        groups
-            .find(|group| group.0 == field)
-            .map_or(field, |group| group.1)
+        groups.find(|group| group.0 == field).map_or(field, |group| group.1)
     }
 }

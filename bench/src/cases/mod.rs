@@ -2,6 +2,5 @@
 
 pub mod constraints;
 mod mix;
-mod policy;
 pub mod search;
 pub mod sizes;

@@ -4,7 +4,7 @@ use crate::compare::{Outcome, Pair};
 use crate::draft::{allow, constraint, group, transition, Draft};
 use crate::runner::{Cases, Count};
 use crate::sample::query;
-use mungaite::{Query, Section};
+use mungaite::{Query, Section, LARGEST};
 
 pub const TESTS: &[Cases] = &[
     Cases { name: "limits/check", count: Count::Listed(CASES), run: check },
@@ -35,9 +35,6 @@ const SIZES: [[u16; 5]; 15] = [
 
 const CASES: u64 = SIZES.len() as u64;
 
-/// The largest image that is accepted.
-const LARGEST: usize = 55_561;
-
 /// The policy of a case. Groups are runs of basic types that overlap; rules and constraints use first and last groups.
 fn policy(case: u64) -> Draft {
     let [groups, rules, constraints, members, listed] = SIZES[case as usize];
@@ -63,6 +60,11 @@ fn policy(case: u64) -> Draft {
         draft.constraints.push(constraint(n % 7, 1, type_of(n), type_of(n + 1), predicate, list));
     }
     draft
+}
+
+/// The policy whose image is the longest.
+pub fn largest() -> Draft {
+    policy(CASES - 1)
 }
 
 /// Queries that rules of every size of number cover.

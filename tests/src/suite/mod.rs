@@ -3,7 +3,6 @@
 mod limits;
 mod mutation;
 mod order;
-mod program;
 mod random;
 mod reached;
 mod round_trip;
@@ -19,16 +18,17 @@ fn differential() -> Vec<Cases> {
     [random::TESTS, sweep::TESTS, limits::TESTS].concat()
 }
 
+/// The tests of any engine.
+fn of_any() -> Vec<Cases> {
+    [worked::TESTS, &differential(), round_trip::TESTS, order::TESTS, sweep::PROGRAM].concat()
+}
+
 pub fn all(run: &mut Run) {
-    for test in worked::TESTS
-        .iter()
-        .chain(&differential())
-        .chain(round_trip::TESTS)
-        .chain(order::TESTS)
-        .chain(program::TESTS)
-        .chain(streams::TESTS)
-    {
+    for test in of_any().iter().chain(worked::OF_THE_LIBRARY).chain(streams::TESTS) {
         run.cases(test);
+    }
+    for test in &of_any() {
+        run.cases_by_hand(test);
     }
     for test in reached::tests().iter().chain(&mutation::tests()) {
         run.whole(test);

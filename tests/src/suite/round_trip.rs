@@ -1,5 +1,6 @@
 //! Adding an accepted policy's records to the empty policy gives it back byte for byte, and bytes past it stay.
 
+use super::limits::largest;
 use crate::compare::{equal, hex, same_bytes, Outcome, Pair};
 use crate::draft::Draft;
 use crate::generate::policy_case;
@@ -11,8 +12,9 @@ use mungaite::Section;
 pub const RANDOM: Cases = Cases { name: "round-trip/random", count: Count::Random(5_000), run: random };
 pub const MIXED: Cases = Cases { name: "round-trip/mixed", count: Count::Random(5_000), run: mixed };
 const SHEET: Cases = Cases { name: "round-trip/sample", count: Count::Listed(300), run: sample };
+const LONGEST: Cases = Cases { name: "round-trip/longest", count: Count::Listed(1), run: longest };
 
-pub const TESTS: &[Cases] = &[RANDOM, MIXED, SHEET];
+pub const TESTS: &[Cases] = &[RANDOM, MIXED, SHEET, LONGEST];
 
 /// The records in order, as the engine gives them.
 fn random(pair: &Pair, seed: u64) -> Outcome {
@@ -24,6 +26,11 @@ fn random(pair: &Pair, seed: u64) -> Outcome {
 /// Case n is the sample, with n bytes to spare.
 fn sample(pair: &Pair, case: u64) -> Outcome {
     in_order(pair, &SAMPLE, case as usize)
+}
+
+/// The longest image, in a buffer of its own length.
+fn longest(pair: &Pair, _: u64) -> Outcome {
+    in_order(pair, &largest().image(), 0)
 }
 
 fn in_order(pair: &Pair, image: &[u8], spare: usize) -> Outcome {

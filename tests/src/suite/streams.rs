@@ -1,7 +1,7 @@
-//! The program `permit` beside streams that are late, broken, full or closed: what it writes, what it says on standard
-//! error, and how it ends.
+//! The program `permit` beside a host that waits for each answer, and beside streams that are late, broken, full or
+//! closed: what it writes, what it says on standard error, and how it ends.
 
-use super::watched::{ended, send, start, told, Watched, PATIENCE};
+use super::watched::{ended, permit, send, start, told, Watched, PATIENCE};
 use crate::compare::{Outcome, Pair};
 use crate::engine::Engine;
 use crate::runner::{Cases, Count};
@@ -15,6 +15,9 @@ use std::process::{Command, ExitStatus, Stdio};
 use std::thread::{self, sleep};
 use std::time::{Duration, Instant};
 
+/// How long a host stops in the middle of a query, so that the program's read ends there.
+const PAUSE: Duration = Duration::from_millis(2);
+
 /// How long a stream has nothing to read, or is not read, so that many calls of the program find it so.
 const LATE: Duration = Duration::from_millis(20);
 
@@ -22,6 +25,7 @@ const LATE: Duration = Duration::from_millis(20);
 const SIGPIPE: i32 = 13;
 
 pub const TESTS: &[Cases] = &[
+    Cases { name: "program/waiting-host", count: Count::Listed(8), run: waiting_host },
     Cases { name: "streams/late-input", count: Count::Listed(9), run: late_input },
     Cases { name: "streams/late-end", count: Count::Listed(8), run: late_end },
     Cases { name: "streams/late-output", count: Count::Listed(1), run: late_output },
@@ -32,15 +36,23 @@ pub const TESTS: &[Cases] = &[
     Cases { name: "streams/closed-output-signal-ignored", count: Count::Listed(1), run: closed_output_signal_ignored },
 ];
 
+/// Case n: a host that sends n bytes of a query, stops, sends the rest, and waits for the line before the next query.
+fn waiting_host(_: &Pair, case: u64) -> Outcome {
+    let mut child = permit(Stdio::piped(), Stdio::piped())?;
+    let mut stdin = child.stdin.take().expect("stdin is piped");
+    let child = Watched::new(child);
+    send(&mut stdin, &SAMPLE)?;
+    answers(&mut stdin, &child, case as usize, PAUSE)?;
+    drop(stdin);
+    child.ends("", "")
+}
+
 /// Case n: an input on which no read waits, where all is late: the image after 9 n of its bytes, and each query after n.
 fn late_input(_: &Pair, case: u64) -> Outcome {
     let (mut input, child) = with_late_input()?;
     sleep(LATE);
-    in_two(&mut input, &SAMPLE, 9 * case as usize)?;
-    for (query, expected) in [(QUERIES[0], "P 0\n"), (QUERIES[2], "N\n"), (QUERIES[3], "P 2\n")] {
-        in_two(&mut input, &query.to_bytes(), case as usize)?;
-        child.says(expected)?;
-    }
+    in_two(&mut input, &SAMPLE, 9 * case as usize, LATE)?;
+    answers(&mut input, &child, case as usize, LATE)?;
     drop(input);
     child.ends("", "")
 }
@@ -61,11 +73,7 @@ fn late_output(_: &Pair, _: u64) -> Outcome {
     const MANY: usize = 100_000;
     let (mut ours, theirs) = pair()?;
     theirs.set_nonblocking(true).map_err(|error| error.to_string())?;
-    let mut child = {
-        let mut program = Engine::new().program();
-        // its end of the stream is then the program's alone
-        start(program.stdin(Stdio::piped()).stdout(OwnedFd::from(theirs)).stderr(Stdio::piped()))?
-    };
+    let mut child = permit(Stdio::piped(), OwnedFd::from(theirs))?;
     let mut stdin = child.stdin.take().expect("stdin is piped");
     let queries = [&SAMPLE[..], &QUERIES[0].to_bytes().repeat(MANY)].concat();
     let writer = thread::spawn(move || stdin.write_all(&queries).is_ok());
@@ -87,9 +95,7 @@ fn broken_input(_: &Pair, case: u64) -> Outcome {
     let (mut ours, theirs) = pair()?;
     // the peer of a stream that is closed with bytes unread is told so by an error
     send(&mut &theirs, &[0])?;
-    let mut program = Engine::new().program();
-    let program = program.stdin(OwnedFd::from(theirs)).stdout(Stdio::piped()).stderr(Stdio::piped());
-    let child = Watched::new(start(program)?);
+    let child = Watched::new(permit(OwnedFd::from(theirs), Stdio::piped())?);
     let queries = [QUERIES[0].to_bytes(), QUERIES[2].to_bytes(), QUERIES[3].to_bytes()].concat();
     let written = match case {
         8 => {
@@ -109,9 +115,7 @@ fn broken_input(_: &Pair, case: u64) -> Outcome {
 /// A standard input that cannot be read at all: a folder.
 fn no_input(_: &Pair, _: u64) -> Outcome {
     let folder = File::open("/").map_err(|error| error.to_string())?;
-    let mut program = Engine::new().program();
-    let child = start(program.stdin(folder).stdout(Stdio::piped()).stderr(Stdio::piped()))?;
-    Watched::new(child).ends("", "permit: standard input: Is a directory\n")
+    Watched::new(permit(folder, Stdio::piped())?).ends("", "permit: standard input: Is a directory\n")
 }
 
 /// A disk that is full, for the line of a query, of bytes that are left, of a refused image.
@@ -123,8 +127,7 @@ fn full_output(_: &Pair, case: u64) -> Outcome {
         _ => SAMPLE[..79].to_vec(),
     };
     let full = File::options().write(true).open("/dev/full").map_err(|error| error.to_string())?;
-    let mut program = Engine::new().program();
-    let mut child = start(program.stdin(Stdio::piped()).stdout(full).stderr(Stdio::piped()))?;
+    let mut child = permit(Stdio::piped(), full)?;
     send(&mut child.stdin.take().expect("stdin is piped"), &input)?;
     let status = ended(&mut child)?;
     match (told(&mut child).as_str(), status.success()) {
@@ -155,7 +158,7 @@ fn closed_output_signal_ignored(_: &Pair, _: u64) -> Outcome {
 
 /// Sends queries to a program whose output is closed, until it reads no more.
 fn not_listening(program: &mut Command) -> Result<(String, ExitStatus), String> {
-    let mut child = start(program.stdin(Stdio::piped()).stdout(Stdio::piped()).stderr(Stdio::piped()))?;
+    let mut child = start(program.stdin(Stdio::piped()).stdout(Stdio::piped()))?;
     drop(child.stdout.take());
     let mut stdin = child.stdin.take().expect("stdin is piped");
     send(&mut stdin, &SAMPLE)?;
@@ -175,18 +178,25 @@ fn not_listening(program: &mut Command) -> Result<(String, ExitStatus), String> 
 fn with_late_input() -> Result<(UnixStream, Watched), String> {
     let (ours, theirs) = pair()?;
     theirs.set_nonblocking(true).map_err(|error| error.to_string())?;
-    let mut program = Engine::new().program();
-    let child = start(program.stdin(OwnedFd::from(theirs)).stdout(Stdio::piped()).stderr(Stdio::piped()))?;
-    Ok((ours, Watched::new(child)))
+    Ok((ours, Watched::new(permit(OwnedFd::from(theirs), Stdio::piped())?)))
 }
 
 fn pair() -> Result<(UnixStream, UnixStream), String> {
     UnixStream::pair().map_err(|error| error.to_string())
 }
 
+/// Sends the document's three queries, each in two, and reads each one's line before the next.
+fn answers(to: &mut impl Write, child: &Watched, first: usize, pause: Duration) -> Outcome {
+    for (query, expected) in [(QUERIES[0], "P 0\n"), (QUERIES[2], "N\n"), (QUERIES[3], "P 2\n")] {
+        in_two(to, &query.to_bytes(), first, pause)?;
+        child.says(expected)?;
+    }
+    Ok(())
+}
+
 /// Sends the first bytes, waits, and sends the rest.
-fn in_two(to: &mut UnixStream, bytes: &[u8], first: usize) -> Outcome {
+fn in_two(to: &mut impl Write, bytes: &[u8], first: usize, pause: Duration) -> Outcome {
     send(to, &bytes[..first])?;
-    sleep(LATE);
+    sleep(pause);
     send(to, &bytes[first..])
 }

@@ -1,4 +1,4 @@
-//! Every cut and every change of one byte of the sample sheet, for every call.
+//! Every cut and every change of one byte of the sample sheet, for every call and for the program.
 
 use crate::compare::{Outcome, Pair};
 use crate::draft::{allow, constraint, group};
@@ -14,11 +14,25 @@ pub const TESTS: &[Cases] = &[
     Cases { name: "sample/permit-cuts", count: Count::Listed(LENGTH + 24), run: permit_cut },
 ];
 
-/// Case 256 p + v is the sample with value v at place p.
+/// A process for each change: left out where mistaken models are searched for.
+pub const PROGRAM: &[Cases] =
+    &[Cases { name: "program/changes", count: Count::Listed(256 * LENGTH), run: permit_change }];
+
 fn change(pair: &Pair, case: u64) -> Outcome {
+    every_call(pair, &changed(case))
+}
+
+/// The changed sample, and then the queries.
+fn permit_change(pair: &Pair, case: u64) -> Outcome {
+    let queries = QUERIES.iter().flat_map(|query| query.to_bytes()).collect();
+    pair.permit(&[changed(case).to_vec(), queries].concat())
+}
+
+/// Case 256 p + v is the sample with value v at place p.
+fn changed(case: u64) -> [u8; SAMPLE.len()] {
     let mut image = SAMPLE;
     image[(case / 256) as usize] = (case % 256) as u8;
-    every_call(pair, &image)
+    image
 }
 
 /// Case n is the first n bytes, with the sample's length field and with one that fits.

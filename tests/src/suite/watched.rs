@@ -1,8 +1,9 @@
 //! The program `permit` as a process that a test talks to: its lines as they come, its end, and what it says.
 
 use crate::compare::Outcome;
+use crate::engine::Engine;
 use std::io::{BufRead, BufReader, Read, Write};
-use std::process::{Child, Command, ExitStatus};
+use std::process::{Child, Command, ExitStatus, Stdio};
 use std::sync::mpsc::{self, Receiver};
 use std::thread::{self, sleep};
 use std::time::{Duration, Instant};
@@ -54,8 +55,16 @@ impl Watched {
     }
 }
 
+/// The program between two streams, which are then its alone.
+pub fn permit(input: impl Into<Stdio>, output: impl Into<Stdio>) -> Result<Child, String> {
+    start(Engine::new().program().stdin(input).stdout(output))
+}
+
 pub fn start(program: &mut Command) -> Result<Child, String> {
-    program.spawn().map_err(|error| format!("cannot run {:?} (set PERMIT): {error}", program.get_program()))
+    program
+        .stderr(Stdio::piped())
+        .spawn()
+        .map_err(|error| format!("cannot run {:?} (set PERMIT): {error}", program.get_program()))
 }
 
 pub fn send(to: &mut impl Write, bytes: &[u8]) -> Outcome {

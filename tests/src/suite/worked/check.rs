@@ -1,5 +1,6 @@
 //! Which images are accepted.
 
+use super::permit::longest_with;
 use super::{both, no};
 use crate::compare::{Outcome, Pair};
 use crate::draft::{allow, constraint, group, transition, Draft};
@@ -28,11 +29,16 @@ pub const ROWS: &[Row] = &[
     ("version 2, length field 8", || vec![2, 0, 8, 0, 0, 0, 0, 0, 0], no(2, 0)),
     ("length field 8, 257 groups", || vec![1, 0, 8, 1, 1, 0, 0, 0, 0], no(3, 0)),
     ("length field 10", || vec![1, 0, 10, 0, 0, 0, 0, 0, 0], no(3, 0)),
+    ("length field 10, 65,535 groups", || vec![1, 0, 10, 255, 255, 0, 0, 0, 0], no(3, 0)),
     ("257 groups", || vec![1, 0, 9, 1, 1, 0, 0, 0, 0], no(4, 3)),
     ("257 constraints", || vec![1, 0, 9, 0, 0, 0, 0, 1, 1], no(4, 7)),
     ("257 groups and 1,025 rules", || vec![1, 0, 9, 1, 1, 4, 1, 0, 0], no(4, 3)),
     ("1,025 rules and 257 constraints", || vec![1, 0, 9, 0, 0, 4, 1, 1, 1], no(4, 5)),
     ("257 groups and 257 constraints", || vec![1, 0, 9, 1, 1, 0, 0, 1, 1], no(4, 3)),
+    ("each count one over its limit", || vec![1, 0, 9, 1, 1, 4, 1, 1, 1], no(4, 3)),
+    ("256 groups, 1,025 rules, 257 constraints", || vec![1, 0, 9, 1, 0, 4, 1, 1, 1], no(4, 5)),
+    ("256 groups, 1,024 rules, 257 constraints", || vec![1, 0, 9, 1, 0, 4, 0, 1, 1], no(4, 7)),
+    ("each count at its limit, and no record", || vec![1, 0, 9, 1, 0, 4, 0, 1, 0], no(5, 9)),
     ("257 constraints and a bad group", || with(&SAMPLE, &[(7, 1), (8, 1), (10, 9)]), no(4, 7)),
     ("one byte more, length field 80", || [&SAMPLE[..], &[0]].concat(), no(3, 0)),
     ("65,536 bytes more than the length field says", || [&SAMPLE[..], &[0; 65536]].concat(), no(3, 0)),
@@ -52,6 +58,7 @@ pub const ROWS: &[Row] = &[
     ("a transition among the constraints", || constraints(&[transition(1, 2, 3)]), no(5, 9)),
     ("kind 0", || with(&SAMPLE, &[(57, 0)]), no(5, 56)),
     ("kind 5", || with(&SAMPLE, &[(57, 5)]), no(5, 56)),
+    ("kind 5 among the rules", || with(&SAMPLE, &[(16, 5)]), no(5, 15)),
     ("a group of length 2", || vec![1, 0, 11, 0, 1, 0, 0, 0, 0, 2, 1], no(5, 9)),
     ("a group of length 5", || vec![1, 0, 14, 0, 1, 0, 0, 0, 0, 5, 1, 0, 1, 0], no(5, 9)),
     ("an allow rule of length 8", || rules(&[vec![8, 2, 0, 1, 0, 2, 0, 3]]), no(5, 9)),
@@ -60,6 +67,8 @@ pub const ROWS: &[Row] = &[
     ("a constraint of length 9", || constraints(&[vec![9, 4, 0, 1, 0, 2, 0, 3, 0]]), no(5, 9)),
     ("a constraint of length 12", || constraints(&[vec![12, 4, 0, 1, 0, 2, 0, 3, 0, 4, 0, 0]]), no(5, 9)),
     ("a constraint of length 14", || constraints(&[vec![14, 4, 0, 1, 0, 2, 0, 3, 0, 4, 2, 0, 7, 0]]), no(5, 9)),
+    ("a last constraint of length 255", || with(&SAMPLE, &[(69, 255)]), no(5, 69)),
+    ("the longest image, one group fewer counted", || longest_with(3, &[0, 255]), no(5, 33_159)),
     ("record length 0", || vec![1, 0, 11, 0, 1, 0, 0, 0, 0, 0, 1], no(5, 9)),
     ("a rule of length 12 and a bad source", || rules(&[vec![12, 2, 4, 0, 0, 2, 0, 3, 0, 4, 1, 0]]), no(5, 9)),
     ("a rule past the image and a bad source", || vec![1, 0, 19, 0, 0, 0, 1, 0, 0, 11, 2, 4, 0, 0, 2, 0, 3, 0, 4], no(5, 9)),
@@ -75,6 +84,7 @@ pub const ROWS: &[Row] = &[
     ("a group among the members", || groups(&[&[5], &[32768]]), no(6, 15)),
     ("two groups", || groups(&[&[5], &[0, 1023]]), Ok(())),
     ("member 65535", || groups(&[&[65535]]), no(6, 11)),
+    ("members 65535, 0, 0", || groups(&[&[65535, 0, 0]]), no(6, 11)),
     ("members 5, 3, 1024", || groups(&[&[5, 3, 1024]]), no(6, 13)),
     ("members 5, 1024, 3", || groups(&[&[5, 1024, 3]]), no(6, 13)),
     ("members 2000, 5", || groups(&[&[2000, 5]]), no(6, 11)),
@@ -85,7 +95,12 @@ pub const ROWS: &[Row] = &[
     ("members 255, 256", || groups(&[&[255, 256]]), Ok(())),
     // The fields of a rule.
     ("rule source 1024", || with(&SAMPLE, &[(17, 4), (18, 0)]), no(6, 17)),
+    ("rule source 32522", || with(&SAMPLE, &[(17, 127)]), no(6, 17)),
+    ("transition source 65292", || with(&SAMPLE, &[(39, 255)]), no(6, 39)),
+    ("rule source g10, and one group", || with(&SAMPLE, &[(17, 128)]), no(6, 17)),
     ("rule destination g1", || with(&SAMPLE, &[(20, 1)]), no(6, 19)),
+    ("source g255, destination g256, and 256 groups", || of_256_groups(allow(33_023, 33_024, 3, 4, 1)), no(6, 1037)),
+    ("source g0, destination g255, and 256 groups", || of_256_groups(allow(32_768, 33_023, 3, 4, 1)), Ok(())),
     ("transition destination 32767", || with(&SAMPLE, &[(41, 127), (42, 255)]), no(6, 41)),
     ("transition of class 65535", || rules(&[transition(0, 1023, 65535)]), Ok(())),
     ("allow source and destination bad", || rules(&[allow(1024, 1024, 3, 4, 1)]), no(6, 11)),
@@ -150,4 +165,9 @@ fn rules(records: &[Vec<u8>]) -> Vec<u8> {
 
 fn constraints(records: &[Vec<u8>]) -> Vec<u8> {
     Draft { constraints: records.to_vec(), ..Draft::default() }.image()
+}
+
+/// 256 groups of 4 bytes, and a rule, at 1,033.
+fn of_256_groups(rule: Vec<u8>) -> Vec<u8> {
+    Draft { groups: vec![group(&[7]); 256], rules: vec![rule], ..Draft::default() }.image()
 }

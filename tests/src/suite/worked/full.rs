@@ -1,5 +1,6 @@
 //! A policy with every section at its limit, decided by its last records.
 
+use super::small::{p, u, N};
 use super::{both, no};
 use crate::compare::{Outcome, Pair};
 use crate::draft::{allow, constraint, group, Draft};
@@ -14,13 +15,13 @@ const G255: u16 = 32768 + 255;
 /// Of class 9 there is only the last rule, and only a ban, the last constraint. Of class 8 are the other rules, 1 to 2;
 /// of action 7 the other constraints.
 pub const ROWS: &[Row] = &[
-    (query(1023, 1023, 9, 9), Ok(Decision::UnKnown { rule: 1023, constraint: 255 })),
-    (query(G255, 960, 9, 9), Ok(Decision::UnKnown { rule: 1023, constraint: 255 })),
-    (query(G255, G255, 9, 9), Ok(Decision::UnKnown { rule: 1023, constraint: 255 })),
-    (query(1023, 959, 9, 9), Ok(Decision::NotPermitted)),
-    (query(1023, 1022, 9, 8), Ok(Decision::NotPermitted)),
-    (query(1, 2, 8, 9), Ok(Decision::Permitted { rule: 0 })),
-    (query(32768, 32768, 9, 9), Ok(Decision::NotPermitted)),
+    (query(1023, 1023, 9, 9), u(1023, 255)),
+    (query(G255, 960, 9, 9), u(1023, 255)),
+    (query(G255, G255, 9, 9), u(1023, 255)),
+    (query(1023, 959, 9, 9), N),
+    (query(1023, 1022, 9, 8), N),
+    (query(1, 2, 8, 9), p(0)),
+    (query(32768, 32768, 9, 9), N),
     (query(G255 + 1, 1023, 9, 9), no(8, 0)),
     (query(1023, G255 + 1, 9, 9), no(9, 0)),
 ];

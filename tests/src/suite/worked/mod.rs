@@ -1,5 +1,5 @@
 //! Document 01's worked cases with its answers, and further rows whose answers were worked out by hand from its clauses.
-//! The engine and the model must both give them.
+//! Both engines and the model must give them.
 
 mod add;
 mod check;
@@ -32,11 +32,14 @@ pub const TESTS: &[Cases] = &[
     Cases { name: "worked/full", count: Count::Listed(full::ROWS.len() as u64), run: full::run },
     Cases { name: "worked/full-permit", count: Count::Listed(1), run: full::permit },
     Cases { name: "worked/record", count: Count::Listed(record::ROWS.len() as u64), run: record::run },
-    Cases { name: "worked/record-sections", count: Count::Listed(6), run: record::no_section },
     Cases { name: "worked/add", count: Count::Listed(add::ROWS.len() as u64), run: add::run },
     Cases { name: "worked/permit", count: Count::Listed(permit::ROWS.len() as u64), run: permit::run },
     Cases { name: "worked/permit-many", count: Count::Listed(1), run: permit::many },
 ];
+
+/// A row that only the library can be asked.
+pub const OF_THE_LIBRARY: &[Cases] =
+    &[Cases { name: "worked/record-sections", count: Count::Listed(6), run: record::no_section }];
 
 const fn no<T>(number: u16, place: u16) -> Result<T, Refusal> {
     Err(Refusal { number, place })

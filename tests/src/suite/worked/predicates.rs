@@ -32,6 +32,7 @@ pub const SEPARATION: &[Row] = &[
     // Sources that stand for the same set.
     ("a type and a group of it", &[&[9]], || vec![other(9, 1), other(G0, 2)], || separation(1, 2), false),
     ("a group of a type, and the type", &[&[9]], || vec![other(G0, 1), other(9, 2)], || separation(1, 2), false),
+    ("a type and a group of another", &[&[8]], || vec![other(9, 1), other(G0, 2)], || separation(1, 2), true),
     ("equal groups", &[&[8, 9], &[8, 9]], || vec![other(G0, 1), other(G1, 2)], || separation(1, 2), false),
     ("equal groups, the higher first", &[&[8, 9], &[8, 9]], || vec![other(G1, 1), other(G0, 2)], || separation(1, 2), false),
     ("the same group", &[&[8, 9]], || vec![other(G0, 1), other(G0, 2)], || separation(1, 2), false),

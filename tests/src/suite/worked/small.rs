@@ -3,12 +3,12 @@
 use crate::compare::{Outcome, Pair};
 use crate::draft::{allow, constraint, group, transition, Draft};
 use crate::sample::query;
+pub use crate::sample::G0;
 use mungaite::{Decision, Query, Refusal};
 
 /// What is asked, an image, a query, and what the document says.
 pub type Row = (&'static str, fn() -> Vec<u8>, Query, Result<Decision, Refusal>);
 
-pub const G0: u16 = 32768;
 pub const G1: u16 = 32769;
 
 pub const ASKED: Query = ask(1, 2);

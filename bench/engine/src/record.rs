@@ -1,7 +1,7 @@
 //! One record, in an image or lent to be added: its shape and its fields.
 
-use super::format::{is_type, BASIC_TYPES, CONSTRAINTS, GROUPS, RULES};
-use super::groups::{numbers, pairs};
+use crate::format::{is_type, BASIC_TYPES, CONSTRAINTS, GROUPS, RULES};
+use crate::groups::{numbers, pairs};
 
 pub const GROUP: u8 = 1;
 pub const ALLOW: u8 = 2;
@@ -24,8 +24,7 @@ pub fn section_of(length: u8, kind: u8) -> Option<usize> {
     }
 }
 
-/// The place, in a record of a right shape, of the first field that breaks
-/// its rule.
+/// The place, in a record of a right shape, of the first field that breaks its rule.
 #[inline]
 pub fn bad_field(record: &[u8], groups: u16) -> Option<usize> {
     let types = |at: usize, fields: &[u8]| {
@@ -43,19 +42,21 @@ pub fn bad_field(record: &[u8], groups: u16) -> Option<usize> {
     }
 }
 
-/// Members are basic types and rise strictly. All are tested without a
-/// branch; only a bad group is searched for the member.
+/// Members are basic types and rise strictly. All are tested without a branch; only a bad group is searched for the
+/// member.
 fn bad_member(members: &[[u8; 2]]) -> Option<usize> {
     let (last, before) = members.split_last()?;
-    let rises = numbers(before)
-        .zip(numbers(&members[1..]))
-        .fold(true, |rises, (member, next)| rises & (member < next));
+    let rises = numbers(before).zip(numbers(&members[1..])).fold(true, |rises, (member, next)| rises & (member < next));
     if rises && u16::from_be_bytes(*last) < BASIC_TYPES {
         return None;
     }
+    first_bad_member(members)
+}
+
+#[cold]
+fn first_bad_member(members: &[[u8; 2]]) -> Option<usize> {
     let mut before = None;
-    numbers(members)
-        .position(|member| before.replace(member) >= Some(member) || member >= BASIC_TYPES)
+    numbers(members).position(|member| before.replace(member) >= Some(member) || member >= BASIC_TYPES)
 }
 
 /// Whether the predicate is known and takes such a list.

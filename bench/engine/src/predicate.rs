@@ -1,10 +1,10 @@
-//! What a constraint's predicate says of the live rules, once the query is
-//! within both arguments. The query plays no further part.
+//! What a constraint's predicate says of the live rules, once the query is within both arguments. The query plays no
+//! further part.
 
-use super::constraints::Constraint;
-use super::names::{Named, Names};
-use super::record::{COMPANION, ROSTER, SEPARATION};
-use super::sets::{Against, Sets};
+use crate::constraints::Constraint;
+use crate::names::{Named, Names};
+use crate::record::{COMPANION, ROSTER, SEPARATION};
+use crate::sets::{Against, Sets};
 
 /// Source and destination of a live rule.
 pub type Pair = (u16, u16);
@@ -48,22 +48,14 @@ fn separation<S: Sets>(
 }
 
 /// Whoever reaches the second argument is on the list.
-fn roster<S: Sets>(
-    constraint: &Constraint<'_>,
-    sets: &S,
-    mut live: impl Iterator<Item = Pair>,
-) -> bool {
+fn roster<S: Sets>(constraint: &Constraint<'_>, sets: &S, mut live: impl Iterator<Item = Pair>) -> bool {
     let mut second = Against::new(sets, [constraint.second]);
     let mut list = Against::new(sets, constraint.list());
     live.all(|(source, destination)| !second.touched_by(destination) || list.holds(source))
 }
 
 /// Someone of the second argument reaches the first.
-fn companion<S: Sets>(
-    constraint: &Constraint<'_>,
-    sets: &S,
-    mut live: impl Iterator<Item = Pair>,
-) -> bool {
+fn companion<S: Sets>(constraint: &Constraint<'_>, sets: &S, mut live: impl Iterator<Item = Pair>) -> bool {
     let mut first = Against::new(sets, [constraint.first]);
     let mut second = Against::new(sets, [constraint.second]);
     live.any(|(source, destination)| second.touched_by(source) && first.touched_by(destination))

@@ -1,7 +1,7 @@
 //! The sets that types stand for, however a policy holds its groups.
 
-use super::format::group_of;
-use super::set::Set;
+use crate::format::group_of;
+use crate::set::Set;
 
 pub trait Sets {
     /// Puts a group's members into a set.
@@ -17,8 +17,7 @@ pub trait Sets {
     }
 }
 
-/// A set that many types are tested against, one way only: each group is
-/// looked at once and its answer kept.
+/// A set that many types are tested against, one way only: each group is looked at once and its answer kept.
 pub struct Against<'a, S> {
     sets: &'a S,
     set: Set,
@@ -32,11 +31,7 @@ impl<'a, S: Sets> Against<'a, S> {
         for field in fields {
             sets.mark(field, &mut set);
         }
-        Against {
-            sets,
-            set,
-            memo: Memo::NEW,
-        }
+        Against { sets, set, memo: Memo::NEW }
     }
 
     #[inline]
@@ -65,10 +60,7 @@ pub struct Memo {
 }
 
 impl Memo {
-    pub const NEW: Memo = Memo {
-        known: [0; 4],
-        yes: [0; 4],
-    };
+    pub const NEW: Memo = Memo { known: [0; 4], yes: [0; 4] };
 
     #[inline]
     pub fn ask(&mut self, group: usize, find: impl FnOnce() -> bool) -> bool {

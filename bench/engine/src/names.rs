@@ -1,8 +1,8 @@
 //! One name for all types that stand for the same set.
 
-use super::format::{group_of, FIRST_GROUP, GROUPS, LIMITS};
-use super::groups::Groups;
-use super::set::Set;
+use crate::format::{group_of, FIRST_GROUP, GROUPS, LIMITS};
+use crate::groups::Groups;
+use crate::set::Set;
 
 const GROUP_LIMIT: usize = LIMITS[GROUPS] as usize;
 
@@ -10,8 +10,8 @@ const GROUP_LIMIT: usize = LIMITS[GROUPS] as usize;
 pub struct Names([u16; GROUP_LIMIT]);
 
 impl Names {
-    /// Members rise, so equal sets have equal bytes: sorted by their bytes,
-    /// equal groups are neighbours and the lowest comes first.
+    /// Members rise, so equal sets have equal bytes: sorted by their bytes, equal groups are neighbours and the lowest
+    /// comes first.
     pub fn find(groups: &Groups<'_>) -> Names {
         let mut order: [u16; GROUP_LIMIT] = core::array::from_fn(|group| group as u16);
         let order = &mut order[..usize::from(groups.count)];
@@ -49,10 +49,7 @@ pub struct Named {
 }
 
 impl Named {
-    pub const NONE: Named = Named {
-        basic: Set::EMPTY,
-        groups: [0; GROUP_LIMIT / 64],
-    };
+    pub const NONE: Named = Named { basic: Set::EMPTY, groups: [0; GROUP_LIMIT / 64] };
 
     #[inline]
     pub fn insert(&mut self, name: u16) {

@@ -1,8 +1,8 @@
 //! The groups of a checked image, found by one pass and read from its bytes.
 
-use super::format::{count, GROUPS, HEADER, LIMITS};
-use super::set::Set;
-use super::sets::Sets;
+use crate::format::{count, GROUPS, HEADER, LIMITS};
+use crate::set::Set;
+use crate::sets::Sets;
 
 pub struct Groups<'a> {
     image: &'a [u8],
@@ -21,12 +21,7 @@ impl<'a> Groups<'a> {
             *place = at as u16;
             at += usize::from(image[at]);
         }
-        Groups {
-            image,
-            places,
-            count,
-            end: at,
-        }
+        Groups { image, places, count, end: at }
     }
 
     /// The members of a group, two bytes each.
@@ -39,9 +34,7 @@ impl<'a> Groups<'a> {
     /// How many of a group's members are in a set.
     #[inline]
     pub fn count_in(&self, group: usize, set: &Set) -> usize {
-        self.basic_types(group)
-            .filter(|&basic| set.has(basic))
-            .count()
+        self.basic_types(group).filter(|&basic| set.has(basic)).count()
     }
 
     #[inline]

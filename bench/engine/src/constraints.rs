@@ -1,9 +1,9 @@
 //! The constraints of a checked image, read one after the other.
 
-use super::format::number;
-use super::groups::{numbers, pairs};
-use super::names::Names;
-use super::rules::key;
+use crate::format::number;
+use crate::groups::{numbers, pairs};
+use crate::names::Names;
+use crate::rules::key;
 
 pub struct Constraint<'a> {
     pub key: u32,

@@ -22,8 +22,7 @@ impl Set {
         }
     }
 
-    /// Whole words are combined before the one test: no early end pays off in
-    /// 16 words.
+    /// Whole words are combined before the one test: no early end pays off in 16 words.
     #[inline]
     pub fn within(&self, other: &Set) -> bool {
         let pairs = self.0.iter().zip(&other.0);

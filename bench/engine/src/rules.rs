@@ -1,24 +1,17 @@
 //! The rules of a checked image, read one after the other.
 
-use super::names::Names;
-use super::record::{ALLOW, TRANSITION};
+use crate::format::{count, RULES};
+use crate::groups::Groups;
+use crate::names::Names;
+use crate::record::{ALLOW, TRANSITION};
 
 pub enum Rule {
-    Allow {
-        source: u16,
-        destination: u16,
-        key: u32,
-        on: bool,
-    },
-    Transition {
-        source: u16,
-        destination: u16,
-    },
+    Allow { source: u16, destination: u16, key: u32, on: bool },
+    Transition { source: u16, destination: u16 },
 }
 
 impl Rule {
-    /// What can be told without sets: an allow rule is on and of the query's
-    /// class and action.
+    /// What can be told without sets: an allow rule is on and of the query's class and action.
     #[inline]
     pub fn may_cover(&self, asked: u32) -> bool {
         match *self {
@@ -30,29 +23,13 @@ impl Rule {
     #[inline]
     pub fn types(&self) -> (u16, u16) {
         match *self {
-            Rule::Allow {
-                source,
-                destination,
-                ..
-            }
-            | Rule::Transition {
-                source,
-                destination,
-            } => (source, destination),
+            Rule::Allow { source, destination, .. } | Rule::Transition { source, destination } => (source, destination),
         }
     }
 
     pub fn renamed(mut self, names: &Names) -> Rule {
         match &mut self {
-            Rule::Allow {
-                source,
-                destination,
-                ..
-            }
-            | Rule::Transition {
-                source,
-                destination,
-            } => {
+            Rule::Allow { source, destination, .. } | Rule::Transition { source, destination } => {
                 *source = names.of(*source);
                 *destination = names.of(*destination);
             }
@@ -67,19 +44,17 @@ pub fn key(class: u16, action: u16) -> u32 {
     u32::from(class) << 16 | u32::from(action)
 }
 
-/// The rules from a place on; when they end, `rest` starts with the
-/// constraints.
+/// The rules from a place on; when they end, `rest` starts with the constraints.
 #[derive(Clone)]
 pub struct Rules<'a> {
-    pub rest: &'a [u8],
-    pub left: u16,
+    rest: &'a [u8],
+    left: u16,
 }
 
 impl Iterator for Rules<'_> {
     type Item = Rule;
 
-    /// The kind tells the length, so the next rule's place need not wait for
-    /// the length byte.
+    /// The kind tells the length, so the next rule's place need not wait for the length byte.
     #[inline]
     fn next(&mut self) -> Option<Rule> {
         self.left = self.left.checked_sub(1)?;
@@ -106,6 +81,10 @@ impl Iterator for Rules<'_> {
 }
 
 impl<'a> Rules<'a> {
+    pub fn of(image: &'a [u8], groups: &Groups<'_>) -> Rules<'a> {
+        Rules { rest: &image[groups.end..], left: count(image, RULES) }
+    }
+
     /// What stands after the rules.
     pub fn skip(mut self) -> &'a [u8] {
         while self.next().is_some() {}
@@ -117,12 +96,7 @@ impl<'a> Rules<'a> {
 #[inline]
 pub fn live(rules: Rules<'_>) -> impl Iterator<Item = (u16, u16)> + '_ {
     rules.filter_map(|rule| match rule {
-        Rule::Allow {
-            source,
-            destination,
-            on: true,
-            ..
-        } => Some((source, destination)),
+        Rule::Allow { source, destination, on: true, .. } => Some((source, destination)),
         _ => None,
     })
 }

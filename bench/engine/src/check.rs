@@ -1,13 +1,13 @@
 //! The check of an image: causes 1 to 7, in the table's order.
 
-use super::answer::Refusal;
-use super::format::{count, count_place, length_field, CONSTRAINTS, GROUPS, HEADER, LIMITS, RULES};
-use super::record::{bad_field, section_of};
+use crate::format::{count, count_place, length_field, refusal, CONSTRAINTS, GROUPS, HEADER, LIMITS, RULES};
+use crate::record::{bad_field, section_of};
+use mungaite::Refusal;
 
 /// Checks a slice that is to be an image, whole.
 pub fn check(image: &[u8]) -> Result<(), Refusal> {
     if length_field(image)? != image.len() {
-        return Err(Refusal::at(3, 0));
+        return Err(refusal(3, 0));
     }
     check_counts(image)?;
     check_records(image)
@@ -17,7 +17,7 @@ pub fn check(image: &[u8]) -> Result<(), Refusal> {
 pub fn check_front(bytes: &[u8]) -> Result<usize, Refusal> {
     let length = length_field(bytes)?;
     if length < HEADER || length > bytes.len() {
-        return Err(Refusal::at(3, 0));
+        return Err(refusal(3, 0));
     }
     check(&bytes[..length])?;
     Ok(length)
@@ -25,7 +25,7 @@ pub fn check_front(bytes: &[u8]) -> Result<usize, Refusal> {
 
 fn check_counts(image: &[u8]) -> Result<(), Refusal> {
     match (0..LIMITS.len()).find(|&section| count(image, section) > LIMITS[section]) {
-        Some(section) => Err(Refusal::at(4, count_place(section))),
+        Some(section) => Err(refusal(4, count_place(section))),
         None => Ok(()),
     }
 }
@@ -35,7 +35,7 @@ fn check_records(image: &[u8]) -> Result<(), Refusal> {
     let constraints = check_section::<RULES>(image, rules)?;
     let end = check_section::<CONSTRAINTS>(image, constraints)?;
     if end < image.len() {
-        return Err(Refusal::at(7, end));
+        return Err(refusal(7, end));
     }
     Ok(())
 }
@@ -45,9 +45,9 @@ fn check_section<const SECTION: usize>(image: &[u8], start: usize) -> Result<usi
     let groups = count(image, GROUPS);
     let mut at = start;
     for _ in 0..count(image, SECTION) {
-        let record = record_at::<SECTION>(image, at).ok_or(Refusal::at(5, at))?;
+        let record = record_at::<SECTION>(image, at).ok_or(refusal(5, at))?;
         if let Some(place) = bad_field(record, groups) {
-            return Err(Refusal::at(6, at + place));
+            return Err(refusal(6, at + place));
         }
         at += record.len();
     }
@@ -59,9 +59,7 @@ fn check_section<const SECTION: usize>(image: &[u8], start: usize) -> Result<usi
 fn record_at<const SECTION: usize>(image: &[u8], at: usize) -> Option<&[u8]> {
     let rest = &image[at..];
     match *rest {
-        [length, kind, ..] if section_of(length, kind) == Some(SECTION) => {
-            rest.get(..usize::from(length))
-        }
+        [length, kind, ..] if section_of(length, kind) == Some(SECTION) => rest.get(..usize::from(length)),
         _ => None,
     }
 }

@@ -1,9 +1,9 @@
 //! A type of the query, tested for being within others.
 
-use super::format::group_of;
-use super::groups::Groups;
-use super::set::Set;
-use super::sets::{Memo, Sets};
+use crate::format::group_of;
+use crate::groups::Groups;
+use crate::set::Set;
+use crate::sets::{Memo, Sets};
 
 pub struct Inner<'a> {
     marked: Marked<'a>,
@@ -12,10 +12,7 @@ pub struct Inner<'a> {
 
 impl<'a> Inner<'a> {
     pub fn new(groups: &'a Groups<'a>, field: u16) -> Inner<'a> {
-        Inner {
-            marked: Marked::new(groups, field),
-            memo: Memo::NEW,
-        }
+        Inner { marked: Marked::new(groups, field), memo: Memo::NEW }
     }
 
     #[inline]
@@ -42,13 +39,7 @@ impl<'a> Marked<'a> {
         groups.mark(field, &mut set);
         let basic = [field.to_be_bytes()];
         let members = group_of(field).map_or(&basic[..], |group| groups.members(group));
-        Marked {
-            groups,
-            set,
-            size: members.len(),
-            least: members[0],
-            most: members[members.len() - 1],
-        }
+        Marked { groups, set, size: members.len(), least: members[0], most: members[members.len() - 1] }
     }
 
     #[inline]
@@ -56,14 +47,10 @@ impl<'a> Marked<'a> {
         self.size == 1 && self.least == basic.to_be_bytes()
     }
 
-    /// Size and ends first; then a search for the one basic type, or a count
-    /// of the members that are in the set.
+    /// Size and ends first; then a search for the one basic type, or a count of the members that are in the set.
     fn within_group(&self, group: usize) -> bool {
         let members = self.groups.members(group);
-        if self.size > members.len()
-            || self.least < members[0]
-            || self.most > members[members.len() - 1]
-        {
+        if self.size > members.len() || self.least < members[0] || self.most > members[members.len() - 1] {
             return false;
         }
         match self.size {

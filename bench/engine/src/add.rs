@@ -1,29 +1,27 @@
 //! One more record at the end of its section.
 
-use super::answer::Refusal;
-use super::check::check_front;
-use super::format::{count, count_place, GROUPS, HEADER, LIMITS};
-use super::give::place_after;
-use super::record::{bad_field, section_of};
+use crate::check::check_front;
+use crate::format::{count, count_place, refusal, GROUPS, LIMITS};
+use crate::give::{place_after, records_before};
+use crate::record::{bad_field, section_of};
+use mungaite::Refusal;
 
-/// Adds a record to the image that starts the buffer and gives its number.
-/// A refusal leaves the buffer as it was.
+/// Adds a record to the image that starts the buffer and gives its number. A refusal leaves the buffer as it was.
 pub fn add(buffer: &mut [u8], record: &[u8]) -> Result<u16, Refusal> {
     let length = check_front(buffer)?;
-    let section = shape(record).ok_or(Refusal::at(10, 0))?;
+    let section = shape(record).ok_or(refusal(10, 0))?;
     if let Some(place) = bad_field(record, count(buffer, GROUPS)) {
-        return Err(Refusal::at(11, place));
+        return Err(refusal(11, place));
     }
     let number = count(buffer, section);
     if number == LIMITS[section] {
-        return Err(Refusal::at(12, 0));
+        return Err(refusal(12, 0));
     }
     let grown = length + record.len();
     if grown > buffer.len() {
-        return Err(Refusal::at(13, 0));
+        return Err(refusal(13, 0));
     }
-    let records: usize = (0..=section).map(|s| usize::from(count(buffer, s))).sum();
-    let at = place_after(buffer, HEADER, records);
+    let at = place_after(buffer, records_before(buffer, section + 1));
     buffer.copy_within(at..length, at + record.len());
     buffer[at..at + record.len()].copy_from_slice(record);
     put(buffer, 1, grown as u16);

@@ -1,0 +1,31 @@
+//! The yardstick: a permission engine in plain Rust, without proofs.
+//!
+//! It reads the same image, gives the same answers and refuses with the same numbers as Mungaite. It takes the types of
+//! queries and answers from the crate `mungaite`, and calls nothing of it. It works from the bytes; only `prepared`
+//! keeps anything between two decisions.
+
+#![forbid(unsafe_code)]
+
+mod add;
+mod check;
+mod constraints;
+mod decide;
+mod format;
+mod give;
+mod groups;
+mod inner;
+mod names;
+mod predicate;
+mod prepared;
+mod program;
+mod record;
+mod rules;
+mod set;
+mod sets;
+
+pub use add::add;
+pub use check::check;
+pub use decide::{decide, decide_checked};
+pub use give::record;
+pub use prepared::Prepared;
+pub use program::permit;

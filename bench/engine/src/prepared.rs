@@ -1,0 +1,94 @@
+//! A checked image unpacked once, for many decisions: groups as sets, rules and constraints decoded. It needs a heap.
+
+use crate::constraints::{Constraint, Constraints};
+use crate::decide::decision;
+use crate::format::{check_query, group_of};
+use crate::groups::Groups;
+use crate::names::Names;
+use crate::predicate::{holds, Pair};
+use crate::rules::{key, live, Rule, Rules};
+use crate::set::Set;
+use crate::sets::Sets;
+use mungaite::{Decision, Query, Refusal};
+
+/// Types are held under their names: equal fields are equal sets, and a group that is named has two members or more.
+pub struct Prepared<'a> {
+    names: Names,
+    groups: Expanded,
+    rules: Vec<Rule>,
+    live: Vec<Pair>,
+    constraints: Vec<Constraint<'a>>,
+}
+
+impl<'a> Prepared<'a> {
+    /// Unpacks an image that `check` accepted before.
+    pub fn new(image: &'a [u8]) -> Prepared<'a> {
+        let groups = Groups::find(image);
+        let names = Names::find(&groups);
+        let rules = Rules::of(image, &groups);
+        let constraints = Constraints { rest: rules.clone().skip() };
+        Prepared {
+            groups: Expanded::new(&groups),
+            live: live(rules.clone()).map(|(source, destination)| (names.of(source), names.of(destination))).collect(),
+            rules: rules.map(|rule| rule.renamed(&names)).collect(),
+            constraints: constraints.map(|constraint| constraint.renamed(&names)).collect(),
+            names,
+        }
+    }
+
+    pub fn decide(&self, query: Query) -> Result<Decision, Refusal> {
+        check_query(query, self.groups.0.len() as u16)?;
+        let key = key(query.class, query.action);
+        let types = (self.names.of(query.source), self.names.of(query.destination));
+        let covers = |rule: &Rule| rule.may_cover(key) && self.within(types, rule.types());
+        Ok(decision(self.rules.iter().position(covers), || {
+            self.constraints.iter().position(|constraint| {
+                constraint.key == key
+                    && self.within(types, (constraint.first, constraint.second))
+                    && !holds(constraint, &self.groups, self.live.iter().copied(), || &self.names)
+            })
+        }))
+    }
+
+    fn within(&self, inner: Pair, outer: Pair) -> bool {
+        self.groups.within(inner.0, outer.0) && self.groups.within(inner.1, outer.1)
+    }
+}
+
+/// Groups as sets.
+struct Expanded(Vec<Set>);
+
+impl Expanded {
+    fn new(groups: &Groups<'_>) -> Expanded {
+        let set_of = |group| {
+            let mut set = Set::EMPTY;
+            groups.mark_group(group, &mut set);
+            set
+        };
+        Expanded((0..usize::from(groups.count)).map(set_of).collect())
+    }
+
+    /// Of types under their names.
+    fn within(&self, inner: u16, outer: u16) -> bool {
+        inner == outer
+            || match (group_of(inner), group_of(outer)) {
+                (_, None) => false,
+                (None, Some(outer)) => self.0[outer].has(inner),
+                (Some(inner), Some(outer)) => self.0[inner].within(&self.0[outer]),
+            }
+    }
+}
+
+impl Sets for Expanded {
+    fn mark_group(&self, group: usize, set: &mut Set) {
+        set.include(&self.0[group]);
+    }
+
+    fn group_within(&self, group: usize, set: &Set) -> bool {
+        self.0[group].within(set)
+    }
+
+    fn group_touches(&self, group: usize, set: &Set) -> bool {
+        self.0[group].touches(set)
+    }
+}
