@@ -3,10 +3,10 @@ use crate::plan::Slot;
 use crate::word::put_word;
 use format::header;
 ghost use mathlib.Core.Path.{_≡_};
-ghost use Prim.Native.Nat.{_+_, _≤_, _<_};
+ghost use Prim.Native.Nat.{_+_, _≤_};
 ghost use lib.ListN.{length};
 ghost use Rattle.extension.specs.Inner.Splice.{inserted};
-ghost use Rattle.extend.specs.Inner.Moves.{movedUp, pasted, Fits};
+ghost use Rattle.extend.specs.Inner.Moves.{movedUp, Fits};
 
 // The bytes of from..to go up by so many places, the last first.
 fn shift_up(buffer: &mut [u8], from: usize, to: usize, by: usize)
@@ -20,26 +20,15 @@ fn shift_up(buffer: &mut [u8], from: usize, to: usize, by: usize)
     }
 }
 
-// The bytes of part go to a place.
-fn copy_in(buffer: &mut [u8], part: &[u8], at: usize)
-    requires { ⌜ at + length (now part) ≤ length (now buffer) ⌝ }
-    ensures { λ _. ⌜ now (buffer .exit) ≡ pasted (now (buffer .entry)) at (now (part .entry)) ⌝ }
-{
-    let mut j = 0;
-    while j < part.len() {
-        buffer[at + j] = part[j];
-        j += 1;
-    }
-}
-
 // A record goes into its slot, and the length field and a count grow.
 pub(crate) fn insert(buffer: &mut [u8], part: &[u8], slot: Slot)
     requires { ⌜ Fits (now buffer) (now part) slot ⌝ }
     ensures { λ _. ⌜ now (buffer .exit) ≡ inserted (now (buffer .entry)) (now (part .entry)) (slot .at) (slot .size) (slot .field) (slot .count) ⌝ }
 {
     let by = part.len();
-    shift_up(buffer, slot.at, slot.size, by);
-    copy_in(buffer, part, slot.at);
+    let at = slot.at;
+    shift_up(buffer, at, slot.size, by);
+    bytes::copy(part, &mut buffer[at..]);
     put_word(buffer, header::LENGTH_AT, slot.size + by);
     put_word(buffer, slot.field, slot.count + 1);
 }

@@ -1,19 +1,15 @@
 -- What the steps of an insertion do to a buffer.
 --     movedUp b from to by   the bytes of from..to again, some places further up
---     pasted b at r          r over what stands from a place on
 --     Fits b r slot          there is room for r in the slot, and the numbers fit their fields
 use Prim.Native.Nat.{ℕ, _+_, _≤_, _<_}
 use mathlib.Core.List.{List, _++_}
 use lib.ListN.{length, take, drop}
-use lib.Seq.{slice, paste}
+use lib.Seq.{slice}
 use Rattle.format.specs.Format.{headerLength}
 use Rattle.extend.specs.declared.plan.Slot.{Slot}
 
 unfoldable pub movedUp : List ℕ → ℕ → ℕ → ℕ → List ℕ
 movedUp b from to by = take (from + by) b ++ (slice from to b ++ drop (to + by) b)
-
-unfoldable pub pasted : List ℕ → ℕ → List ℕ → List ℕ
-pasted b at r = paste b at r (length r)
 
 pub record Fits (b r : List ℕ) (slot : Slot) : Type 0 where
   pub low : headerLength ≤ slot .at
