@@ -43,10 +43,6 @@ module _ (l : List ℕ) (q : Query) where
 
   -- ---- the answer
 
-  pub answer-refused : (f : Refusal) → check l ≡ some f → deciding.answer l q ≡ refused f
-  unfolding deciding.answer deciding.answerFault
-  answer-refused f e = ap (λ x. outcome x (deciding.decide (policyOf l) q)) (orElse-first _ e)
-
   pub answer-accepted : Accepted l → deciding.answer l q ≡ outcome (deciding.queryFault (countOf l Groups) q) (deciding.decide (policyOf l) q)
   unfolding deciding.answer deciding.answerFault
   answer-accepted e = ap (λ x. outcome x (deciding.decide (policyOf l) q)) (orElse-next _ e)

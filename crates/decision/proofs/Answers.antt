@@ -1,5 +1,6 @@
 -- What an answer can hold, for the layers above. Assumes nothing.
 --     answer-refused       a refusal is the check's, or 8 or 9 with the place 0
+--     image-refused        and the check's is every query's
 --     permitted-inside, unknown-inside   the numbers that a decision names are below the sections' counts
 use Prim.Native.Nat.{ℕ, _<_}
 use mathlib.Core.Path.{_≡_, refl, sym, ap, _∙_}
@@ -15,8 +16,8 @@ use Rattle.format.specs.Refusals.{refusal, need}
 use Rattle.format.specs.Format.{isType, countOf}
 use Rattle.format.specs.Policy.{policyOf}
 use Rattle.format.specs.Check.{check}
-use Rattle.format.specs.Answers.{refused, gives}
-use Rattle.format.proofs.Chain.{orElse-refuses, need-refuses, outcome-refused}
+use Rattle.format.specs.Answers.{refused, gives, outcome}
+use Rattle.format.proofs.Chain.{orElse-first, orElse-refuses, need-refuses, outcome-refused}
 use Rattle.format.proofs.ByCase.{records-of-rules, records-of-constraints}
 use Rattle.format.proofs.Accepted.{records-count}
 use Rattle.decision.specs.declared.Query.{Query}
@@ -42,6 +43,10 @@ module _ (l : List ℕ) (q : Query) where
   pub answer-refused : (f : Refusal) → answer l q ≡ refused f → (check l ≡ some f) ⊎ ((f ≡ refusal 8 0) ⊎ (f ≡ refusal 9 0))
   unfolding answer
   answer-refused f e = fault-named f (outcome-refused (answerFault l q) (decide (policyOf l) q) (sym e))
+
+  pub image-refused : (f : Refusal) → check l ≡ some f → answer l q ≡ refused f
+  unfolding answer answerFault
+  image-refused f e = ap (λ x. outcome x (decide (policyOf l) q)) (orElse-first _ e)
 
 -- an element's number is below the section's count, where the elements are read from its records
 inside : {A : Type 0} (f : A → Bool) (g : List ℕ → A) (xs : List (List ℕ)) (n count : ℕ) → length xs ≡ count → Lowest f (map g xs) n → n < count

@@ -11,8 +11,9 @@ use Rattle.format.specs.Answers.{sectionsOutcome}
 use Rattle.format.proofs.Accepted.{accepted-header}
 use Rattle.format.proofs.ByCase.{count-groups}
 use Rattle.format.proofs.Chain.{outcome-gives, outcome-refused}
+use Rattle.decision.proofs.Answers.{image-refused}
 use Rattle.decide.specs.Inner.Parts.{Ready}
-use Rattle.decide.proofs.EngineLaws.{query-source, query-dest, query-valid, type-told, outcome-some, outcome-none, answer-refused, answer-accepted}
+use Rattle.decide.proofs.EngineLaws.{query-source, query-dest, query-valid, type-told, outcome-some, outcome-none, answer-accepted}
 use Rattle.decide.proofs.engine.decide_surveyed.Statement.{statement}
 use Rattle.decide.proofs.engine.decide_surveyed.Tie as tie
 
@@ -55,7 +56,7 @@ judge-requires : tie.Need-judge-requires
 judge-requires c κs = (ready (c .before .before .before .before .before .before .before .before), (source-yes (c .before .before .before .before), dest-yes (c .before)), c .before .before .before .before .before .before .before .before .before .before .before .before .pre .1)
 
 returns-3 : tie.Need-returns-3
-returns-3 c = let p = c .before .before .before .before .pre in record { is = sym (answer-refused _ _ _ (outcome-refused _ _ (sym (ap sectionsOutcome (c .before .sections .given .1)) ∙ p .0 .sections))); kept = p .1 }
+returns-3 c = let p = c .before .before .before .before .pre in record { is = sym (image-refused _ _ _ (outcome-refused _ _ (sym (ap sectionsOutcome (c .before .sections .given .1)) ∙ p .0 .sections))); kept = p .1 }
 
 returns-4 : tie.Need-returns-4
 returns-4 c = let r = c .judge .ensures in

@@ -1,0 +1,32 @@
+-- The runs on the sample sheet, by computation: claim RunCases. Assumes nothing.
+use mathlib.Core.Path.{refl}
+use mathlib.Core.List.{flatten}
+use Rattle.format.specs.Bytes.{wordAt, words, putWord}
+use Rattle.format.specs.Refusals.{need, _orElse_, unlessRefused}
+use Rattle.format.specs.Format.{knownVersion, limitOf, countPlace, countOf, kindIn, lengthOk, isType, isCondition, listOk, firstRecord, shapeOk, badMember, badType, badGroup, badAllow, badTransition, badConstraint, badField}
+use Rattle.format.specs.Policy.{bodyOf, imageOf, recordAt, placeAfter, recordsAt, startOf, placeOf, endOf, policyOf}
+use Rattle.format.specs.Check.{readFields, readOf, readFault, sectionFault, countFault, headerFault, bodyFault, check, imageIn, checkFront}
+use Rattle.format.specs.Sample.{sample}
+use Rattle.extension.specs.Add.{sectionOf, withRecord, fieldFault, newNumber, ownFault, addFault, newImage, overwrite, bufferAfter}
+use Rattle.decision.specs.Sets.{anyOf, allOf, isIn, setOf, unionOf, within, touches, sameSet}
+use Rattle.decision.specs.Reading.{asks, live, ruleOf, constraintOf, requestOf, rulesOf, constraintsOf}
+use Rattle.decision.specs.Decide.{tests, covers, reaches, separationBroken, rosterBroken, companionBroken, broken, applies, inside, fails, firstAt, decisionOf, judge, decide, queryFault, answerFault, answer}
+use Rattle.decision.specs.Cases.{withSpace, extended, g0, allow}
+use Rattle.runs.specs.Runs.{runFault, queriesFault, unfit, firstUnfit, runOf, rowAnswer, answersAfter}
+use Rattle.runs.specs.Cases.{member, group, transition, separated, offRule, noSource, comesOf, saysOf, runCases, RunCases}
+use Rattle.runs.specs.Cases as table
+
+pub run-cases : RunCases
+unfolding
+    flatten wordAt words putWord need _orElse_ unlessRefused
+    knownVersion limitOf countPlace countOf kindIn lengthOk isType isCondition listOk firstRecord shapeOk badMember badType badGroup badAllow badTransition badConstraint badField
+    bodyOf imageOf recordAt placeAfter recordsAt startOf placeOf endOf policyOf
+    readFields readOf readFault sectionFault countFault headerFault bodyFault check imageIn checkFront
+    sample sectionOf withRecord fieldFault newNumber ownFault addFault newImage overwrite bufferAfter
+    anyOf allOf isIn setOf unionOf within touches sameSet
+    asks live ruleOf constraintOf requestOf rulesOf constraintsOf
+    tests covers reaches separationBroken rosterBroken companionBroken broken applies inside fails firstAt decisionOf judge decide queryFault answerFault answer
+    withSpace extended g0 allow
+    runFault queriesFault unfit firstUnfit runOf rowAnswer answersAfter
+    member group transition separated offRule noSource comesOf saysOf runCases table.asks
+run-cases = record { come = refl; say = refl }

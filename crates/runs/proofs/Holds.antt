@@ -1,0 +1,185 @@
+-- The claims of runs hold: FitExactly, UnfitFirst, LastCounts, RunRefused, EachAnswered, SlotsLeft, OwnRow, OneRow, AnswerSaid.
+-- Assumes nothing.
+use Prim.Native.Nat.{ℕ, zero, suc, _+_, _<_}
+use mathlib.Core.Path.{_≡_, refl, sym, ap, subst, _∙_}
+use mathlib.Core.Bool.{Bool, true, false, not}
+use mathlib.Core.Option.{Option, none, some}
+use mathlib.Core.List.{List, [], _∷_, _++_, map}
+use native.Mathlib.Nat.{not-suc-le-zero, zero-add}
+use native.Mathlib.Omega.{arith}
+use lib.ListN.{length, length-append, length-map, getD, List·getD-append, List·getD-map}
+use lib.Seq.{getD-append-seam}
+use borrow.Author.Tests.{not-false}
+use Rattle.format.specs.declared.Refusal.{Refusal}
+use Rattle.format.specs.Check.{check, Accepted}
+use Rattle.format.specs.Answers.{Outcome, refused, gives, outcome}
+use Rattle.format.proofs.Chain.{some-not-none, unless-accepted, unless-refused, outcome-gives, outcome-refused}
+use Rattle.format.proofs.Tests.{true-not-false, false-not-true}
+use Rattle.decision.specs.declared.Query.{Query}
+use Rattle.decision.specs.declared.Answer.{Answer}
+use Rattle.decision.specs.declared.Answer.the-variants as answers
+use Rattle.decision.specs.Decide.{Decision, notPermitted, permitted, unknown, firstAt, answer, answerOutcome}
+use Rattle.decision.proofs.Order.{answer-accepted}
+use Rattle.decision.proofs.Answers.{image-refused}
+use Rattle.runs.specs.Runs.{queriesFault, isPermitted, unfit, firstUnfit, runOf, answerOf, rowAnswer, answersAfter}
+use Rattle.runs.specs.Claims.{Permits, AllPermits, FitExactly, UnfitFirst, LastCounts, RunRefused, EachAnswered, SlotsLeft, OwnRow, OneRow, AnswerSaid}
+use Rattle.runs.proofs.First.{Search, nowhere, first, searched, found-none, found-first}
+use Rattle.runs.proofs.Faults.{run-faults, same-lengths}
+
+-- ---- a row
+
+permitted-permits : (o : Outcome Decision) → isPermitted o ≡ true → (r : ℕ) × (o ≡ gives (permitted r))
+permitted-permits (gives notPermitted) e = false-not-true e
+permitted-permits (gives (permitted r)) e = (r, refl)
+permitted-permits (gives (unknown r c)) e = false-not-true e
+permitted-permits (refused f) e = false-not-true e
+
+module _ (l : List ℕ) (q : Query) where
+  pub fit-permits : unfit l q ≡ false → Permits l q
+  unfolding unfit
+  fit-permits e = permitted-permits (answer l q) (not-false _ e)
+
+  pub permits-fit : Permits l q → unfit l q ≡ false
+  unfolding unfit
+  permits-fit p = ap (λ (o : Outcome Decision). not (isPermitted o)) (p .1)
+
+  unfit-not : unfit l q ≡ true → Permits l q → ⊥
+  unfit-not e p = true-not-false (sym e ∙ permits-fit p)
+
+  not-unfit : (Permits l q → ⊥) → unfit l q ≡ true
+  not-unfit h = go (unfit l q) refl
+    where
+      go : (b : Bool) → unfit l q ≡ b → b ≡ true
+      go true e = refl
+      go false e = absurd (h (fit-permits e))
+
+-- ---- the first row that is not Permitted
+
+some-is : {a b : ℕ} → some a ≡ some b → a ≡ b
+some-is e = cc
+
+module _ (l : List ℕ) (qs : List Query) (d : Query) where
+  pub none-unfit : firstUnfit l qs ≡ none → AllPermits l qs d (length qs)
+  unfolding firstUnfit
+  none-unfit e = go (firstAt (unfit l) 0 qs) (searched (unfit l) d qs 0) e
+    where
+      go : (o : Option ℕ) → Search (unfit l) d qs 0 o → o ≡ none → AllPermits l qs d (length qs)
+      go none (nowhere h) e i k = fit-permits l (getD qs i d) (h i k)
+      go (some m) (first n k t h) e i j = some-not-none e
+
+  all-fit : AllPermits l qs d (length qs) → firstUnfit l qs ≡ none
+  unfolding firstUnfit
+  all-fit p = found-none (unfit l) d qs 0 (λ i k. permits-fit l (getD qs i d) (p i k))
+
+  first-unfit : (m : ℕ) → firstUnfit l qs ≡ some m → (m < length qs) × (Permits l (getD qs m d) → ⊥) × AllPermits l qs d m
+  unfolding firstUnfit
+  first-unfit m e = go (firstAt (unfit l) 0 qs) (searched (unfit l) d qs 0) e
+    where
+      go : (o : Option ℕ) → Search (unfit l) d qs 0 o → o ≡ some m → (m < length qs) × (Permits l (getD qs m d) → ⊥) × AllPermits l qs d m
+      go none (nowhere h) e = some-not-none (sym e)
+      go (some x) (first n k t h) e =
+          let z : n ≡ m = sym (zero-add n) ∙ some-is e in
+          subst (λ (j : ℕ). (j < length qs) × (Permits l (getD qs j d) → ⊥) × AllPermits l qs d j) z
+          (k, unfit-not l (getD qs n d) t, λ i j. fit-permits l (getD qs i d) (h i j))
+
+  unfit-first-is : (m : ℕ) → m < length qs → (Permits l (getD qs m d) → ⊥) → AllPermits l qs d m → firstUnfit l qs ≡ some m
+  unfolding firstUnfit
+  unfit-first-is m k u p =
+      found-first (unfit l) d qs 0 m k (not-unfit l (getD qs m d) u) (λ i j. permits-fit l (getD qs i d) (p i j)) ∙ ap some (zero-add m)
+
+-- ---- what a run comes to
+
+pub fit-exactly : FitExactly
+unfolding runOf
+fit-exactly l qs slots d = (
+  λ e. (let h = outcome-gives (queriesFault l (length qs) slots) (firstUnfit l qs) (sym e) in (h .0, none-unfit l qs d (sym (h .1)))),
+  λ e p. ap (λ f. outcome f (firstUnfit l qs)) e ∙ ap gives (all-fit l qs d p),
+)
+
+pub unfit-first : UnfitFirst
+unfolding runOf
+unfit-first l qs slots n d = (
+  λ e. (
+    let h = outcome-gives (queriesFault l (length qs) slots) (firstUnfit l qs) (sym e) in
+    let u = first-unfit l qs d n (sym (h .1)) in
+    (h .0, u .0, u .1, u .2)
+  ),
+  λ e k u p. ap (λ f. outcome f (firstUnfit l qs)) e ∙ ap gives (unfit-first-is l qs d n k u p),
+)
+
+pub last-counts : LastCounts
+last-counts l qs q slots =
+    let n : length (qs ++ (q ∷ [])) ≡ length qs + 1 = length-append qs (q ∷ []) in
+    let last : getD (qs ++ (q ∷ [])) (length qs) q ≡ q = getD-append-seam qs q [] q in (
+      λ e p u. unfit-first l (qs ++ (q ∷ [])) slots (length qs) q .1
+          (ap (λ k. queriesFault l k slots) n ∙ e)
+          (omega (arith, n))
+          (λ h. u (subst (Permits l) last h))
+          (λ i k. subst (Permits l) (sym (List·getD-append qs (q ∷ []) q i k)) (p i k)),
+      λ e. subst (Permits l) last (fit-exactly l (qs ++ (q ∷ [])) slots q .0 e .1 (length qs) (omega (arith, n))),
+    )
+
+pub run-refused : RunRefused
+unfolding runOf
+run-refused l qs slots f = (
+  λ e. ap (λ g. outcome g (firstUnfit l qs)) e,
+  λ e. outcome-refused (queriesFault l (length qs) slots) (firstUnfit l qs) (sym e),
+)
+
+-- ---- the slots
+
+outcome-said : (o : Outcome Decision) → answerOutcome (answerOf o) ≡ o
+outcome-said (gives notPermitted) = refl
+outcome-said (gives (permitted r)) = refl
+outcome-said (gives (unknown r c)) = refl
+outcome-said (refused f) = refl
+
+said-outcome : (a : Answer) → answerOf (answerOutcome a) ≡ a
+said-outcome answers.NotPermitted = refl
+said-outcome (answers.Permitted r) = refl
+said-outcome (answers.UnKnown r c) = refl
+said-outcome (answers.Refused f) = refl
+
+pub answer-said : AnswerSaid
+answer-said = (outcome-said, said-outcome)
+
+-- element i of a map, whatever stands past the last
+map-at : {A B : Type 0} (f : A → B) (xs : List A) (i : ℕ) (d : A) (e : B) → i < length xs → getD (map f xs) i e ≡ f (getD xs i d)
+map-at f [] i d e k = absurd (not-suc-le-zero k)
+map-at f (x ∷ xs) zero d e k = refl
+map-at f (x ∷ xs) (suc i) d e k = map-at f xs i d e (omega arith)
+
+slot-is :
+    (l : List ℕ) (qs : List Query) (ys : List Answer) (i : ℕ) (d : Query) (y : Answer) → queriesFault l (length qs) (length ys) ≡ none → i < length qs
+    → getD (answersAfter l qs ys) i y ≡ rowAnswer l (getD qs i d)
+unfolding answersAfter
+slot-is l qs ys i d y e k = ap (λ zs. getD zs i y) (unless-accepted (map (rowAnswer l) qs) ys e) ∙ map-at (rowAnswer l) qs i d y k
+
+pub each-answered : EachAnswered
+unfolding rowAnswer
+each-answered l qs ys i d y e k = ap answerOutcome (slot-is l qs ys i d y e k) ∙ outcome-said (answer l (getD qs i d))
+
+pub own-row : OwnRow
+own-row l qs qs′ ys ys′ i i′ d y e e′ k k′ same = slot-is l qs ys i d y e k ∙ ap (rowAnswer l) same ∙ sym (slot-is l qs′ ys′ i′ d y e′ k′)
+
+pub slots-left : SlotsLeft
+unfolding answersAfter
+slots-left l qs ys = (many (queriesFault l (length qs) (length ys)) refl, λ f e. unless-refused (map (rowAnswer l) qs) ys e)
+  where
+    many : (f : Option Refusal) → queriesFault l (length qs) (length ys) ≡ f → length (answersAfter l qs ys) ≡ length ys
+    many none e = ap length (unless-accepted (map (rowAnswer l) qs) ys e) ∙ length-map qs (rowAnswer l) ∙ sym (same-lengths l (length qs) (length ys) e)
+    many (some f) e = ap length (unless-refused (map (rowAnswer l) qs) ys e)
+
+pub one-row : OneRow
+unfolding answersAfter rowAnswer
+one-row l q y =
+    let accepted : Accepted l → queriesFault l 1 1 ≡ none = λ a. run-faults l .1 a .3 1 (omega arith) (omega arith) in (
+      λ a. ap (map answerOutcome) (unless-accepted (map (rowAnswer l) (q ∷ [])) (y ∷ []) (accepted a)) ∙ ap (λ o. o ∷ []) (outcome-said (answer l q)),
+      λ p. fit-exactly l (q ∷ []) 1 q .1 (accepted (answer-accepted l q (permitted (p .0)) (p .1) .0)) (one p),
+      λ a u. unfit-first l (q ∷ []) 1 0 q .1 (accepted a) (omega arith) u (λ i k. absurd (not-suc-le-zero k)),
+      λ f e. (run-refused l (q ∷ []) 1 f .0 (run-faults l .0 f 1 1 e), image-refused l q f e),
+    )
+  where
+    one : Permits l q → AllPermits l (q ∷ []) q 1
+    one p zero k = p
+    one p (suc i) k = absurd (omega arith)

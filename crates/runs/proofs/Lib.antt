@@ -1,0 +1,5 @@
+pub mod First
+pub mod Faults
+pub mod Holds
+pub mod Numbered
+pub mod Cases

@@ -1,0 +1,86 @@
+-- Rows as numbers: claim NumbersRun, and where a row stands. Assumes nothing.
+--     row-at       row i of a list of numbers
+--     rows-many    how many whole rows it has
+--     row-inside   a row's numbers are in the list
+use Prim.Native.Nat.{ℕ, zero, suc, _+_, _*_, _/_, _<_}
+use mathlib.Core.Path.{_≡_, refl, sym, ap, ap₂, _∙_}
+use mathlib.Core.Bool.{Bool, true, false}
+use mathlib.Core.List.{List, [], _∷_, map}
+use native.Mathlib.Nat.{not-suc-le-zero, le-of-suc-le-suc}
+use native.Mathlib.Omega.{arith}
+use lib.ListN.{length, getD}
+use lib.Dec.{eqb}
+use borrow.Author.Tests.{eqb-true, eqb-false, eq-eqb, ne-eqb}
+use Rattle.format.specs.Refusals.{unlessRefused}
+use Rattle.format.specs.Answers.{outcome}
+use Rattle.decision.specs.declared.Query.{Query}
+use Rattle.runs.specs.Runs.{runFault, queriesFault, firstUnfit, runOf}
+use Rattle.runs.specs.Numbers.{queryOf, rowsOf, numbersOf, numbersFault, numbersRun, rowCode, codesAfter}
+use Rattle.runs.specs.Claims.{NumbersRun}
+
+rows-read : (qs : List Query) → rowsOf (numbersOf qs) ≡ qs
+unfolding rowsOf numbersOf
+rows-read [] = refl
+rows-read (q ∷ qs) = ap {B = List Query} (λ r. q ∷ r) (rows-read qs)
+
+numbers-many : (qs : List Query) → length (numbersOf qs) ≡ 4 * length qs
+unfolding numbersOf
+numbers-many [] = refl
+numbers-many (q ∷ qs) = omega (arith, numbers-many qs)
+
+-- two tests of the same numbers
+same-test : (a b c d : ℕ) → (a ≡ b → c ≡ d) → (c ≡ d → a ≡ b) → eqb a b ≡ eqb c d
+same-test a b c d f g = go (eqb a b) refl
+  where
+    go : (t : Bool) → eqb a b ≡ t → t ≡ eqb c d
+    go true e = sym (eq-eqb c d (f (eqb-true a b e)))
+    go false e = sym (ne-eqb c d (λ k. eqb-false a b e (g k)))
+
+fault-read : (l : List ℕ) (qs : List Query) (m : ℕ) → numbersFault l (length (numbersOf qs)) m ≡ queriesFault l (length qs) m
+unfolding numbersFault queriesFault
+fault-read l qs m =
+    let h = numbers-many qs in
+    let many : length (numbersOf qs) / 4 ≡ length qs = omega (arith, h) in
+    ap₂ (runFault l) many (same-test (length (numbersOf qs)) (4 * m) m (length qs) (λ e. omega (arith, e, h)) (λ e. omega (arith, e, h)))
+
+pub numbers-run : NumbersRun
+unfolding numbersRun runOf codesAfter
+numbers-run l qs ys = (
+  ap₂ (λ f rows. outcome f (firstUnfit l rows)) (fault-read l qs (length ys)) (rows-read qs),
+  ap₂ (λ f rows. unlessRefused f (map (rowCode l) rows) ys) (fault-read l qs (length ys)) (rows-read qs),
+)
+
+-- ---- row i of a list of numbers
+
+abbrev pub rowAt : List ℕ → ℕ → Query
+rowAt ns i = queryOf (getD ns (4 * i) 0) (getD ns (4 * i + 1) 0) (getD ns (4 * i + 2) 0) (getD ns (4 * i + 3) 0)
+
+further : (x y z w : ℕ) (ns : List ℕ) (i : ℕ) → rowAt (x ∷ y ∷ z ∷ w ∷ ns) (suc i) ≡ rowAt ns i
+further x y z w ns i =
+    let a : List ℕ = x ∷ y ∷ z ∷ w ∷ ns in
+    let from : (j k : ℕ) → j ≡ suc (suc (suc (suc k))) → getD a j 0 ≡ getD ns k 0 = λ j k e. ap (λ n. getD a n 0) e in
+    let source = from (4 * suc i) (4 * i) (omega arith) in
+    let dest = from (4 * suc i + 1) (4 * i + 1) (omega arith) in
+    let class = from (4 * suc i + 2) (4 * i + 2) (omega arith) in
+    let action = from (4 * suc i + 3) (4 * i + 3) (omega arith) in
+    cc
+
+pub row-at : (ns : List ℕ) (i : ℕ) (d : Query) → i < length (rowsOf ns) → getD (rowsOf ns) i d ≡ rowAt ns i
+unfolding rowsOf
+row-at [] i d l = absurd (not-suc-le-zero l)
+row-at (s ∷ []) i d l = absurd (not-suc-le-zero l)
+row-at (s ∷ x ∷ []) i d l = absurd (not-suc-le-zero l)
+row-at (s ∷ x ∷ c ∷ []) i d l = absurd (not-suc-le-zero l)
+row-at (s ∷ x ∷ c ∷ a ∷ ns) zero d l = refl
+row-at (s ∷ x ∷ c ∷ a ∷ ns) (suc i) d l = row-at ns i d (le-of-suc-le-suc l) ∙ sym (further s x c a ns i)
+
+pub rows-many : (ns : List ℕ) → length (rowsOf ns) ≡ length ns / 4
+unfolding rowsOf
+rows-many [] = omega arith
+rows-many (s ∷ []) = omega arith
+rows-many (s ∷ x ∷ []) = omega arith
+rows-many (s ∷ x ∷ c ∷ []) = omega arith
+rows-many (s ∷ x ∷ c ∷ a ∷ ns) = omega (arith, rows-many ns)
+
+pub row-inside : (ns : List ℕ) (i : ℕ) → i < length (rowsOf ns) → 4 * i + 3 < length ns
+row-inside ns i h = omega (arith, h, rows-many ns)
