@@ -14,3 +14,5 @@ pub mod TableLaws
 pub mod ConstraintLaws
 pub mod EngineLaws
 pub mod RowLaws
+pub mod BatchLaws
+pub mod LentTables

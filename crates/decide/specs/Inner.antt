@@ -4,3 +4,4 @@ pub mod Marks
 pub mod Kept
 pub mod Rules
 pub mod Names
+pub mod Steps

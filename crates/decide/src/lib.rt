@@ -13,6 +13,9 @@ mod cover; // cover.rt: the lowest rule that covers a query
 mod constraint; // constraint.rt: whether a constraint fails, and the lowest that does
 mod engine; // engine.rt: the decision on an image and a query
 mod rows; // rows.rt: many queries at once
+mod batch; // batch.rt: a run of queries, and what it comes to
 
+pub use batch::run;
+pub use batch::run_numbers;
 pub use engine::decide;
 pub use rows::decide_all;

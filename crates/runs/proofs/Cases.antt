@@ -12,7 +12,7 @@ use Rattle.decision.specs.Sets.{anyOf, allOf, isIn, setOf, unionOf, within, tou
 use Rattle.decision.specs.Reading.{asks, live, ruleOf, constraintOf, requestOf, rulesOf, constraintsOf}
 use Rattle.decision.specs.Decide.{tests, covers, reaches, separationBroken, rosterBroken, companionBroken, broken, applies, inside, fails, firstAt, decisionOf, judge, decide, queryFault, answerFault, answer}
 use Rattle.decision.specs.Cases.{withSpace, extended, g0, allow}
-use Rattle.runs.specs.Runs.{runFault, queriesFault, unfit, firstUnfit, runOf, rowAnswer, answersAfter}
+use Rattle.runs.specs.Runs.{rowsFault, runFault, queriesFault, unfit, firstUnfit, runOf, rowAnswer, answersAfter}
 use Rattle.runs.specs.Cases.{member, group, transition, separated, offRule, noSource, comesOf, saysOf, runCases, RunCases}
 use Rattle.runs.specs.Cases as table
 
@@ -27,6 +27,6 @@ unfolding
     asks live ruleOf constraintOf requestOf rulesOf constraintsOf
     tests covers reaches separationBroken rosterBroken companionBroken broken applies inside fails firstAt decisionOf judge decide queryFault answerFault answer
     withSpace extended g0 allow
-    runFault queriesFault unfit firstUnfit runOf rowAnswer answersAfter
+    rowsFault runFault queriesFault unfit firstUnfit runOf rowAnswer answersAfter
     member group transition separated offRule noSource comesOf saysOf runCases table.asks
 run-cases = record { come = refl; say = refl }

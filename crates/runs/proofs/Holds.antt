@@ -100,10 +100,10 @@ pub unfit-first : UnfitFirst
 unfolding runOf
 unfit-first l qs slots n d = (
   λ e. (
-    let h = outcome-gives (queriesFault l (length qs) slots) (firstUnfit l qs) (sym e) in
-    let u = first-unfit l qs d n (sym (h .1)) in
-    (h .0, u .0, u .1, u .2)
-  ),
+      let h = outcome-gives (queriesFault l (length qs) slots) (firstUnfit l qs) (sym e) in
+      let u = first-unfit l qs d n (sym (h .1)) in
+      (h .0, u .0, u .1, u .2)
+      ),
   λ e k u p. ap (λ f. outcome f (firstUnfit l qs)) e ∙ ap gives (unfit-first-is l qs d n k u p),
 )
 
@@ -142,6 +142,11 @@ said-outcome (answers.Refused f) = refl
 
 pub answer-said : AnswerSaid
 answer-said = (outcome-said, said-outcome)
+
+-- an `Answer` that says what the row is answered is the row's
+pub said-answer : (l : List ℕ) (q : Query) (a : Answer) → answerOutcome a ≡ answer l q → a ≡ rowAnswer l q
+unfolding rowAnswer
+said-answer l q a e = sym (said-outcome a) ∙ ap answerOf e
 
 -- element i of a map, whatever stands past the last
 map-at : {A B : Type 0} (f : A → B) (xs : List A) (i : ℕ) (d : A) (e : B) → i < length xs → getD (map f xs) i e ≡ f (getD xs i d)

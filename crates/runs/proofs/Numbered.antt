@@ -15,7 +15,8 @@ use Rattle.format.specs.Refusals.{unlessRefused}
 use Rattle.format.specs.Answers.{outcome}
 use Rattle.decision.specs.declared.Query.{Query}
 use Rattle.runs.specs.Runs.{runFault, queriesFault, firstUnfit, runOf}
-use Rattle.runs.specs.Numbers.{queryOf, rowsOf, numbersOf, numbersFault, numbersRun, rowCode, codesAfter}
+use Rattle.runs.specs.Numbers.{rowsOf, numbersOf, numbersFault, numbersRun, rowCode, codesAfter}
+use Rattle.runs.specs.Inner.Progress.{rowAt}
 use Rattle.runs.specs.Claims.{NumbersRun}
 
 rows-read : (qs : List Query) → rowsOf (numbersOf qs) ≡ qs
@@ -51,9 +52,6 @@ numbers-run l qs ys = (
 )
 
 -- ---- row i of a list of numbers
-
-abbrev pub rowAt : List ℕ → ℕ → Query
-rowAt ns i = queryOf (getD ns (4 * i) 0) (getD ns (4 * i + 1) 0) (getD ns (4 * i + 2) 0) (getD ns (4 * i + 3) 0)
 
 further : (x y z w : ℕ) (ns : List ℕ) (i : ℕ) → rowAt (x ∷ y ∷ z ∷ w ∷ ns) (suc i) ≡ rowAt ns i
 further x y z w ns i =

@@ -1,5 +1,6 @@
 -- A run: 1 to 64 rows, each a query, on one policy (document 02, request 1: "Whole formulas on the pipetting arm").
---     runFault l n fits     refusals 1 to 7, then 16 unless there are 1 to 64 rows, then 17 unless the answers' list fits
+--     rowsFault n fits      16 unless there are 1 to 64 rows, then 17 unless the answers' list fits
+--     runFault l n fits     the image's refusals, 1 to 7, before them
 --     queriesFault l n m    of n rows with m slots for answers
 --     isPermitted o         what a query is answered is Permitted
 --     unfit l q             a row is not Permitted: NotPermitted, UnKnown or refused
@@ -26,8 +27,11 @@ use Rattle.decision.specs.Decide.{Decision, notPermitted, permitted, unknown, f
 use Rattle.runs.specs.declared.Run.{Run}
 use Rattle.runs.specs.declared.Run.the-variants.{Fit, Unfit, Refused}
 
+unfoldable pub rowsFault : ℕ → Bool → Option Refusal
+rowsFault rows fits = need (leb 1 rows && leb rows 64) (refusal 16 0) orElse need fits (refusal 17 0)
+
 unfoldable pub runFault : List ℕ → ℕ → Bool → Option Refusal
-runFault l rows fits = check l orElse need (leb 1 rows && leb rows 64) (refusal 16 0) orElse need fits (refusal 17 0)
+runFault l rows fits = check l orElse rowsFault rows fits
 
 unfoldable pub queriesFault : List ℕ → ℕ → ℕ → Option Refusal
 queriesFault l rows slots = runFault l rows (eqb slots rows)

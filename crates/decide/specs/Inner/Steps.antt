@@ -1,0 +1,25 @@
+-- What the steps of a run answer.
+--     Begins l n f b   what a run of n rows begins with, where f is its refusal
+--     stepOf l q r i   what row i comes to, where the run was r before
+use Prim.Native.Nat.{ℕ}
+use mathlib.Core.Path.{_≡_}
+use mathlib.Core.Option.{Option}
+use mathlib.Core.List.{List}
+use Rattle.format.specs.declared.Refusal.{Refusal}
+use Rattle.decision.specs.declared.Query.{Query}
+use Rattle.runs.specs.declared.Run.{Run}
+use Rattle.runs.specs.Runs.{rowAnswer}
+use Rattle.runs.specs.Inner.Progress.{runSaid, rowsFor, nextRun}
+use Rattle.decide.specs.declared.batch.Begun.{Begun}
+use Rattle.decide.specs.declared.batch.Step.{Step}
+use Rattle.decide.specs.Inner.Parts.{Surveyed}
+use Rattle.decide.specs.Inner.Kept.{KeptVerdicts}
+
+pub record Begins (l : List ℕ) (n : ℕ) (f : Option Refusal) (b : Begun) : Type 0 where
+  pub rows : b .rows ≡ rowsFor (runSaid f) n
+  pub run : b .run ≡ runSaid f
+  pub surveyed : Surveyed l (b .groups) (b .sections)
+  pub kept : KeptVerdicts l (b .verdicts)
+
+abbrev pub stepOf : List ℕ → Query → Run → ℕ → Step
+stepOf l q r i = record { answer = rowAnswer l q; run = nextRun r i (rowAnswer l q) }

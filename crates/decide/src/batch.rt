@@ -1,0 +1,200 @@
+// A run: many queries on one policy, each decided as the single query is. The image is checked once, and what does not depend
+// on the row is found once: the groups' places, and what the rules say of each constraint.
+use crate::engine::decide_surveyed;
+use decision::Answer;
+use decision::Query;
+use format::Refusal;
+use format::Sections;
+use image::survey;
+use numbers::number;
+use runs::Run;
+ghost use mathlib.Core.Path.{_≡_};
+ghost use Prim.Native.Nat.{_+_, _*_, _<_};
+ghost use lib.ListN.{length};
+ghost use lib.Dec.{eqb};
+ghost use Rattle.format.specs.Answers.{sectionsOutcome};
+ghost use Rattle.runs.specs.Runs.{runFault, queriesFault, runOf, answersAfter, runOutcome};
+ghost use Rattle.runs.specs.Numbers.{numbersRun, codesAfter};
+ghost use Rattle.runs.specs.Inner.Progress.{openFault, runSaid, rowsFor, nextRun, rowAt};
+ghost use Rattle.decide.specs.Inner.Parts.{Surveyed};
+ghost use Rattle.decide.specs.Inner.Kept.{KeptVerdicts, Leaves};
+ghost use Rattle.decide.specs.Inner.Steps.{Begins, stepOf};
+
+// What a run begins with: how many rows are decided, what it comes to before the first of them, the policy as the check leaves
+// it, and a table of verdicts, of zeros.
+pub(crate) struct Begun {
+    pub rows: usize,
+    pub run: Run,
+    pub sections: Sections,
+    pub groups: [u16; 256],
+    pub verdicts: [u8; 256],
+}
+
+// A row's answer, and what the run comes to after it.
+pub(crate) struct Step {
+    pub answer: Answer,
+    pub run: Run,
+}
+
+// What a run comes to before its first row. The refusals in their order: the image's, then 16, then 17.
+fn opening(sections: Sections, rows: usize, fits: bool) -> Run
+    ensures { λ r. ⌜ r ≡ runSaid (openFault (sectionsOutcome sections) rows fits) ⌝ }
+{
+    match sections {
+        Sections::Refused(f) => Run::Refused(f),
+        Sections::At(_) => {
+            if rows < 1 {
+                return Run::Refused(Refusal {
+                    number: 16,
+                    place: 0,
+                });
+            }
+            if 64 < rows {
+                return Run::Refused(Refusal {
+                    number: 16,
+                    place: 0,
+                });
+            }
+            if !fits {
+                return Run::Refused(Refusal {
+                    number: 17,
+                    place: 0,
+                });
+            }
+            Run::Fit
+        }
+    }
+}
+
+// How many rows are decided: none where the run is refused.
+fn decided(run: Run, rows: usize) -> usize
+    ensures { λ r. ⌜ r ≡ rowsFor run rows ⌝ }
+{
+    match run {
+        Run::Fit => rows,
+        Run::Unfit(_) => rows,
+        Run::Refused(_) => 0,
+    }
+}
+
+// What a run begins with, where the list of answers fits or not.
+fn begin(image: &[u8], rows: usize, fits: bool) -> Begun
+    ensures { λ r. ⌜ Begins (now (image .entry)) rows (runFault (now (image .entry)) rows fits) r ⌝ }
+{
+    let mut groups = [0u16; 256];
+    let sections = survey(image, &mut groups);
+    let run = opening(sections, rows, fits);
+    let verdicts = [0u8; 256];
+    Begun {
+        rows: decided(run, rows),
+        run,
+        sections,
+        groups,
+        verdicts,
+    }
+}
+
+// The same for a list of queries and one of slots for their answers.
+fn begin_queries(image: &[u8], rows: usize, slots: usize) -> Begun
+    ensures { λ r. ⌜ Begins (now (image .entry)) rows (queriesFault (now (image .entry)) rows slots) r ⌝ }
+{
+    begin(image, rows, slots == rows)
+}
+
+// What a run comes to after row i: the first row that is not Permitted is kept.
+fn next(run: Run, i: usize, a: Answer) -> Run
+    ensures { λ r. ⌜ r ≡ nextRun run i a ⌝ }
+{
+    match run {
+        Run::Fit => match a {
+            Answer::NotPermitted => Run::Unfit(i),
+            Answer::Permitted(_) => Run::Fit,
+            Answer::UnKnown(_, _) => Run::Unfit(i),
+            Answer::Refused(_) => Run::Unfit(i),
+        },
+        Run::Unfit(n) => Run::Unfit(n),
+        Run::Refused(f) => Run::Refused(f),
+    }
+}
+
+// Row i.
+fn decide_row(
+    image: &[u8],
+    groups: &[u16; 256],
+    sections: Sections,
+    q: Query,
+    verdicts: &mut [u8; 256],
+    run: Run,
+    i: usize,
+) -> Step
+    requires { ⌜ Surveyed (now image) (now groups) sections × KeptVerdicts (now image) (now verdicts) ⌝ }
+    ensures { λ r. ⌜ Leaves (stepOf (now (image .entry)) q run i) (KeptVerdicts (now (image .entry)) (now (verdicts .exit))) r ⌝ }
+{
+    let answer = decide_surveyed(image, groups, sections, q, verdicts);
+    Step {
+        answer,
+        run: next(run, i, answer),
+    }
+}
+
+// A run of 1 to 64 rows: each slot gets what its row's query is answered, a refusal included. A refused call leaves the slots as
+// they were.
+pub fn run(image: &[u8], queries: &[Query], answers: &mut [Answer]) -> Run
+    ensures { λ r. ⌜ (runOutcome r ≡ runOf (now (image .entry)) (now (queries .entry)) (length (now (answers .entry))))
+        × (now (answers .exit) ≡ answersAfter (now (image .entry)) (now (queries .entry)) (now (answers .entry))) ⌝ }
+{
+    let begun = begin_queries(image, queries.len(), answers.len());
+    let rows = begun.rows;
+    let mut run = begun.run;
+    let sections = begun.sections;
+    let groups = begun.groups;
+    let mut verdicts = begun.verdicts;
+    let mut i = 0;
+    while i < rows {
+        let s = decide_row(image, &groups, sections, queries[i], &mut verdicts, run, i);
+        answers[i] = s.answer;
+        run = s.run;
+        i += 1;
+    }
+    run
+}
+
+// Row i of a list of numbers, four for each row.
+fn row_at(numbers: &[u16], i: usize) -> Query
+    requires { ⌜ 4 * i + 3 < length (now numbers) ⌝ }
+    ensures { λ r. ⌜ r ≡ rowAt (now (numbers .entry)) i ⌝ }
+{
+    Query {
+        source: numbers[4 * i],
+        dest: numbers[4 * i + 1],
+        class: numbers[4 * i + 2],
+        action: numbers[4 * i + 3],
+    }
+}
+
+// The same run over numbers: four for each row, and one for each answer.
+pub fn run_numbers(image: &[u8], queries: &[u16], answers: &mut [u64]) -> Run
+    ensures { λ r. ⌜ (runOutcome r ≡ numbersRun (now (image .entry)) (now (queries .entry)) (length (now (answers .entry))))
+        × (now (answers .exit) ≡ codesAfter (now (image .entry)) (now (queries .entry)) (now (answers .entry))) ⌝ }
+{
+    let begun = begin(
+        image,
+        queries.len() / 4,
+        queries.len() % 4 == 0 && queries.len() / 4 == answers.len(),
+    );
+    let rows = begun.rows;
+    let mut run = begun.run;
+    let sections = begun.sections;
+    let groups = begun.groups;
+    let mut verdicts = begun.verdicts;
+    let mut i: usize = 0;
+    while i < rows {
+        let q = row_at(queries, i);
+        let s = decide_row(image, &groups, sections, q, &mut verdicts, run, i);
+        let a = s.answer;
+        answers[i] = number(a);
+        run = s.run;
+        i += 1;
+    }
+    run
+}
