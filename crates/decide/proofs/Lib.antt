@@ -16,3 +16,4 @@ pub mod EngineLaws
 pub mod RowLaws
 pub mod BatchLaws
 pub mod LentTables
+pub mod NumberLaws

@@ -172,16 +172,23 @@ fn row_at(numbers: &[u16], i: usize) -> Query
     }
 }
 
+// Whether there are four numbers for each slot.
+fn four_each(numbers: usize, slots: usize) -> bool
+    ensures { λ r. ⌜ r ≡ eqb numbers (4 * slots) ⌝ }
+{
+    if numbers % 4 != 0 {
+        return false;
+    }
+    numbers / 4 == slots
+}
+
 // The same run over numbers: four for each row, and one for each answer.
 pub fn run_numbers(image: &[u8], queries: &[u16], answers: &mut [u64]) -> Run
     ensures { λ r. ⌜ (runOutcome r ≡ numbersRun (now (image .entry)) (now (queries .entry)) (length (now (answers .entry))))
         × (now (answers .exit) ≡ codesAfter (now (image .entry)) (now (queries .entry)) (now (answers .entry))) ⌝ }
 {
-    let begun = begin(
-        image,
-        queries.len() / 4,
-        queries.len() % 4 == 0 && queries.len() / 4 == answers.len(),
-    );
+    let fits = four_each(queries.len(), answers.len());
+    let begun = begin(image, queries.len() / 4, fits);
     let rows = begun.rows;
     let mut run = begun.run;
     let sections = begun.sections;

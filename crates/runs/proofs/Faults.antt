@@ -2,7 +2,8 @@
 --     rows-few, rows-many, rows-slots, rows-none   16, 17, or none, whatever the rows are
 --     fault-fits, fault-rows           a run that is not refused: its answers' list fits, and it has at most 64 rows
 --     same-lengths                     as many slots as queries
---     same-count                       four numbers for each slot
+--     numbers-fault                    the refusal of numbers, by their rows
+--     same-count, few-numbers          four numbers for each slot, and at most 64 rows of them
 --     run-faults, numbers-faults       the claims
 use Prim.Native.Nat.{ℕ, _*_, _/_, _≤_, _<_}
 use mathlib.Core.Path.{_≡_, refl, _∙_}
@@ -70,9 +71,17 @@ pub same-lengths : (l : List ℕ) (n m : ℕ) → queriesFault l n m ≡ none �
 unfolding queriesFault
 same-lengths l n m e = eqb-true m n (fault-fits l n (eqb m n) e)
 
+pub numbers-fault : (l : List ℕ) (n m : ℕ) → numbersFault l n m ≡ runFault l (n / 4) (eqb n (4 * m))
+unfolding numbersFault
+numbers-fault l n m = refl
+
 pub same-count : (l : List ℕ) (n m : ℕ) → numbersFault l n m ≡ none → n ≡ 4 * m
 unfolding numbersFault
 same-count l n m e = eqb-true n (4 * m) (fault-fits l (n / 4) (eqb n (4 * m)) e)
+
+pub few-numbers : (l : List ℕ) (n m : ℕ) → numbersFault l n m ≡ none → n / 4 ≤ 64
+unfolding numbersFault
+few-numbers l n m e = fault-rows l (n / 4) (eqb n (4 * m)) e
 
 pub run-faults : RunFaults
 unfolding queriesFault

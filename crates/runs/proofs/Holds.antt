@@ -19,9 +19,11 @@ use Rattle.decision.specs.declared.Query.{Query}
 use Rattle.decision.specs.declared.Answer.{Answer}
 use Rattle.decision.specs.declared.Answer.the-variants as answers
 use Rattle.decision.specs.Decide.{Decision, notPermitted, permitted, unknown, firstAt, answer, answerOutcome}
+use Rattle.decision.specs.Numbers.{decisionCode}
 use Rattle.decision.proofs.Order.{answer-accepted}
 use Rattle.decision.proofs.Answers.{image-refused}
 use Rattle.runs.specs.Runs.{queriesFault, isPermitted, unfit, firstUnfit, runOf, answerOf, rowAnswer, answersAfter}
+use Rattle.runs.specs.Numbers.{rowCode}
 use Rattle.runs.specs.Claims.{Permits, AllPermits, FitExactly, UnfitFirst, LastCounts, RunRefused, EachAnswered, SlotsLeft, OwnRow, OneRow, AnswerSaid}
 use Rattle.runs.proofs.First.{Search, nowhere, first, searched, found-none, found-first}
 use Rattle.runs.proofs.Faults.{run-faults, same-lengths}
@@ -147,6 +149,11 @@ answer-said = (outcome-said, said-outcome)
 pub said-answer : (l : List ℕ) (q : Query) (a : Answer) → answerOutcome a ≡ answer l q → a ≡ rowAnswer l q
 unfolding rowAnswer
 said-answer l q a e = sym (said-outcome a) ∙ ap answerOf e
+
+-- and its number is that of the row
+pub answer-code : (l : List ℕ) (q : Query) → decisionCode (answerOutcome (rowAnswer l q)) ≡ rowCode l q
+unfolding rowAnswer rowCode
+answer-code l q = ap decisionCode (outcome-said (answer l q))
 
 -- element i of a map, whatever stands past the last
 map-at : {A B : Type 0} (f : A → B) (xs : List A) (i : ℕ) (d : A) (e : B) → i < length xs → getD (map f xs) i e ≡ f (getD xs i d)

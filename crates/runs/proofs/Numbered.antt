@@ -1,4 +1,5 @@
 -- Rows as numbers: claim NumbersRun, and where a row stands. Assumes nothing.
+--     same-test    two tests of the same numbers
 --     row-at       row i of a list of numbers
 --     rows-many    how many whole rows it has
 --     row-inside   a row's numbers are in the list
@@ -30,7 +31,7 @@ numbers-many [] = refl
 numbers-many (q ∷ qs) = omega (arith, numbers-many qs)
 
 -- two tests of the same numbers
-same-test : (a b c d : ℕ) → (a ≡ b → c ≡ d) → (c ≡ d → a ≡ b) → eqb a b ≡ eqb c d
+pub same-test : (a b c d : ℕ) → (a ≡ b → c ≡ d) → (c ≡ d → a ≡ b) → eqb a b ≡ eqb c d
 same-test a b c d f g = go (eqb a b) refl
   where
     go : (t : Bool) → eqb a b ≡ t → t ≡ eqb c d

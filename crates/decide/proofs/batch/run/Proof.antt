@@ -292,9 +292,16 @@ module _ {M : Type 1} (𝓤 : URA M) (H : Heap 𝓤) (A : Atoms 𝓤) (W : Given
       Args i = (x₀, (xg, (st, (elem i, (xv, (out i, (i, tt)))))))
 
       abbrev to-row : ℕ → Decides 𝓤 H A at-mem run .Ghost
-      to-row i =
-          (((κ₀, (α ∷ [], (ν ∷ [], tt))), (q₀, (fullShare, (fullShare, tt))), tt, Args i,
-          (s₀ ∷ [], (vptr l₈ 0 ∷ [], (xval st ∷ [], (qval (elem i) ∷ [], (vptr l₉ 0 ∷ [], (oval (out i) ∷ [], (vint w64 i ∷ [], tt)))))))), tt)
+      to-row i = (
+        (
+          (κ₀, (α ∷ [], (ν ∷ [], tt))),
+          (q₀, (fullShare, (fullShare, tt))),
+          tt,
+          Args i,
+          (s₀ ∷ [], (vptr l₈ 0 ∷ [], (xval st ∷ [], (qval (elem i) ∷ [], (vptr l₉ 0 ∷ [], (oval (out i) ∷ [], (vint w64 i ∷ [], tt))))))),
+        ),
+        tt,
+      )
 
       ask-row : (i : ℕ) → Surveyed img gs st → KeptVerdicts img vs → Is X.the-row st (xval st ∷ []) → Is Q.the-row (elem i) (qval (elem i) ∷ []) → Is O.the-row (out i) (oval (out i) ∷ []) → i < 2 ^ 64
           → ent 𝓤 (sep 𝓤 (A .lft κ₀ q₀) (sep 𝓤 (A .lft (α ∷ []) fullShare) (sep 𝓤 (A .lft (ν ∷ []) fullShare) (sep 𝓤 (sem 𝓤 H A Own₀) (sep 𝓤 (sem 𝓤 H A OwnG) (sem 𝓤 H A OwnV))))))

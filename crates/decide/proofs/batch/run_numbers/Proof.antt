@@ -1,65 +1,109 @@
+-- `run_numbers` meets its contract: after i rows the slots are filled so far, and the run comes to what the rows so far say.
+-- Assumes nothing.
+use native.Mathlib.Omega.{arith}
+use borrow.Author.Needs.{needs}
+use Prim.Native.Nat.{ℕ, _-_, _<_, _≤_}
+use mathlib.Core.Path.{_≡_, refl, ap, _∙_}
+use mathlib.Core.List.{List}
+use denote.Ref.{now}
+use lib.ListN.{length}
+use Rattle.runs.specs.declared.Run.{Run}
+use Rattle.runs.specs.Runs.{runOutcome}
+use Rattle.runs.specs.Numbers.{rowsOf}
+use Rattle.runs.proofs.Fill.{fill, length-fill}
+use Rattle.runs.proofs.Progress.{out-none, ran-numbers, wrote-numbers}
+use Rattle.decide.specs.declared.batch.Begun.{Begun}
+use Rattle.decide.specs.Inner.Kept.{KeptVerdicts}
+use Rattle.decide.specs.Inner.Steps.{Begins, stepOf}
+use Rattle.decide.proofs.NumberLaws.{fault, codes, out, rows, begun-numbers, row-slot, row-few, row-numbers, row-run, row-code}
 use Rattle.decide.proofs.batch.run_numbers.Statement.{statement}
 use Rattle.decide.proofs.batch.run_numbers.Tie as tie
-use Rattle.decide.proofs.batch.run_numbers.Reads as reads
-use Rattle.decide.proofs.batch.run_numbers.Lts as lts
-use Rattle.decide.proofs.batch.begin.Reads as begin-reads
-use Rattle.decide.proofs.batch.decide_row.Reads as decide-row-reads
-use Rattle.decide.proofs.batch.row_at.Reads as row-at-reads
-use Rattle.numbers.proofs.number.Reads as number-reads
+
+-- i rows are decided, of `many`
+record Rows (l ns ys : List ℕ) (many : ℕ) (slots : List ℕ) (run : Run) (verdicts : List ℕ) (i : ℕ) : Type 0 where
+  few : i ≤ many
+  ran : run ≡ out l ns ys i
+  are : slots ≡ fill (codes l ns ys) ys i
+  kept : KeptVerdicts l verdicts
 
 abbrev Inv-loop : tie.InvT-loop
-Inv-loop image queries answers₀ rows run₀ sections groups verdicts₀ i₀ answers run verdicts i = ?
+Inv-loop image queries answers₀ fits many run₀ sections groups verdicts₀ i₀ answers run verdicts i = Rows image queries answers₀ many answers run verdicts i
 
 abbrev μ-loop : tie.MeasureT-loop
-μ-loop image queries answers₀ rows run₀ sections groups verdicts₀ i₀ answers run verdicts i = ?
+μ-loop image queries answers₀ fits many run₀ sections groups verdicts₀ i₀ answers run verdicts i = many - i
 
--- src/batch.rt:179:9
-begin-requires : tie.Need-begin-requires Inv-loop μ-loop
-begin-requires c κs = ?
+-- what a run begins with
+module _ (d : tie.After-verdicts Inv-loop μ-loop) where
+  abbrev l : List ℕ
+  l = now (d .before .before .before .before .before .before .before .args .image)
 
--- src/batch.rt:190:5
+  abbrev ns : List ℕ
+  ns = now (d .before .before .before .before .before .before .before .args .queries)
+
+  abbrev ys : List ℕ
+  ys = now (d .before .before .before .before .before .before .before .args .answers)
+
+  abbrev begun : Begun
+  begun = d .before .before .begin .result
+
+  begins : Begins l (length (rowsOf ns)) (fault l ns ys) begun
+  begins = begun-numbers l ns ys _ begun (d .before .before .before .four-each .ensures) (d .before .before .begin .ensures)
+
 loop-holds : tie.Need-loop-holds Inv-loop μ-loop
-loop-holds c = ?
+loop-holds c = record { few = omega arith; ran = begins c .run ∙ out-none (l c) (fault (l c) (ns c) (ys c)) (rowsOf (ns c)); are = refl; kept = begins c .kept }
 
--- src/batch.rt:191:13
 row-at-requires : tie.Need-row-at-requires Inv-loop μ-loop
-row-at-requires c κs = ?
+row-at-requires c κs = let a = c .before .before in row-numbers (l a) (ns a) (ys a) (c .before .loop .i) (begun a .rows) (begins a .rows) (c .loop-test .taken)
 
--- src/batch.rt:192:13
 decide-row-requires : tie.Need-decide-row-requires Inv-loop μ-loop
-decide-row-requires c κs = ?
+decide-row-requires c κs = (begins (c .before .before .before .before .before) .surveyed, c .before .before .before .before .loop .inv .kept)
 
--- src/batch.rt:194:22
-number-requires : tie.Need-number-requires Inv-loop μ-loop
-number-requires c κs = ?
-
--- src/batch.rt:194:9
 mul-answers : tie.Need-mul-answers Inv-loop μ-loop
-mul-answers c = ?
+mul-answers c =
+    let a = c .before .before .before .before .before .before .before in
+    let h = row-few (l a) (ns a) (ys a) (c .before .before .before .before .before .before .loop .i) (begun a .rows) (begins a .rows) (c .before .before .before .before .before .loop-test .taken) in
+    omega (arith, h)
 
--- src/batch.rt:194:9
 slice-write-answers : tie.Need-slice-write-answers Inv-loop μ-loop
-slice-write-answers c = ?
+slice-write-answers c =
+    let a = c .before .before .before .before .before .before .before in
+    let L = c .before .before .before .before .before .before .loop in
+    let e : length (L .answers) ≡ length (ys a) = ap length (L .inv .are) ∙ length-fill (codes (l a) (ns a) (ys a)) (ys a) (L .i) in
+    let h = row-slot (l a) (ns a) (ys a) (L .i) (begun a .rows) (begins a .rows) (c .before .before .before .before .before .loop-test .taken) in
+    omega (arith, e, h)
 
--- src/batch.rt:196:9
-add-i : tie.Need-add-i Inv-loop μ-loop
-add-i c = ?
-
--- src/batch.rt:190:5
-loop-less : tie.Need-loop-less Inv-loop μ-loop
-loop-less c = ?
-
--- src/batch.rt:190:5
 loop-again : tie.Need-loop-again Inv-loop μ-loop
-loop-again c = ?
+loop-again c =
+    let a = c .before .before .before .before .before .before .before in
+    let L = c .before .before .before .before .before .before .loop in
+    let t = c .before .before .before .before .before .loop-test .taken in
+    let q = c .before .before .before .before .row-at .result in
+    let r = c .before .decide-row .ensures in
+    let s = c .before .decide-row .result in
+    let z : s ≡ stepOf (l a) q (out (l a) (ns a) (ys a) (L .i)) (L .i) = r .is ∙ ap (λ x. stepOf (l a) q x (L .i)) (L .inv .ran) in
+    let asked = c .before .before .before .before .row-at .ensures in
+    record {
+      few = omega (arith, t);
+      ran = row-run (l a) (ns a) (ys a) (L .i) (begun a .rows) (begins a .rows) t q s asked z;
+      are = row-code (l a) (ns a) (ys a) (L .i) (begun a .rows) (begins a .rows) t q s asked z (c .number .result) (c .number .ensures) (L .answers) (L .inv .are);
+      kept = r .kept;
+    }
 
--- src/batch.rt:175:1
 same-length : tie.Need-same-length Inv-loop μ-loop
-same-length c = ?
+same-length c =
+    let a = c .before .before in
+    let L = c .before .loop in
+    ap length (L .inv .are) ∙ length-fill (codes (l a) (ns a) (ys a)) (ys a) (L .i)
 
--- src/batch.rt:175:1
 returns : tie.Need-returns Inv-loop μ-loop
-returns c = ?
+returns c =
+    let a = c .before .before in
+    let L = c .before .loop in
+    let e : L .i ≡ begun a .rows = omega (arith, L .inv .few, c .loop-test .left) in
+    let f = e ∙ begins a .rows in (
+      ap runOutcome (L .inv .ran ∙ ap (out (l a) (ns a) (ys a)) f) ∙ ran-numbers (l a) (ns a) (length (ys a)),
+      L .inv .are ∙ ap (fill (codes (l a) (ns a) (ys a)) (ys a)) f ∙ wrote-numbers (l a) (ns a) (ys a),
+    )
 
 pub run-numbers-spec : {M : Type 1} → statement M
 run-numbers-spec =
@@ -67,15 +111,16 @@ run-numbers-spec =
     (tie.spec
     Inv-loop
     μ-loop
-    begin-requires
+    (λ c κs. search needs)
+    (λ c κs. search needs)
     loop-holds
     row-at-requires
     decide-row-requires
-    number-requires
+    (λ c κs. search needs)
     mul-answers
     slice-write-answers
-    add-i
-    loop-less
+    (λ c. omega arith)
+    (λ c. omega arith)
     loop-again
     same-length
     returns)
