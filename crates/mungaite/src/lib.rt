@@ -2,6 +2,7 @@
 // functions and has the table of answers.
 
 use decide::decide;
+use decide::run_numbers;
 use decision::Query;
 use extend::add;
 use extension::Added;
@@ -14,11 +15,14 @@ use image::find;
 use numbers::number;
 use numbers::parts;
 use numbers::refused;
+use numbers::run_number;
 ghost use mathlib.Core.Path.{_≡_};
+ghost use lib.ListN.{length};
 ghost use Rattle.format.specs.Check as reading;
 ghost use Rattle.extension.specs.Add.{bufferAfter};
 ghost use Rattle.decision.specs.Decide as deciding;
 ghost use Rattle.decision.specs.Numbers.{decisionCode};
+ghost use Rattle.runs.specs.Numbers.{numbersRun, codesAfter, runCode};
 ghost use Rattle.mungaite.specs.Code.{faultCode, recordIn, recordCode, addCode, queryOf};
 
 // 0 where the image is accepted, else the refusal.
@@ -50,6 +54,16 @@ pub extern "C" fn mungaite_decide(
         action,
     };
     number(decide(image, q))
+}
+
+// A run of 1 to 64 queries, four numbers for each: the number of each answer, and 0, 1, 0, 0 where every row is Permitted, else
+// 0, 0, 0, row. A refused call leaves the answers as they were.
+#[no_mangle]
+pub extern "C" fn mungaite_run(queries: &[u16], answers: &mut [u64], image: &[u8]) -> u64
+    ensures { λ r. ⌜ (r ≡ runCode (numbersRun (now (image .entry)) (now (queries .entry)) (length (now (answers .entry)))))
+        × (now (answers .exit) ≡ codesAfter (now (image .entry)) (now (queries .entry)) (now (answers .entry))) ⌝ }
+{
+    run_number(run_numbers(image, queries, answers))
 }
 
 // Record n of one section.

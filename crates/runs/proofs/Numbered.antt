@@ -1,4 +1,4 @@
--- Rows as numbers: claim NumbersRun, and where a row stands. Assumes nothing.
+-- Rows as numbers: claims NumbersRun, NumbersLeft, and where a row stands. Assumes nothing.
 --     same-test    two tests of the same numbers
 --     row-at       row i of a list of numbers
 --     rows-many    how many whole rows it has
@@ -6,19 +6,23 @@
 use Prim.Native.Nat.{ℕ, zero, suc, _+_, _*_, _/_, _<_}
 use mathlib.Core.Path.{_≡_, refl, sym, ap, ap₂, _∙_}
 use mathlib.Core.Bool.{Bool, true, false}
+use mathlib.Core.Option.{Option, none, some}
 use mathlib.Core.List.{List, [], _∷_, map}
 use native.Mathlib.Nat.{not-suc-le-zero, le-of-suc-le-suc}
 use native.Mathlib.Omega.{arith}
-use lib.ListN.{length, getD}
+use lib.ListN.{length, length-map, getD}
 use lib.Dec.{eqb}
 use borrow.Author.Tests.{eqb-true, eqb-false, eq-eqb, ne-eqb}
+use Rattle.format.specs.declared.Refusal.{Refusal}
 use Rattle.format.specs.Refusals.{unlessRefused}
 use Rattle.format.specs.Answers.{outcome}
+use Rattle.format.proofs.Chain.{unless-accepted, unless-refused}
 use Rattle.decision.specs.declared.Query.{Query}
 use Rattle.runs.specs.Runs.{runFault, queriesFault, firstUnfit, runOf}
 use Rattle.runs.specs.Numbers.{rowsOf, numbersOf, numbersFault, numbersRun, rowCode, codesAfter}
 use Rattle.runs.specs.Inner.Progress.{rowAt}
-use Rattle.runs.specs.Claims.{NumbersRun}
+use Rattle.runs.specs.Claims.{NumbersRun, NumbersLeft}
+use Rattle.runs.proofs.Faults.{same-count}
 
 rows-read : (qs : List Query) → rowsOf (numbersOf qs) ≡ qs
 unfolding rowsOf numbersOf
@@ -83,3 +87,19 @@ rows-many (s ∷ x ∷ c ∷ a ∷ ns) = omega (arith, rows-many ns)
 
 pub row-inside : (ns : List ℕ) (i : ℕ) → i < length (rowsOf ns) → 4 * i + 3 < length ns
 row-inside ns i h = omega (arith, h, rows-many ns)
+
+-- ---- the slots
+
+pub numbers-left : NumbersLeft
+unfolding numbersRun codesAfter
+numbers-left l ns ys = (
+  many (numbersFault l (length ns) (length ys)) refl,
+  λ f e. (ap (λ g. outcome g (firstUnfit l (rowsOf ns))) e, unless-refused (map (rowCode l) (rowsOf ns)) ys e),
+)
+  where
+    many : (f : Option Refusal) → numbersFault l (length ns) (length ys) ≡ f → length (codesAfter l ns ys) ≡ length ys
+    many none e =
+        let k = same-count l (length ns) (length ys) e in
+        let m = length-map (rowsOf ns) (rowCode l) in
+        ap length (unless-accepted (map (rowCode l) (rowsOf ns)) ys e) ∙ omega (arith, m, rows-many ns, k)
+    many (some f) e = ap length (unless-refused (map (rowCode l) (rowsOf ns)) ys e)

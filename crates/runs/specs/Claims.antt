@@ -13,6 +13,7 @@
 --     AnswerSaid         `answerOf` and `answerOutcome` are inverses, so a slot says the whole answer
 -- And of runs over numbers.
 --     NumbersRun         over the numbers of rows it is the run over the rows, and its slots hold their answers' numbers
+--     NumbersLeft        a refused call leaves every slot, and there are always as many
 --     NumbersFaults      the refusals by the count of numbers: fewer than 4, and 260 or more, are 16; a row cut short is 17
 use Prim.Native.Nat.{ℕ, _+_, _*_, _<_, _≤_}
 use mathlib.Core.Path.{_≡_}
@@ -108,6 +109,13 @@ NumbersRun =
     (l : List ℕ) (qs : List Query) (ys : List ℕ)
     → (numbersRun l (numbersOf qs) (length ys) ≡ runOf l qs (length ys))
     × (codesAfter l (numbersOf qs) ys ≡ unlessRefused (queriesFault l (length qs) (length ys)) (map (rowCode l) qs) ys)
+
+abbrev pub NumbersLeft : Type 0
+NumbersLeft =
+    (l ns ys : List ℕ)
+    → (length (codesAfter l ns ys) ≡ length ys)
+    × ((f : Refusal) → numbersFault l (length ns) (length ys) ≡ some f
+    → (numbersRun l ns (length ys) ≡ refused f) × (codesAfter l ns ys ≡ ys))
 
 abbrev pub NumbersFaults : Type 0
 NumbersFaults =
