@@ -1,5 +1,5 @@
 /*
- * A host in C: decides the sample sheet's queries, adds one rule and asks again.
+ * A host in C: decides the sample sheet's queries, one by one and as a run, adds one rule and asks again.
  *
  *   cc -std=c99 -Wall -Wextra -Werror -pedantic -I include examples/decide.c libmungaite.a -o decide
  */
@@ -25,6 +25,16 @@ static const uint8_t sample[] = {
 
 /* Allow 10 to 30, class 5, action 3, on. */
 static const uint8_t rule[] = {0x0B, 0x02, 0x00, 0x0A, 0x00, 0x1E, 0x00, 0x05, 0x00, 0x03, 0x01};
+
+/* The rows of a run: source, destination, class, action. */
+static const uint16_t rows[] = {
+    10,   21, 5, 1, /* row 0 */
+    12,   20, 9, 9, /* row 1 */
+    20,   30, 5, 2, /* row 2 */
+    1024, 21, 5, 1  /* row 3, whose source is no type */
+};
+
+#define ROW 4
 
 static void print_type(uint16_t type)
 {
@@ -64,6 +74,28 @@ static void ask(struct query q, const uint8_t *image, size_t length)
     print_decision(mungaite_decide(q.source, q.destination, q.class_, q.action, image, length));
 }
 
+/* Asks the first rows at once: each row's answer, then what the run says. */
+static void run(size_t count, const uint8_t *image, size_t length)
+{
+    uint64_t answers[sizeof rows / sizeof rows[0] / ROW];
+    uint64_t answer = mungaite_run(rows, ROW * count, answers, count, image, length);
+    size_t i;
+
+    if (MUNGAITE_KIND(answer) == MUNGAITE_REFUSED) {
+        print_decision(answer);
+        return;
+    }
+    for (i = 0; i < count; i++) {
+        printf("row %u: ", (unsigned)i);
+        print_decision(answers[i]);
+    }
+    if (answer == MUNGAITE_FIT) {
+        printf("fit\n");
+    } else {
+        printf("not fit, row %u is not Permitted\n", (unsigned)MUNGAITE_FOURTH(answer));
+    }
+}
+
 int main(void)
 {
     static const struct query queries[] = {
@@ -76,6 +108,7 @@ int main(void)
     for (i = 0; i < sizeof queries / sizeof queries[0]; i++) {
         ask(queries[i], sample, sizeof sample);
     }
+    run(3, sample, sizeof sample);
 
     memcpy(buffer, sample, sizeof sample);
     answer = mungaite_add(buffer, sizeof buffer, rule, sizeof rule);
@@ -86,5 +119,6 @@ int main(void)
     length = (size_t)buffer[1] << 8 | buffer[2];
     printf("added rule %u, the image has %u bytes\n", (unsigned)MUNGAITE_FOURTH(answer), (unsigned)length);
     ask(queries[4], buffer, length);
+    run(4, buffer, length);
     return 0;
 }

@@ -9,10 +9,15 @@
  *   0, 2, number, place        a refusal
  *   0, 1, place, length        from mungaite_record: where the record stands
  *   0, 1, 0, number            from mungaite_add: the new record's number
+ *   0, 1, 0, 0                 from mungaite_run: fit, every row is Permitted
+ *   0, 0, 0, row               from mungaite_run: not fit, and the first row that is not Permitted
  *
- * A pointer must be valid for the number of bytes given with it. mungaite_add writes to its buffer, which must not
- * overlap its record; nothing else is written. The functions keep nothing between calls and use no heap. They may be
- * called from several threads, as long as no buffer is written by one thread while another uses it.
+ * So 0 is no success of mungaite_run: it says that row 0 is not Permitted. Compare its answer with MUNGAITE_FIT.
+ *
+ * A pointer must be valid for the bytes, numbers or slots whose count is given with it. mungaite_add writes to its
+ * buffer and mungaite_run to its answers; what they write must not overlap anything else that is lent, and nothing else
+ * is written. The functions keep nothing between calls and use no heap. They may be called from several threads, as
+ * long as nothing is written by one thread while another uses it.
  */
 #ifndef MUNGAITE_H
 #define MUNGAITE_H
@@ -35,6 +40,10 @@ extern "C" {
 #define MUNGAITE_THIRD(answer) ((uint16_t)(((answer) >> 16) & 0xFFFFu))
 #define MUNGAITE_FOURTH(answer) ((uint16_t)((answer) & 0xFFFFu))
 
+/* The whole answer of mungaite_run where every row is Permitted, and the most rows that it takes. */
+#define MUNGAITE_FIT ((uint64_t)MUNGAITE_PERMITTED << 32)
+#define MUNGAITE_MOST_ROWS 64
+
 /* The type field of group g. A basic type, 0 to 1023, is its own type field. */
 #define MUNGAITE_GROUP(g) ((uint16_t)(0x8000u + (g)))
 
@@ -53,6 +62,15 @@ uint64_t mungaite_check(const uint8_t *image, size_t length);
 /* Checks the image and decides a query on it: the decision, or the refusal (1 to 9). */
 uint64_t mungaite_decide(uint16_t source, uint16_t destination, uint16_t class_, uint16_t action,
                          const uint8_t *image, size_t length);
+
+/* Checks the image once and decides 1 to 64 rows on it. A row is four numbers: source, destination, class, action;
+ * `numbers` counts all of them. Slot k of the answers, of which there are `rows`, gets what mungaite_decide gives for row
+ * k, a refusal (8 or 9) included, and all rows are answered. The answer is MUNGAITE_FIT where every row is Permitted, else
+ * the number of the first row that is NotPermitted, UnKnown or refused, counted from 0. The call itself is refused where
+ * the image is (1 to 7), then where there is no whole row or more than 64 (16), then where `numbers` is not 4 times `rows`
+ * (17); no slot is written then. */
+uint64_t mungaite_run(const uint16_t *queries, size_t numbers, uint64_t *answers, size_t rows, const uint8_t *image,
+                      size_t length);
 
 /* Checks the image and finds record n of a section: its place and length, or the refusal (1 to 7, 14). A section above
  * 2 has no record. */

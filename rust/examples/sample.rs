@@ -1,6 +1,6 @@
-//! Decides some queries on a small policy, adds a rule and asks again.
+//! Decides some queries on a small policy, one by one and as a run, adds a rule and asks again.
 
-use mungaite::{add, decide, group, image, record, Query, Refusal, Section};
+use mungaite::{add, decide, group, image, record, run, Decision, Query, Refusal, Section};
 
 #[rustfmt::skip]
 const SAMPLE: [u8; 80] = [
@@ -29,11 +29,27 @@ fn main() -> Result<(), Refusal> {
         println!("1024 to 21: {refusal}");
     }
 
+    let rows = [query(10, group(0), 5, 1), query(12, 20, 9, 9), query(20, 30, 5, 2)];
+    print_run(&SAMPLE, rows)?;
+
     let mut buffer = [0; 128];
     buffer[..SAMPLE.len()].copy_from_slice(&SAMPLE);
     let number = add(&mut buffer, &RULE)?;
     let grown = image(&buffer).expect("an image that was added to is whole");
     println!("rule {number} is {:?}", record(grown, Section::Rules, number)?);
     println!("20 to 30: {}", decide(grown, query(20, 30, 5, 2))?);
+    print_run(grown, rows)
+}
+
+/// Asks the rows at once: what the run says, then each row's own answer.
+fn print_run<const ROWS: usize>(image: &[u8], rows: [Query; ROWS]) -> Result<(), Refusal> {
+    let mut answers = [Ok(Decision::NotPermitted); ROWS];
+    println!("{ROWS} rows: {}", run(image, &rows, &mut answers)?);
+    for (row, answer) in answers.iter().enumerate() {
+        match answer {
+            Ok(decision) => println!("    row {row}: {decision}"),
+            Err(refusal) => println!("    row {row}: {refusal}"),
+        }
+    }
     Ok(())
 }

@@ -1,6 +1,6 @@
 //! Decisions, and the answers of the C functions read back.
 
-use crate::Refusal;
+use crate::{Refusal, Run};
 use std::{fmt, ops::Range};
 
 /// What a policy says to a query.
@@ -93,6 +93,15 @@ pub(crate) fn decided(answer: u64) -> Result<Decision, Refusal> {
         [0, 0, 0, 0] => Ok(Decision::NotPermitted),
         [0, 1, 0, rule] => Ok(Decision::Permitted { rule }),
         [0, 3, rule, constraint] => Ok(Decision::UnKnown { rule, constraint }),
+        [0, 2, number, place] => Err(Refusal { number, place }),
+        _ => foreign(answer),
+    }
+}
+
+pub(crate) fn ran(answer: u64) -> Result<Run, Refusal> {
+    match parts(answer) {
+        [0, 1, 0, 0] => Ok(Run::Fit),
+        [0, 0, 0, row] => Ok(Run::Unfit { row: usize::from(row) }),
         [0, 2, number, place] => Err(Refusal { number, place }),
         _ => foreign(answer),
     }

@@ -1,8 +1,9 @@
 //! Mungaite: permissions for a policy image.
 //!
 //! A policy is an image, a slice of bytes: groups of types, rules, constraints. [`check`] tells whether an image is
-//! accepted, [`decide`] answers a query, [`record`] gives one of the image's records and [`add`] puts one more into a
-//! buffer. Nothing is kept between calls and there is no heap: every call reads the image that it is handed.
+//! accepted, [`decide`] answers a query, [`run`] answers up to 64 with one check of the image, [`record`] gives one of
+//! the image's records and [`add`] puts one more into a buffer. Nothing is kept between calls and there is no heap: every
+//! call reads the image that it is handed.
 //!
 //! ```
 //! use mungaite::{add, decide, Decision, Query};
@@ -26,10 +27,12 @@ mod answer;
 mod query;
 pub mod raw;
 mod refusal;
+mod run;
 
 pub use answer::{Decision, Kind};
 pub use query::{group, Query, Section};
 pub use refusal::{Cause, Refusal};
+pub use run::{run, Run, MOST_ROWS};
 
 /// The length of the largest image that is accepted.
 pub const LARGEST: usize = 55_561;

@@ -1,7 +1,8 @@
 //! The library's C functions, as `mungaite.h` declares them.
 //!
-//! An answer is four 16-bit parts, the highest first. Every pointer must be valid for the length given with it, and
-//! the buffer of [`mungaite_add`] must not overlap its record.
+//! An answer is four 16-bit parts, the highest first. Every pointer must be valid for the count given with it, and what
+//! is written, the buffer of [`mungaite_add`] and the answers of [`mungaite_run`], must not overlap anything else that is
+//! lent.
 
 extern "C" {
     /// 0 where the image is accepted, else the refusal.
@@ -13,6 +14,17 @@ extern "C" {
         destination: u16,
         class: u16,
         action: u16,
+        image: *const u8,
+        length: usize,
+    ) -> u64;
+
+    /// 0, 1, 0, 0 where every row is Permitted; 0, 0, 0, row of the first that is not; or the refusal, and no slot is
+    /// written. A row is four numbers, and each row's answer is put in its slot.
+    pub fn mungaite_run(
+        queries: *const u16,
+        numbers: usize,
+        answers: *mut u64,
+        rows: usize,
         image: *const u8,
         length: usize,
     ) -> u64;

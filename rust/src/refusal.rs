@@ -5,7 +5,7 @@ use std::{error, fmt};
 /// The engine's no: the cause's number, and the place that it was found at.
 #[derive(Clone, Copy, Debug, PartialEq, Eq, Hash)]
 pub struct Refusal {
-    /// The number of the cause, 1 to 14.
+    /// The number of the cause: 1 to 14, 16 or 17.
     pub number: u16,
     /// A place in the image (causes 4 to 7) or in the added record (cause 11), in bytes from its start; else 0.
     pub place: u16,
@@ -43,11 +43,15 @@ pub enum Cause {
     ShortBuffer = 13,
     /// The section has no record of that number.
     NoRecord = 14,
+    /// The run has no row, or more than 64.
+    RowCount = 16,
+    /// The list of answers has not as many slots as the run has rows.
+    AnswerCount = 17,
 }
 
 impl Cause {
     /// Every cause, in the order of their numbers.
-    pub const ALL: [Cause; 14] = [
+    pub const ALL: [Cause; 16] = [
         Cause::ShortImage,
         Cause::Version,
         Cause::Length,
@@ -62,6 +66,8 @@ impl Cause {
         Cause::Full,
         Cause::ShortBuffer,
         Cause::NoRecord,
+        Cause::RowCount,
+        Cause::AnswerCount,
     ];
 
     fn sentence(self) -> &'static str {
@@ -80,6 +86,8 @@ impl Cause {
             Cause::Full => "the section is at its limit",
             Cause::ShortBuffer => "the buffer is too short for the image and the record",
             Cause::NoRecord => "the section has no record of that number",
+            Cause::RowCount => "the run has no row or more than 64: ask 1 to 64 at a time",
+            Cause::AnswerCount => "the answers are not as many as the queries: lend one slot for each query",
         }
     }
 
