@@ -1,8 +1,8 @@
 //! The hand-written engine of the benchmark, tested as Mungaite is.
 
-use crate::subject::Subject;
+use crate::subject::{Answer, Subject};
 use hand_written::{decide_checked, Prepared};
-use mungaite::{Decision, Query, Refusal, Section};
+use mungaite::{Query, Refusal, Run, Section};
 use std::ops::Range;
 
 pub struct ByHand;
@@ -17,13 +17,24 @@ impl Subject for ByHand {
     }
 
     /// The answer, the same by its three ways.
-    fn decide(&self, image: &[u8], query: Query) -> Result<Decision, Refusal> {
+    fn decide(&self, image: &[u8], query: Query) -> Answer {
         let answer = hand_written::decide(image, query);
         if hand_written::check(image).is_ok() {
             assert_eq!(decide_checked(image, query), answer, "{query:?} on a checked image");
             assert_eq!(Prepared::new(image).decide(query), answer, "{query:?} on a prepared image");
         }
         answer
+    }
+
+    /// The answers, the same by both ways.
+    fn run(&self, image: &[u8], queries: &[Query], answers: &mut [Answer]) -> Result<Run, Refusal> {
+        let mut prepared = answers.to_vec();
+        let said = hand_written::run(image, queries, answers);
+        if hand_written::check(image).is_ok() {
+            assert_eq!(Prepared::new(image).run(queries, &mut prepared), said, "{queries:?} on a prepared image");
+            assert_eq!(prepared, answers, "{queries:?} on a prepared image");
+        }
+        said
     }
 
     fn add(&self, buffer: &mut [u8], record: &[u8]) -> Result<u16, Refusal> {

@@ -1,8 +1,8 @@
 //! One call, made of the engine and of the model: the answers must be equal, and so must every byte.
 
 use crate::model::Model;
-use crate::subject::Subject;
-use mungaite::{Query, Section};
+use crate::subject::{Answer, Subject};
+use mungaite::{Query, Refusal, Section};
 use std::fmt::Debug;
 
 /// The engine, and the model that it is compared with.
@@ -32,6 +32,18 @@ impl Pair<'_> {
         equal("decide", answers.0, answers.1, || format!("{query:?} on {}", hex(image)))
     }
 
+    /// A run that is lent so many slots, each of which is compared.
+    pub fn run(&self, image: &[u8], queries: &[Query], slots: usize) -> Outcome {
+        let shown = || format!("{queries:?} with {slots} slots on {}", hex(image));
+        let (mut answers, mut modelled) = (unanswered(slots), unanswered(slots));
+        let said = self.engine.run(image, queries, &mut answers);
+        if said.is_err() {
+            equal("answers after a refused run", &answers, &unanswered(slots), shown)?;
+        }
+        equal("run", said, self.model.run(image, queries, &mut modelled), shown)?;
+        equal("answers of a run", answers, modelled, shown)
+    }
+
     pub fn add(&self, buffer: &[u8], record: &[u8]) -> Outcome {
         let shown = || format!("{} into {}", hex(record), hex(buffer));
         let mut guarded = [&GUARD, buffer, &GUARD].concat();
@@ -52,6 +64,11 @@ impl Pair<'_> {
     pub fn permit(&self, input: &[u8]) -> Outcome {
         equal("permit", self.engine.permit(input), self.model.permit(input), || hex(input))
     }
+}
+
+/// So many slots before a run: each holds another answer, and one that no row gets.
+pub fn unanswered(slots: usize) -> Vec<Answer> {
+    (0..slots).map(|slot| Err(Refusal { number: 0xA500 + (slot % 256) as u16, place: 0xA5A5 })).collect()
 }
 
 /// Says what differs, if the engine's answer is not the expected one.

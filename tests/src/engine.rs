@@ -1,7 +1,8 @@
 //! The engine: the library, called through the crate `mungaite`, and the program `permit`, run as a process.
 
-use crate::subject::Subject;
-use mungaite::{Decision, Query, Refusal, Section};
+use crate::numbers;
+use crate::subject::{Answer, Subject};
+use mungaite::{Query, Refusal, Run, Section};
 use std::io::{Read, Write};
 use std::ops::Range;
 use std::path::PathBuf;
@@ -47,8 +48,18 @@ impl Subject for Engine {
         Ok(place..place + record.len())
     }
 
-    fn decide(&self, image: &[u8], query: Query) -> Result<Decision, Refusal> {
+    fn decide(&self, image: &[u8], query: Query) -> Answer {
         mungaite::decide(image, query)
+    }
+
+    /// The answers by the crate, and the same by the C function.
+    fn run(&self, image: &[u8], queries: &[Query], answers: &mut [Answer]) -> Result<Run, Refusal> {
+        let in_numbers = |answers: &[Answer]| answers.iter().map(|answer| numbers::of_answer(*answer)).collect();
+        let mut slots: Vec<u64> = in_numbers(answers);
+        let said = mungaite::run(image, queries, answers);
+        let raw = numbers::run(image, &numbers::of_rows(queries), &mut slots);
+        assert_eq!((raw, slots), (numbers::of_run(said), in_numbers(answers)), "{queries:?} by the C function");
+        said
     }
 
     fn add(&self, buffer: &mut [u8], record: &[u8]) -> Result<u16, Refusal> {

@@ -5,6 +5,7 @@ mod compare;
 mod engine;
 mod generate;
 mod model;
+mod numbers;
 mod options;
 mod random;
 mod runner;

@@ -15,11 +15,13 @@ mod give;
 mod groups;
 mod inner;
 mod names;
+mod opened;
 mod predicate;
 mod prepared;
 mod program;
 mod record;
 mod rules;
+mod run;
 mod set;
 mod sets;
 
@@ -29,3 +31,4 @@ pub use decide::{decide, decide_checked};
 pub use give::record;
 pub use prepared::Prepared;
 pub use program::permit;
+pub use run::run;

@@ -7,9 +7,10 @@ use crate::groups::Groups;
 use crate::names::Names;
 use crate::predicate::{holds, Pair};
 use crate::rules::{key, live, Rule, Rules};
+use crate::run::{answer_rows, check_counts};
 use crate::set::Set;
-use crate::sets::Sets;
-use mungaite::{Decision, Query, Refusal};
+use crate::sets::{Memo, Sets};
+use mungaite::{Decision, Query, Refusal, Run};
 
 /// Types are held under their names: equal fields are equal sets, and a group that is named has two members or more.
 pub struct Prepared<'a> {
@@ -37,17 +38,42 @@ impl<'a> Prepared<'a> {
     }
 
     pub fn decide(&self, query: Query) -> Result<Decision, Refusal> {
+        self.decide_by(query, |_, constraint| self.holds(constraint))
+    }
+
+    /// As `run` of an image, without the check. What a constraint's predicate says is found once.
+    pub fn run(&self, queries: &[Query], answers: &mut [Result<Decision, Refusal>]) -> Result<Run, Refusal> {
+        check_counts(queries.len(), answers.len())?;
+        let mut held = Memo::NEW;
+        Ok(answer_rows(queries, answers, |query| {
+            self.decide_by(query, |number, constraint| held.ask(number, || self.holds(constraint)))
+        }))
+    }
+
+    /// Decides, given what tells whether a constraint's predicate holds.
+    #[inline]
+    fn decide_by(
+        &self,
+        query: Query,
+        mut holds: impl FnMut(usize, &Constraint<'_>) -> bool,
+    ) -> Result<Decision, Refusal> {
         check_query(query, self.groups.0.len() as u16)?;
         let key = key(query.class, query.action);
         let types = (self.names.of(query.source), self.names.of(query.destination));
         let covers = |rule: &Rule| rule.may_cover(key) && self.within(types, rule.types());
         Ok(decision(self.rules.iter().position(covers), || {
-            self.constraints.iter().position(|constraint| {
+            let broken = self.constraints.iter().enumerate().find(|&(number, constraint)| {
                 constraint.key == key
                     && self.within(types, (constraint.first, constraint.second))
-                    && !holds(constraint, &self.groups, self.live.iter().copied(), || &self.names)
-            })
+                    && !holds(number, constraint)
+            });
+            broken.map(|(number, _)| number)
         }))
+    }
+
+    #[inline]
+    fn holds(&self, constraint: &Constraint<'_>) -> bool {
+        holds(constraint, &self.groups, self.live.iter().copied(), || &self.names)
     }
 
     fn within(&self, inner: Pair, outer: Pair) -> bool {

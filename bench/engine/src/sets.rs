@@ -53,7 +53,7 @@ impl<'a, S: Sets> Against<'a, S> {
     }
 }
 
-/// Answers that were found for groups before.
+/// Answers that were found before, each for a number below 256.
 pub struct Memo {
     known: [u64; 4],
     yes: [u64; 4],
@@ -63,9 +63,9 @@ impl Memo {
     pub const NEW: Memo = Memo { known: [0; 4], yes: [0; 4] };
 
     #[inline]
-    pub fn ask(&mut self, group: usize, find: impl FnOnce() -> bool) -> bool {
-        let word = (group / 64) & 3;
-        let bit = 1 << (group % 64);
+    pub fn ask(&mut self, number: usize, find: impl FnOnce() -> bool) -> bool {
+        let word = (number / 64) & 3;
+        let bit = 1 << (number % 64);
         if self.known[word] & bit == 0 {
             self.known[word] |= bit;
             if find() {

@@ -47,6 +47,31 @@ pub fn decide_case(seed: u64) -> (Vec<u8>, Vec<Query>) {
     (image(random, &draft, 10), queries)
 }
 
+/// An image, seldom damaged, the rows of a run, and how many slots are lent.
+pub fn run_case(seed: u64) -> (Vec<u8>, Vec<Query>, usize) {
+    let random = &mut Random::new(seed);
+    let alphabet = Alphabet::new(random);
+    let draft = policy(random, &alphabet);
+    let count = match random.of(0..=19) {
+        0 => 0,
+        1 | 2 => random.pick(&[63, 64, 64, 65, 66]),
+        3 => random.of(1..=64),
+        _ => random.of(1..=6),
+    };
+    let mut queries: Vec<Query> = (0..count).map(|_| query(random, &alphabet, &draft)).collect();
+    if count > 0 && random.percent(if count < 60 { 40 } else { 80 }) {
+        // one query again and again, so that long runs are fit, or not by one row
+        let (first, last) = (queries[0], queries[count - 1]);
+        queries.fill(first);
+        queries[random.of(0..=count - 1)] = if random.percent(50) { last } else { first };
+    }
+    let slots = match random.of(0..=9) {
+        0 => random.pick(&[0, 1, 64, 65, count.saturating_sub(1), count + 1]),
+        _ => count,
+    };
+    (image(random, &draft, 10), queries, slots)
+}
+
 /// A buffer that starts with an image, and a record to add.
 pub fn add_case(seed: u64) -> (Vec<u8>, Vec<u8>) {
     let random = &mut Random::new(seed);

@@ -4,8 +4,8 @@ use super::bytes::{count_place, number};
 use super::decide::Verdict;
 use super::policy::Policy;
 use super::{refusal, Model, Slip};
-use crate::subject::Subject;
-use mungaite::{Decision, Query, Refusal, Section};
+use crate::subject::{Answer, Subject};
+use mungaite::{Decision, Query, Refusal, Run, Section};
 use std::ops::Range;
 
 impl Subject for Model {
@@ -33,13 +33,17 @@ impl Subject for Model {
         Ok(place..place + record.len())
     }
 
-    fn decide(&self, image: &[u8], query: Query) -> Result<Decision, Refusal> {
+    fn decide(&self, image: &[u8], query: Query) -> Answer {
         if self.slips(Slip::QueryBeforeImage) {
             let groups = image.get(3..5).map_or(0, |field| number(field, 0));
             self.query_types(query, groups)?;
         }
         let policy = self.accepted(image, query)?;
         Ok(self.judge(&policy, &policy.request(query)))
+    }
+
+    fn run(&self, image: &[u8], queries: &[Query], answers: &mut [Answer]) -> Result<Run, Refusal> {
+        self.answer_rows(image, queries, answers)
     }
 
     fn add(&self, buffer: &mut [u8], record: &[u8]) -> Result<u16, Refusal> {
@@ -83,7 +87,7 @@ impl Model {
     }
 
     /// The policy of an accepted image on which the query is accepted.
-    fn accepted(self, image: &[u8], query: Query) -> Result<Policy, Refusal> {
+    pub fn accepted(self, image: &[u8], query: Query) -> Result<Policy, Refusal> {
         let policy = self.policy(&self.read(image)?);
         self.query_types(query, policy.groups.len() as u16)?;
         Ok(policy)
@@ -109,7 +113,7 @@ impl Model {
     }
 
     /// The program's line for an answer.
-    fn line(self, answer: Result<Decision, Refusal>) -> String {
+    fn line(self, answer: Answer) -> String {
         match answer {
             Ok(Decision::NotPermitted) => "N\n".to_string(),
             Ok(Decision::Permitted { rule }) => format!("P {rule}\n"),

@@ -1,5 +1,5 @@
-//! A model of document 01, written without a look at the engine's code: sets of numbers, plain structs, nothing made
-//! fast.
+//! A model of document 01, with request [1] of document 02, written without a look at the engine's code: sets of
+//! numbers, plain structs, nothing made fast.
 //!
 //! - `bytes`: numbers in bytes; an image as three lists of records
 //! - `check`: which images are accepted, and the first cause where one is not
@@ -7,6 +7,7 @@
 //! - `policy`: an accepted image with every type as its set
 //! - `predicate`: the four predicates
 //! - `decide`: cover, and the decision
+//! - `rows`: many queries at once
 //! - `adding`: one more record in a buffer
 //! - `calls`: the engine's calls and the program
 //! - `slip`: mistakes that the model can be told to make
@@ -19,6 +20,7 @@ mod decide;
 mod fields;
 mod policy;
 mod predicate;
+mod rows;
 mod slip;
 
 pub use slip::Slip;

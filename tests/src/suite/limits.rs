@@ -4,11 +4,12 @@ use crate::compare::{Outcome, Pair};
 use crate::draft::{allow, constraint, group, transition, Draft};
 use crate::runner::{Cases, Count};
 use crate::sample::query;
-use mungaite::{Query, Section, LARGEST};
+use mungaite::{Query, Section, LARGEST, MOST_ROWS};
 
 pub const TESTS: &[Cases] = &[
     Cases { name: "limits/check", count: Count::Listed(CASES), run: check },
     Cases { name: "limits/decide", count: Count::Listed(CASES), run: decide },
+    Cases { name: "limits/run", count: Count::Listed(CASES), run },
     Cases { name: "limits/record", count: Count::Listed(CASES), run: record },
     Cases { name: "limits/add", count: Count::Listed(CASES), run: add },
     Cases { name: "limits/permit", count: Count::Listed(CASES), run: permit },
@@ -88,6 +89,13 @@ fn decide(pair: &Pair, case: u64) -> Outcome {
     let draft = policy(case);
     let image = draft.image();
     queries(&draft).into_iter().try_for_each(|query| pair.decide(&image, query))
+}
+
+/// The queries over and over, 64 rows.
+fn run(pair: &Pair, case: u64) -> Outcome {
+    let draft = policy(case);
+    let rows: Vec<Query> = queries(&draft).into_iter().cycle().take(MOST_ROWS).collect();
+    pair.run(&draft.image(), &rows, MOST_ROWS)
 }
 
 fn record(pair: &Pair, case: u64) -> Outcome {

@@ -6,6 +6,7 @@ mod order;
 mod random;
 mod reached;
 mod round_trip;
+mod rows;
 mod streams;
 mod sweep;
 mod watched;
@@ -20,7 +21,7 @@ fn differential() -> Vec<Cases> {
 
 /// The tests of any engine.
 fn of_any() -> Vec<Cases> {
-    [worked::TESTS, &differential(), round_trip::TESTS, order::TESTS, sweep::PROGRAM].concat()
+    [worked::TESTS, &differential(), rows::TESTS, round_trip::TESTS, order::TESTS, sweep::PROGRAM].concat()
 }
 
 pub fn all(run: &mut Run) {

@@ -1,15 +1,21 @@
 //! The tests have teeth: a worked row notices each mistake that the model can make, and so do the generated inputs.
 
-use super::{differential, order, round_trip, worked};
+use super::{differential, order, round_trip, rows, worked};
 use crate::compare::Pair;
 use crate::model::{Model, Slip};
 use crate::runner::{run_case, Cases, Finding, Run, Whole, PANIC};
 
 /// Mistakes that the tests of the engine's answers alone must notice, with the mistaken model in the engine's place.
-const PROPERTIES: [(Cases, Slip); 7] = [
+const PROPERTIES: [(Cases, Slip); 13] = [
     (order::PAIRS, Slip::LastRuleSkipped),
     (order::PAIRS, Slip::CoverByTouch),
     (order::PAIRS, Slip::SeparationOfTwoRules),
+    (rows::ALONE, Slip::LastRowSkipped),
+    (rows::ALONE, Slip::RefusedRowFits),
+    (rows::AMONG_OTHERS, Slip::StopsAtUnfitRow),
+    (rows::AMONG_OTHERS, Slip::RowsFromOne),
+    (rows::AMONG_OTHERS, Slip::SourceKept),
+    (rows::AMONG_OTHERS, Slip::FailureKept),
     (round_trip::MIXED, Slip::AddedAtImageEnd),
     (round_trip::RANDOM, Slip::RestCleared),
     (round_trip::RANDOM, Slip::RecordPastEnd),

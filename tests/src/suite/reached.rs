@@ -1,11 +1,12 @@
 //! The random inputs are not hollow: they reach every refusal, every decision and both sides of every predicate.
 
 use super::order::{decisions, PAIRS};
-use super::random::{ADD, CHECK, DECIDE, RECORD};
-use crate::generate::{add_case, check_case, decide_case, pair_case, record_case};
+use super::random::{ADD, CHECK, DECIDE, RECORD, RUN};
+use crate::compare::unanswered;
+use crate::generate::{add_case, check_case, decide_case, pair_case, record_case, run_case};
 use crate::model::Model;
 use crate::runner::{Finding, Run, Whole};
-use crate::subject::Subject;
+use crate::subject::{Answer, Subject};
 use std::collections::BTreeMap;
 use std::fmt::Debug;
 
@@ -18,6 +19,7 @@ pub fn tests() -> Vec<Whole> {
         test("reached/check", check),
         test("reached/record", record),
         test("reached/decide", decide),
+        test("reached/run", run),
         test("reached/add", add),
         test("reached/predicates", predicates),
         test("reached/order", order),
@@ -77,14 +79,37 @@ fn decide(run: &Run) -> Finding {
     for seed in run.seeds(&DECIDE) {
         let (image, queries) = decide_case(seed);
         for query in queries {
-            tally.see(match run.engine.decide(&image, query) {
-                Ok(decision) => format!("{:?}", decision.kind()),
-                Err(refusal) => refusal.number.to_string(),
-            });
+            tally.see(shown(run.engine.decide(&image, query)));
         }
     }
     let decisions = ["NotPermitted", "Permitted", "UnKnown"].map(String::from);
     tally.judge((1..=9).map(|number| number.to_string()).chain(decisions).collect())
+}
+
+/// The decision's name, or the refusal's number.
+fn shown(answer: Answer) -> String {
+    answer.map_or_else(|refusal| refusal.number.to_string(), |decision| format!("{:?}", decision.kind()))
+}
+
+/// What the first row that is not Permitted gets, by whether another follows; fit runs by their length; refusals.
+fn run(run: &Run) -> Finding {
+    let mut tally = Tally::new();
+    for seed in run.seeds(&RUN) {
+        let (image, queries, slots) = run_case(seed);
+        let mut answers = unanswered(slots);
+        tally.see(match run.engine.run(&image, &queries, &mut answers) {
+            Ok(mungaite::Run::Fit) if matches!(slots, 2..64) => "fit".to_string(),
+            Ok(mungaite::Run::Fit) => format!("fit, {slots}"),
+            Ok(mungaite::Run::Unfit { row }) if row + 1 == slots => format!("{}, last", shown(answers[row])),
+            Ok(mungaite::Run::Unfit { row }) => shown(answers[row]),
+            Err(refusal) => format!("refused, {}", refusal.number),
+        });
+    }
+    let fit = ["fit", "fit, 1", "fit, 64"].map(String::from);
+    let unfit =
+        ["NotPermitted", "UnKnown", "8", "9"].into_iter().flat_map(|kind| [kind.to_string(), format!("{kind}, last")]);
+    let refused = (1..=7).chain([16, 17]).map(|number| format!("refused, {number}"));
+    tally.judge(fit.into_iter().chain(unfit).chain(refused).collect())
 }
 
 fn add(run: &Run) -> Finding {

@@ -58,6 +58,7 @@ fn every_call(pair: &Pair, image: &[u8]) -> Outcome {
     for query in QUERIES {
         pair.decide(image, query)?;
     }
+    pair.run(image, &QUERIES, QUERIES.len())?;
     for (section, count) in [(Section::Groups, 1), (Section::Rules, 4), (Section::Constraints, 2)] {
         for n in 0..=count {
             pair.record(image, section, n)?;

@@ -12,7 +12,7 @@ type Row = (&'static [u8], &'static [&'static [u8]], Query, Result<Decision, Ref
 /// Allow 10 to 30, class 5, action 3, on.
 pub const ALLOW_10_30: &[u8] = &[11, 2, 0, 10, 0, 30, 0, 5, 0, 3, 1];
 /// Allow 14 to g0, class 7, action 7, on.
-const ALLOW_14_G0: &[u8] = &[11, 2, 0, 14, 0x80, 0, 0, 7, 0, 7, 1];
+pub const ALLOW_14_G0: &[u8] = &[11, 2, 0, 14, 0x80, 0, 0, 7, 0, 7, 1];
 /// A companion constraint on class 5, action 1, arguments 10 and 21.
 const COMPANION: &[u8] = &[11, 4, 0, 5, 0, 1, 0, 10, 0, 21, 3];
 /// Allow 21 to 10, class 5, action 9, on.
@@ -59,7 +59,7 @@ pub fn run(pair: &Pair, case: u64) -> Outcome {
 }
 
 /// The image with records added, by the subject itself.
-fn grown(subject: &dyn Subject, image: &[u8], added: &[&[u8]]) -> Result<Vec<u8>, Refusal> {
+pub fn grown(subject: &dyn Subject, image: &[u8], added: &[&[u8]]) -> Result<Vec<u8>, Refusal> {
     let mut grown = image.to_vec();
     for record in added {
         grown.resize(grown.len() + record.len(), 0);

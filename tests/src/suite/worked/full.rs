@@ -1,13 +1,15 @@
 //! A policy with every section at its limit, decided by its last records.
 
+use super::run::asked;
 use super::small::{p, u, N};
 use super::{both, no};
 use crate::compare::{Outcome, Pair};
 use crate::draft::{allow, constraint, group, Draft};
 use crate::sample::query;
-use mungaite::{Decision, Query, Refusal};
+use crate::subject::Answer;
+use mungaite::{Query, Run};
 
-type Row = (Query, Result<Decision, Refusal>);
+type Row = (Query, Answer);
 
 /// The last group: 960 to 1023.
 const G255: u16 = 32768 + 255;
@@ -30,6 +32,13 @@ pub fn run(pair: &Pair, case: u64) -> Outcome {
     let (query, expected) = ROWS[case as usize];
     let image = image();
     both(pair, &format!("{query:?}"), expected, |subject| subject.decide(&image, query))
+}
+
+/// The same queries as one run, whose first row is not Permitted.
+pub fn as_run(pair: &Pair, _: u64) -> Outcome {
+    let (queries, answers): (Vec<Query>, Vec<Answer>) = ROWS.iter().copied().unzip();
+    let expected = (Ok(Run::Unfit { row: 0 }), answers);
+    both(pair, "every query", expected, |subject| asked(subject, &image(), &queries, ROWS.len()))
 }
 
 /// The same queries, asked of the program.

@@ -1,5 +1,5 @@
-//! Document 01's worked cases with its answers, and further rows whose answers were worked out by hand from its clauses.
-//! Both engines and the model must give them.
+//! Document 01's worked cases with its answers, and further rows whose answers were worked out by hand from its clauses
+//! and from request [1]. Both engines and the model must give them.
 
 mod add;
 mod check;
@@ -11,6 +11,8 @@ mod permit;
 mod predicates;
 mod record;
 mod rules;
+mod run;
+mod run_numbers;
 mod small;
 
 use crate::compare::{equal, Outcome, Pair};
@@ -31,15 +33,21 @@ pub const TESTS: &[Cases] = &[
     Cases { name: "worked/order", count: Count::Listed(order::ROWS.len() as u64), run: order::run },
     Cases { name: "worked/full", count: Count::Listed(full::ROWS.len() as u64), run: full::run },
     Cases { name: "worked/full-permit", count: Count::Listed(1), run: full::permit },
+    Cases { name: "worked/run", count: Count::Listed(run::ROWS.len() as u64), run: run::run },
+    Cases { name: "worked/full-run", count: Count::Listed(1), run: full::as_run },
     Cases { name: "worked/record", count: Count::Listed(record::ROWS.len() as u64), run: record::run },
     Cases { name: "worked/add", count: Count::Listed(add::ROWS.len() as u64), run: add::run },
     Cases { name: "worked/permit", count: Count::Listed(permit::ROWS.len() as u64), run: permit::run },
     Cases { name: "worked/permit-many", count: Count::Listed(1), run: permit::many },
 ];
 
-/// A row that only the library can be asked.
-pub const OF_THE_LIBRARY: &[Cases] =
-    &[Cases { name: "worked/record-sections", count: Count::Listed(6), run: record::no_section }];
+/// Rows that only the library can be asked.
+pub const OF_THE_LIBRARY: &[Cases] = &[
+    Cases { name: "worked/record-sections", count: Count::Listed(6), run: record::no_section },
+    Cases { name: "worked/run-counts", count: Count::Listed(run_numbers::ROWS.len() as u64), run: run_numbers::counts },
+    Cases { name: "worked/run-every-count", count: Count::Listed(4 * 67), run: run_numbers::every_count },
+    Cases { name: "worked/run-kinds", count: Count::Listed(1), run: run_numbers::kinds },
+];
 
 const fn no<T>(number: u16, place: u16) -> Result<T, Refusal> {
     Err(Refusal { number, place })

@@ -1,0 +1,54 @@
+//! A checked image with what its decisions share: the places of its groups and rules and, once one is asked for, the
+//! groups' names and what each constraint's predicate says of the live rules.
+
+use crate::constraints::Constraints;
+use crate::decide::decision;
+use crate::format::check_query;
+use crate::groups::Groups;
+use crate::inner::Inner;
+use crate::names::Names;
+use crate::predicate::{holds, Pair};
+use crate::rules::{key, live, Rules};
+use crate::sets::Memo;
+use mungaite::{Decision, Query, Refusal};
+
+pub struct Opened<'a> {
+    groups: &'a Groups<'a>,
+    rules: Rules<'a>,
+    names: Option<Names>,
+    held: Memo,
+}
+
+impl<'a> Opened<'a> {
+    /// Opens an image that `check` accepted before.
+    #[inline]
+    pub fn new(image: &'a [u8], groups: &'a Groups<'a>) -> Opened<'a> {
+        Opened { groups, rules: Rules::of(image, groups), names: None, held: Memo::NEW }
+    }
+
+    #[inline]
+    pub fn decide(&mut self, query: Query) -> Result<Decision, Refusal> {
+        let Opened { groups, rules, names, held } = self;
+        let groups = *groups;
+        check_query(query, groups.count)?;
+        let key = key(query.class, query.action);
+        let mut source = Inner::new(groups, query.source);
+        let mut destination = Inner::new(groups, query.destination);
+        let mut within = |outer: Pair| source.within(outer.0) && destination.within(outer.1);
+        let mut after = rules.clone();
+        let covering = after.position(|rule| rule.may_cover(key) && within(rule.types()));
+        Ok(decision(covering, || {
+            let mut constraints = Constraints { rest: after.skip() }.enumerate();
+            let broken = constraints.find(|(number, constraint)| {
+                constraint.key == key
+                    && within((constraint.first, constraint.second))
+                    && !held.ask(*number, || {
+                        holds(constraint, groups, live(rules.clone()), || {
+                            names.get_or_insert_with(|| Names::find(groups))
+                        })
+                    })
+            });
+            broken.map(|(number, _)| number)
+        }))
+    }
+}

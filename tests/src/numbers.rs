@@ -1,0 +1,48 @@
+//! A run by the C function itself: rows and answers as numbers, by the table of `mungaite.h`.
+
+use crate::subject::Answer;
+use mungaite::raw::mungaite_run;
+use mungaite::{Decision, Query, Refusal, Run};
+
+/// Slots on either side of a list of answers, which no call may touch.
+const GUARD: [u64; 4] = [0xA5A5_A5A5_A5A5_A5A5; 4];
+
+/// The function's answer. Panics where it wrote past its list.
+pub fn run(image: &[u8], numbers: &[u16], slots: &mut [u64]) -> u64 {
+    let mut guarded = [&GUARD, &*slots, &GUARD].concat();
+    let (before, rest) = guarded.split_at_mut(GUARD.len());
+    let (lent, behind) = rest.split_at_mut(slots.len());
+    let (count, rows) = (numbers.len(), lent.len());
+    // SAFETY: each pointer and count are those of one slice, and the slice that is written overlaps no other.
+    let said = unsafe { mungaite_run(numbers.as_ptr(), count, lent.as_mut_ptr(), rows, image.as_ptr(), image.len()) };
+    assert!(before == GUARD && behind == GUARD, "the run wrote outside of its answers");
+    slots.copy_from_slice(lent);
+    said
+}
+
+/// The four numbers of each row.
+pub fn of_rows(queries: &[Query]) -> Vec<u16> {
+    queries.iter().flat_map(|query| [query.source, query.destination, query.class, query.action]).collect()
+}
+
+pub fn of_answer(answer: Answer) -> u64 {
+    match answer {
+        Ok(Decision::NotPermitted) => parts(0, 0, 0),
+        Ok(Decision::Permitted { rule }) => parts(1, 0, rule),
+        Ok(Decision::UnKnown { rule, constraint }) => parts(3, rule, constraint),
+        Err(Refusal { number, place }) => parts(2, number, place),
+    }
+}
+
+pub fn of_run(said: Result<Run, Refusal>) -> u64 {
+    match said {
+        Ok(Run::Fit) => parts(1, 0, 0),
+        Ok(Run::Unfit { row }) => parts(0, 0, row as u16),
+        Err(Refusal { number, place }) => parts(2, number, place),
+    }
+}
+
+/// The second, third and fourth part; the first is 0.
+fn parts(second: u16, third: u16, fourth: u16) -> u64 {
+    u64::from(second) << 32 | u64::from(third) << 16 | u64::from(fourth)
+}
