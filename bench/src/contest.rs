@@ -70,7 +70,7 @@ impl Case {
         }
     }
 
-    fn fail(&self, what: &str) -> ! {
+    pub fn fail(&self, what: &str) -> ! {
         eprintln!("{}: {what}", self.name);
         exit(1)
     }

@@ -5,6 +5,7 @@ mod contest;
 mod measure;
 mod ours;
 mod program;
+mod rows;
 mod table;
 
 use cases::constraints::{bans, companions, rosters, separations};
@@ -26,7 +27,8 @@ fn main() {
         }
     };
     println!("Nanoseconds, the least of up to {} samples.", effort.samples);
-    table::print("Three sizes of policy, a mix of queries", &[sample(), middle(), limit()], effort);
+    let sizes = [sample(), middle(), limit()];
+    table::print("Three sizes of policy, a mix of queries", &sizes, effort);
     let searches = [
         search("uncovered, 1024 rules".to_string(), 256, 1024, false),
         search("covered by the last of them".to_string(), 256, 1024, true),
@@ -43,6 +45,8 @@ fn main() {
         &[32, 64, 128, 256].map(|groups| search(format!("{groups} groups"), groups, 1024, false)),
         effort,
     );
+    rows::print(&sizes, effort);
+    rows::print_held(&held, effort);
     match Program::find() {
         Ok(permit) => {
             permit.growth(&limit(), runs);

@@ -1,7 +1,7 @@
 //! Mungaite's functions, as libmungaite.a exports them to C, by the raw declarations of the crate in `rust/`.
 //! None of them decides without a check, so `contest` takes the decision alone as a difference.
 
-use mungaite::raw::{mungaite_check, mungaite_decide};
+use mungaite::raw::{mungaite_check, mungaite_decide, mungaite_run};
 use mungaite::Query;
 
 pub fn check(image: &[u8]) -> u64 {
@@ -13,4 +13,11 @@ pub fn decide(image: &[u8], query: Query) -> u64 {
     let Query { source, destination, class, action } = query;
     // SAFETY: the pointer and the length are those of one slice, only read.
     unsafe { mungaite_decide(source, destination, class, action, image.as_ptr(), image.len()) }
+}
+
+/// Rows of four numbers, and a slot for each.
+pub fn run(image: &[u8], numbers: &[u16], answers: &mut [u64]) -> u64 {
+    let (count, rows) = (numbers.len(), answers.len());
+    // SAFETY: each pointer and count are those of one slice, and the slice that is written overlaps no other.
+    unsafe { mungaite_run(numbers.as_ptr(), count, answers.as_mut_ptr(), rows, image.as_ptr(), image.len()) }
 }

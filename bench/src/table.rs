@@ -3,7 +3,8 @@
 use crate::contest::{Case, Figures};
 use crate::measure::Effort;
 
-const FIRST: usize = 40;
+/// The width of the first column.
+pub const FIRST: usize = 40;
 
 /// Runs the cases and prints three lines for each.
 pub fn print<'a>(title: &str, cases: impl IntoIterator<Item = &'a Case>, effort: Effort) {
@@ -31,7 +32,7 @@ fn print_line(name: &str, figures: &Figures) {
 }
 
 /// Three figures or more, in groups of three.
-fn nanoseconds(value: f64) -> String {
+pub fn nanoseconds(value: f64) -> String {
     if value.abs() < 100.0 {
         return format!("{value:.1}");
     }

@@ -5,7 +5,7 @@ use crate::generate::{add_case, check_case, decide_case, permit_case, record_cas
 use crate::runner::{Cases, Count};
 
 pub const DECIDE: Cases = Cases { name: "random/decide", count: Count::Random(20_000), run: decide };
-pub const RUN: Cases = Cases { name: "random/run", count: Count::Random(10_000), run };
+pub const RUN: Cases = Cases { name: "random/run", count: Count::Random(12_000), run };
 pub const CHECK: Cases = Cases { name: "random/check", count: Count::Random(60_000), run: check };
 pub const RECORD: Cases = Cases { name: "random/record", count: Count::Random(30_000), run: record };
 pub const ADD: Cases = Cases { name: "random/add", count: Count::Random(40_000), run: add };
