@@ -30,8 +30,8 @@ extern "C" {
 #endif
 
 /* The second part of an answer. */
-#define MUNGAITE_NOT_PERMITTED 0
-#define MUNGAITE_PERMITTED 1 /* also: a record was found, a record was added */
+#define MUNGAITE_NOT_PERMITTED 0 /* also: an image is accepted, a run is not fit */
+#define MUNGAITE_PERMITTED 1     /* also: a record was found, a record was added, a run is fit */
 #define MUNGAITE_REFUSED 2
 #define MUNGAITE_UNKNOWN 3
 

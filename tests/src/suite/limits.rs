@@ -4,7 +4,7 @@ use crate::compare::{Outcome, Pair};
 use crate::draft::{allow, constraint, group, transition, Draft};
 use crate::runner::{Cases, Count};
 use crate::sample::query;
-use mungaite::{Query, Section, LARGEST, MOST_ROWS};
+use mungaite::{Query, Section, LARGEST};
 
 pub const TESTS: &[Cases] = &[
     Cases { name: "limits/check", count: Count::Listed(CASES), run: check },
@@ -91,11 +91,10 @@ fn decide(pair: &Pair, case: u64) -> Outcome {
     queries(&draft).into_iter().try_for_each(|query| pair.decide(&image, query))
 }
 
-/// The queries over and over, 64 rows.
 fn run(pair: &Pair, case: u64) -> Outcome {
     let draft = policy(case);
-    let rows: Vec<Query> = queries(&draft).into_iter().cycle().take(MOST_ROWS).collect();
-    pair.run(&draft.image(), &rows, MOST_ROWS)
+    let rows = queries(&draft);
+    pair.run(&draft.image(), &rows, rows.len())
 }
 
 fn record(pair: &Pair, case: u64) -> Outcome {

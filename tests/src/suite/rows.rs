@@ -22,7 +22,7 @@ fn alone(pair: &Pair, seed: u64) -> Outcome {
     Ok(())
 }
 
-/// The rows in another order, with some replaced by rows that are the same for all: a row that is left keeps its answer.
+/// The rows in another order, some of them replaced: a row that is left keeps its answer.
 fn among_others(pair: &Pair, seed: u64) -> Outcome {
     let (image, mut queries) = rows(pair.engine, seed);
     let random = &mut Random::new(seed);
