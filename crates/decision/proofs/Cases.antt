@@ -124,14 +124,16 @@ asked s d c a = record { source = s; dest = d; class = c; action = a }
 pub record Answers : Type 0 where
   pub member : answer sample (asked 10 21 5 1) ≡ gives (permitted 0)
   pub group : answer sample (asked 10 g0 5 1) ≡ gives (permitted 0)
+  pub off : answer sample (asked 13 21 5 1) ≡ gives notPermitted
   pub transition : answer sample (asked 12 20 9 9) ≡ gives (permitted 2)
   pub rostered : answer (extended sample (allow 14 g0 7 7)) (asked 10 21 5 1) ≡ gives (unknown 0 0)
   pub companied : answer (extended sample companion) (asked 10 21 5 1) ≡ gives (unknown 0 2)
+  pub no-source : answer sample (asked 1024 21 5 1) ≡ refused (refusal 8 0)
   pub no-group-1 : answer sample (asked 32769 21 5 1) ≡ refused (refusal 8 0)
 
 pub marked-answers : MarkedCases → Answers
 unfolding cases given expectedOf ask
-marked-answers e = record { member = row 0; group = row 1; transition = row 3; rostered = row 6; companied = row 8; no-group-1 = row 12 }
+marked-answers e = record { member = row 0; group = row 1; off = row 2; transition = row 3; rostered = row 6; companied = row 8; no-source = row 11; no-group-1 = row 12 }
   where
     row : (n : ℕ) → getD (map given cases) n (gives notPermitted) ≡ getD (map expectedOf cases) n (gives notPermitted)
     row n = ap (λ (xs : List (Outcome Decision)). getD xs n (gives notPermitted)) e

@@ -51,8 +51,8 @@ module _ (f : Refusal) (fits : RefusalFits f) where
 
 -- ---- no part is cut
 
-pub known-fits : (n at : ℕ) (f : Refusal) → refusal n at ≡ f → n ≤ 14 → at < 65536 → RefusalFits f
-known-fits n at f e h k = subst RefusalFits e (omega arith, k)
+pub known-fits : (n at : ℕ) (f : Refusal) → refusal n at ≡ f → n < 65536 → at < 65536 → RefusalFits f
+known-fits n at f e h k = subst RefusalFits e (h, k)
 
 pub check-fits : (l : List ℕ) → Bytes l → (f : Refusal) → check l ≡ some f → RefusalFits f
 check-fits l b f e = let q = check-small l b f e in (omega (arith, q .0), q .1)

@@ -1,9 +1,10 @@
--- What a host reads from a number is the answer: claims CheckRead, RecordRead, AddRead. Each follows from the claim
+-- What a host reads from a number is the answer: claims CheckRead, RecordRead, AddRead, RunRead. Each follows from the claim
 -- that no part is cut and from PartsRead alone. Assumes nothing.
 use Prim.Native.Nat.{ℕ}
 use mathlib.Core.Path.{_≡_, refl, ap, _∙_}
 use mathlib.Core.Option.{Option, none, some}
 use native.Mathlib.Omega.{arith}
+use lib.ListN.{length, getD}
 use Rattle.format.specs.declared.Section.{Section}
 use Rattle.format.specs.declared.Section.the-variants.{Groups, Rules, Constraints}
 use Rattle.format.specs.declared.Refusal.{Refusal}
@@ -14,12 +15,16 @@ use Rattle.format.specs.Answers.{Outcome, refused, gives, outcome, extent}
 use Rattle.format.specs.Give.{giveFault}
 use Rattle.extension.specs.Add.{addFault, newNumber}
 use Rattle.decision.specs.Numbers.{partsOf, codeOf, OutcomeFits}
-use Rattle.decision.proofs.Numbers.{parts-read, refused-kind, refused-back}
+use Rattle.decision.specs.Numbers.{hostDecision}
+use Rattle.decision.proofs.Numbers.{parts-read, refused-kind, refused-back, decide-read}
+use Rattle.runs.specs.Numbers.{rowsOf, numbersRun, runCode}
+use Rattle.runs.proofs.Numbered.{code-at}
+use Rattle.runs.proofs.Holds.{row-code-is}
 use Rattle.mungaite.specs.Code.{faultCode, extentCode, recordIn, recordCode, addCode}
-use Rattle.mungaite.specs.Host.{sectionNumber, hostChecked, hostFound, hostAdded}
-use Rattle.mungaite.specs.Claims.{FaultFits, ExtentFits, NumberFits, CheckRead, RecordRead, AddRead}
+use Rattle.mungaite.specs.Host.{sectionNumber, hostChecked, hostFound, hostAdded, hostRun}
+use Rattle.mungaite.specs.Claims.{FaultFits, ExtentFits, NumberFits, RowFits, CheckRead, RecordRead, AddRead, RunRead}
 use Rattle.mungaite.proofs.CodeLaws.{record-groups, record-rules, record-constraints, record-nowhere}
-use Rattle.mungaite.proofs.Whole.{check-whole, record-whole, add-whole}
+use Rattle.mungaite.proofs.Whole.{check-whole, record-whole, add-whole, run-whole}
 
 fault-back : (o : Option Refusal) → FaultFits o → hostChecked (faultCode o) ≡ o
 unfolding hostChecked
@@ -59,3 +64,19 @@ number-back (gives n) h =
 pub add-read : AddRead
 unfolding addCode
 add-read b h r = number-back (outcome (addFault b r) (newNumber b r)) (add-whole b h r)
+
+run-back : (o : Outcome (Option ℕ)) → OutcomeFits RowFits o → hostRun (runCode o) ≡ o
+unfolding hostRun
+run-back (refused f) h = simp (refused-kind f h, refused-back f h)
+run-back (gives none) h =
+    let p = parts-read 1 0 0 (omega arith) (omega arith) (omega arith) in
+    simp (p .0)
+run-back (gives (some n)) h =
+    let p = parts-read 0 0 n (omega arith) (omega arith) (omega arith) in
+    simp (p .0, p .2)
+
+pub run-read : RunRead
+run-read l b ns ys = (
+  run-back (numbersRun l ns (length ys)) (run-whole l b ns (length ys)),
+  λ i other e k. ap hostDecision (code-at l ns ys i other e k ∙ row-code-is l (getD (rowsOf ns) i other)) ∙ decide-read l b (getD (rowsOf ns) i other),
+)

@@ -1,12 +1,12 @@
--- No part of an answer is cut: claims CheckWhole, RecordWhole, AddWhole. Assumes nothing.
---     give-fits, add-fits   a refusal fits, by the laws that say how large one is
+-- No part of an answer is cut: claims CheckWhole, RecordWhole, AddWhole, RunWhole. Assumes nothing.
+--     give-fits, add-fits, run-fits   a refusal fits, by the laws that say how large one is
 use Prim.Native.Nat.{ℕ}
-use mathlib.Core.Path.{_≡_, refl, sym}
+use mathlib.Core.Path.{_≡_, refl, sym, subst}
 use mathlib.Core.Logic.{⊎-elim}
 use mathlib.Core.Option.{Option, none, some}
 use mathlib.Core.List.{List}
 use native.Mathlib.Omega.{arith}
-use lib.ListN.{getD}
+use lib.ListN.{length, getD}
 use Rattle.format.specs.declared.Section.{Section}
 use Rattle.format.specs.declared.Refusal.{Refusal}
 use Rattle.format.specs.Bytes.{Bytes}
@@ -25,7 +25,11 @@ use Rattle.extension.specs.Add.{sectionOf, newNumber, addFault}
 use Rattle.extension.proofs.Adds.{own-refused, add-refused, number-few}
 use Rattle.decision.specs.Numbers.{RefusalFits, OutcomeFits}
 use Rattle.decision.proofs.Numbers.{known-fits, check-fits}
-use Rattle.mungaite.specs.Claims.{FaultFits, ExtentFits, NumberFits, CheckWhole, RecordWhole, AddWhole}
+use Rattle.runs.specs.Runs.{firstUnfit}
+use Rattle.runs.specs.Numbers.{rowsOf, numbersFault}
+use Rattle.runs.proofs.Faults.{numbers-named}
+use Rattle.runs.proofs.Numbered.{row-below, numbers-run-is}
+use Rattle.mungaite.specs.Claims.{FaultFits, ExtentFits, NumberFits, RowFits, CheckWhole, RecordWhole, AddWhole, RunWhole}
 
 fault-fits : (o : Option Refusal) → ((f : Refusal) → o ≡ some f → RefusalFits f) → FaultFits o
 fault-fits none h = tt
@@ -74,3 +78,23 @@ number-fits b r e = omega (arith, number-few b r e, limit-most (sectionOf (getD 
 
 pub add-whole : AddWhole
 add-whole b h r = outcome-fits NumberFits (addFault b r) (newNumber b r) (add-fits b h r) (number-fits b r)
+
+-- ---- what a run comes to
+
+run-fits : (l : List ℕ) → Bytes l → (n m : ℕ) (f : Refusal) → numbersFault l n m ≡ some f → RefusalFits f
+run-fits l b n m f e =
+    ⊎-elim (check-fits l b f)
+    (⊎-elim (λ z. known-fits 16 0 f (sym z) (omega arith) (omega arith)) (λ z. known-fits 17 0 f (sym z) (omega arith) (omega arith)))
+    (numbers-named l n m f e)
+
+row-fits : (l ns : List ℕ) (m : ℕ) → numbersFault l (length ns) m ≡ none → RowFits (firstUnfit l (rowsOf ns))
+row-fits l ns m e = go (firstUnfit l (rowsOf ns)) refl
+  where
+    go : (o : Option ℕ) → firstUnfit l (rowsOf ns) ≡ o → RowFits o
+    go none k = tt
+    go (some n) k = row-below l ns m n e k
+
+pub run-whole : RunWhole
+run-whole l b ns m =
+    subst (OutcomeFits RowFits) (sym (numbers-run-is l ns m))
+    (outcome-fits RowFits (numbersFault l (length ns) m) (firstUnfit l (rowsOf ns)) (run-fits l b (length ns) m) (row-fits l ns m))

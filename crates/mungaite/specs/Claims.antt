@@ -3,15 +3,19 @@
 --     FaultFits o         a refusal's parts fit, where there is one
 --     ExtentFits e        a record's place fits, and its length is at most 130, the longest record's
 --     NumberFits n        the number of an added record is below 1,024
+--     RowFits o           the row that a run names is below 64
 --     CheckWhole          the check's refusal, of any image
 --     RecordWhole         record n of any section of any image; and where there is no such section
 --     AddWhole            the refusal or the new record's number, of any buffer and any record
+--     RunWhole            what any run on any image comes to
 -- So what a host reads from the number is the answer itself, of every image of bytes:
 --     CheckRead, RecordRead, AddRead   by each of the other functions
+--     RunRead             by a run, and in the slot of each of its rows
 use Prim.Native.Nat.{ℕ, _≤_, _<_}
 use mathlib.Core.Path.{_≡_}
 use mathlib.Core.Option.{Option, none, some}
 use mathlib.Core.List.{List}
+use lib.ListN.{length, getD}
 use Rattle.format.specs.declared.Section.{Section}
 use Rattle.format.specs.declared.Refusal.{Refusal}
 use Rattle.format.specs.declared.Extent.{Extent}
@@ -21,9 +25,12 @@ use Rattle.format.specs.Check.{check}
 use Rattle.format.specs.Answers.{outcome, extent}
 use Rattle.format.specs.Give.{giveFault}
 use Rattle.extension.specs.Add.{addFault, newNumber}
-use Rattle.decision.specs.Numbers.{Part, RefusalFits, OutcomeFits}
+use Rattle.decision.specs.declared.Query.{Query}
+use Rattle.decision.specs.Decide.{answer}
+use Rattle.decision.specs.Numbers.{Part, RefusalFits, OutcomeFits, hostDecision}
+use Rattle.runs.specs.Numbers.{rowsOf, numbersFault, numbersRun, codesAfter, runCode}
 use Rattle.mungaite.specs.Code.{faultCode, recordCode, addCode}
-use Rattle.mungaite.specs.Host.{sectionNumber, hostChecked, hostFound, hostAdded}
+use Rattle.mungaite.specs.Host.{sectionNumber, hostChecked, hostFound, hostAdded, hostRun}
 
 abbrev pub FaultFits : Option Refusal → Type 0
 FaultFits none = Unit
@@ -34,6 +41,10 @@ ExtentFits e = Part (e .place) × (e .length ≤ 130)
 
 abbrev pub NumberFits : ℕ → Type 0
 NumberFits n = n < 1024
+
+abbrev pub RowFits : Option ℕ → Type 0
+RowFits none = Unit
+RowFits (some n) = n < 64
 
 abbrev pub CheckWhole : Type 0
 CheckWhole = (l : List ℕ) → Bytes l → FaultFits (check l)
@@ -47,6 +58,9 @@ RecordWhole =
 abbrev pub AddWhole : Type 0
 AddWhole = (b : List ℕ) → Bytes b → (r : List ℕ) → OutcomeFits NumberFits (outcome (addFault b r) (newNumber b r))
 
+abbrev pub RunWhole : Type 0
+RunWhole = (l : List ℕ) → Bytes l → (ns : List ℕ) (slots : ℕ) → OutcomeFits RowFits (numbersRun l ns slots)
+
 abbrev pub CheckRead : Type 0
 CheckRead = (l : List ℕ) → Bytes l → hostChecked (faultCode (check l)) ≡ check l
 
@@ -58,3 +72,10 @@ RecordRead =
 
 abbrev pub AddRead : Type 0
 AddRead = (b : List ℕ) → Bytes b → (r : List ℕ) → hostAdded (addCode b r) ≡ outcome (addFault b r) (newNumber b r)
+
+abbrev pub RunRead : Type 0
+RunRead =
+    (l : List ℕ) → Bytes l → (ns ys : List ℕ)
+    → (hostRun (runCode (numbersRun l ns (length ys))) ≡ numbersRun l ns (length ys))
+    × ((i : ℕ) (other : Query) → numbersFault l (length ns) (length ys) ≡ none → i < length (rowsOf ns)
+    → hostDecision (getD (codesAfter l ns ys) i 0) ≡ answer l (getD (rowsOf ns) i other))

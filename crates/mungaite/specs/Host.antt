@@ -3,6 +3,7 @@
 --     hostChecked n       what mungaite_check says: the refusal, where there is one
 --     hostFound n         what mungaite_record says
 --     hostAdded n         what mungaite_add says
+--     hostRun n           what mungaite_run says: fit, which is no row, or the first row that is not Permitted
 use Prim.Native.Nat.{ℕ}
 use mathlib.Core.Bool.{cond}
 use mathlib.Core.Option.{Option, none, some}
@@ -27,3 +28,6 @@ hostFound n = cond (eqb (kindPart n) 2) (refused (hostRefusal n)) (gives (record
 
 unfoldable pub hostAdded : ℕ → Outcome ℕ
 hostAdded n = cond (eqb (kindPart n) 2) (refused (hostRefusal n)) (gives (fourthPart n))
+
+unfoldable pub hostRun : ℕ → Outcome (Option ℕ)
+hostRun n = cond (eqb (kindPart n) 2) (refused (hostRefusal n)) (cond (eqb (kindPart n) 1) (gives none) (gives (some (fourthPart n))))

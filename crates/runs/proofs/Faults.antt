@@ -2,21 +2,22 @@
 --     rows-few, rows-many, rows-slots, rows-none   16, 17, or none, whatever the rows are
 --     fault-fits, fault-rows           a run that is not refused: its answers' list fits, and it has at most 64 rows
 --     same-lengths                     as many slots as queries
---     numbers-fault                    the refusal of numbers, by their rows
+--     numbers-fault, numbers-named     the refusal of numbers, by their rows; it is the check's, 16 or 17
 --     same-count, few-numbers          four numbers for each slot, and at most 64 rows of them
 --     run-faults, numbers-faults       the claims
 use Prim.Native.Nat.{ℕ, _*_, _/_, _≤_, _<_}
 use mathlib.Core.Path.{_≡_, refl, _∙_}
 use mathlib.Core.Bool.{Bool, true, false, _&&_}
+use mathlib.Core.Logic.{_⊎_, inl, inr}
 use mathlib.Core.Option.{none, some}
 use mathlib.Core.List.{List}
 use native.Mathlib.Omega.{arith}
 use lib.Dec.{leb, eqb}
 use borrow.Author.Tests.{eqb-true, leb-true, le-leb, lt-leb, eq-eqb, ne-eqb}
 use Rattle.format.specs.declared.Refusal.{Refusal}
-use Rattle.format.specs.Refusals.{refusal}
+use Rattle.format.specs.Refusals.{refusal, need}
 use Rattle.format.specs.Check.{check, Accepted}
-use Rattle.format.proofs.Chain.{orElse-split, orElse-none, orElse-next, orElse-first, need-true, need-none, need-some}
+use Rattle.format.proofs.Chain.{orElse-split, orElse-none, orElse-next, orElse-first, orElse-refuses, need-true, need-none, need-some, need-refuses}
 use Rattle.format.proofs.Tests.{both, and-true}
 use Rattle.runs.specs.Runs.{rowsFault, runFault, queriesFault}
 use Rattle.runs.specs.Numbers.{numbersFault}
@@ -67,6 +68,17 @@ module _ (l : List ℕ) (n : ℕ) (fits : Bool) where
   unfolding runFault rowsFault
   fault-rows e = leb-true n 64 (both (leb 1 n) (leb n 64) (need-true _ _ (orElse-split _ _ (orElse-split _ _ e .1) .0)) .1)
 
+  abbrev Named : Refusal → Type 0
+  Named f = (check l ≡ some f) ⊎ ((f ≡ refusal 16 0) ⊎ (f ≡ refusal 17 0))
+
+  fault-named : (f : Refusal) → runFault l n fits ≡ some f → Named f
+  unfolding runFault rowsFault
+  fault-named =
+      orElse-refuses Named (check l) _ (λ f e. inl e)
+      (λ _. orElse-refuses Named (need (leb 1 n && leb n 64) (refusal 16 0)) (need fits (refusal 17 0))
+      (need-refuses Named (leb 1 n && leb n 64) (refusal 16 0) (inr (inl refl)))
+      (λ _. need-refuses Named fits (refusal 17 0) (inr (inr refl))))
+
 pub same-lengths : (l : List ℕ) (n m : ℕ) → queriesFault l n m ≡ none → m ≡ n
 unfolding queriesFault
 same-lengths l n m e = eqb-true m n (fault-fits l n (eqb m n) e)
@@ -74,6 +86,10 @@ same-lengths l n m e = eqb-true m n (fault-fits l n (eqb m n) e)
 pub numbers-fault : (l : List ℕ) (n m : ℕ) → numbersFault l n m ≡ runFault l (n / 4) (eqb n (4 * m))
 unfolding numbersFault
 numbers-fault l n m = refl
+
+pub numbers-named : (l : List ℕ) (n m : ℕ) (f : Refusal) → numbersFault l n m ≡ some f → (check l ≡ some f) ⊎ ((f ≡ refusal 16 0) ⊎ (f ≡ refusal 17 0))
+unfolding numbersFault
+numbers-named l n m f e = fault-named l (n / 4) (eqb n (4 * m)) f e
 
 pub same-count : (l : List ℕ) (n m : ℕ) → numbersFault l n m ≡ none → n ≡ 4 * m
 unfolding numbersFault

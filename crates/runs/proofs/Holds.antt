@@ -73,7 +73,7 @@ module _ (l : List ℕ) (qs : List Query) (d : Query) where
   unfolding firstUnfit
   all-fit p = found-none (unfit l) d qs 0 (λ i k. permits-fit l (getD qs i d) (p i k))
 
-  first-unfit : (m : ℕ) → firstUnfit l qs ≡ some m → (m < length qs) × (Permits l (getD qs m d) → ⊥) × AllPermits l qs d m
+  pub first-unfit : (m : ℕ) → firstUnfit l qs ≡ some m → (m < length qs) × (Permits l (getD qs m d) → ⊥) × AllPermits l qs d m
   unfolding firstUnfit
   first-unfit m e = go (firstAt (unfit l) 0 qs) (searched (unfit l) d qs 0) e
     where
@@ -150,13 +150,17 @@ pub said-answer : (l : List ℕ) (q : Query) (a : Answer) → answerOutcome a �
 unfolding rowAnswer
 said-answer l q a e = sym (said-outcome a) ∙ ap answerOf e
 
+pub row-code-is : (l : List ℕ) (q : Query) → rowCode l q ≡ decisionCode (answer l q)
+unfolding rowCode
+row-code-is l q = refl
+
 -- and its number is that of the row
 pub answer-code : (l : List ℕ) (q : Query) → decisionCode (answerOutcome (rowAnswer l q)) ≡ rowCode l q
 unfolding rowAnswer rowCode
 answer-code l q = ap decisionCode (outcome-said (answer l q))
 
 -- element i of a map, whatever stands past the last
-map-at : {A B : Type 0} (f : A → B) (xs : List A) (i : ℕ) (d : A) (e : B) → i < length xs → getD (map f xs) i e ≡ f (getD xs i d)
+pub map-at : {A B : Type 0} (f : A → B) (xs : List A) (i : ℕ) (d : A) (e : B) → i < length xs → getD (map f xs) i e ≡ f (getD xs i d)
 map-at f [] i d e k = absurd (not-suc-le-zero k)
 map-at f (x ∷ xs) zero d e k = refl
 map-at f (x ∷ xs) (suc i) d e k = map-at f xs i d e (omega arith)

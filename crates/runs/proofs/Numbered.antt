@@ -3,6 +3,9 @@
 --     row-at       row i of a list of numbers
 --     rows-many    how many whole rows it has
 --     row-inside   a row's numbers are in the list
+--     numbers-run-is   what a run comes to, by its refusal and its rows
+--     code-at      the slot of a row
+--     row-below    the row that comes back is below 64
 use Prim.Native.Nat.{ℕ, zero, suc, _+_, _*_, _/_, _<_}
 use mathlib.Core.Path.{_≡_, refl, sym, ap, ap₂, _∙_}
 use mathlib.Core.Bool.{Bool, true, false}
@@ -19,10 +22,11 @@ use Rattle.format.specs.Answers.{outcome}
 use Rattle.format.proofs.Chain.{unless-accepted, unless-refused}
 use Rattle.decision.specs.declared.Query.{Query}
 use Rattle.runs.specs.Runs.{runFault, queriesFault, firstUnfit, runOf}
-use Rattle.runs.specs.Numbers.{rowsOf, numbersOf, numbersFault, numbersRun, rowCode, codesAfter}
+use Rattle.runs.specs.Numbers.{queryOf, rowsOf, numbersOf, numbersFault, numbersRun, rowCode, codesAfter}
 use Rattle.runs.specs.Inner.Progress.{rowAt}
 use Rattle.runs.specs.Claims.{NumbersRun, NumbersLeft}
-use Rattle.runs.proofs.Faults.{same-count}
+use Rattle.runs.proofs.Faults.{same-count, few-numbers}
+use Rattle.runs.proofs.Holds.{map-at, first-unfit}
 
 rows-read : (qs : List Query) → rowsOf (numbersOf qs) ≡ qs
 unfolding rowsOf numbersOf
@@ -103,3 +107,16 @@ numbers-left l ns ys = (
         let m = length-map (rowsOf ns) (rowCode l) in
         ap length (unless-accepted (map (rowCode l) (rowsOf ns)) ys e) ∙ omega (arith, m, rows-many ns, k)
     many (some f) e = ap length (unless-refused (map (rowCode l) (rowsOf ns)) ys e)
+
+module _ (l ns : List ℕ) where
+  pub numbers-run-is : (m : ℕ) → numbersRun l ns m ≡ outcome (numbersFault l (length ns) m) (firstUnfit l (rowsOf ns))
+  unfolding numbersRun
+  numbers-run-is m = refl
+
+  pub code-at : (ys : List ℕ) (i : ℕ) (d : Query) → numbersFault l (length ns) (length ys) ≡ none → i < length (rowsOf ns) → getD (codesAfter l ns ys) i 0 ≡ rowCode l (getD (rowsOf ns) i d)
+  unfolding codesAfter
+  code-at ys i d e k = ap (λ zs. getD zs i 0) (unless-accepted (map (rowCode l) (rowsOf ns)) ys e) ∙ map-at (rowCode l) (rowsOf ns) i d 0 k
+
+  -- the row that comes back is one of at most 64
+  pub row-below : (m n : ℕ) → numbersFault l (length ns) m ≡ none → firstUnfit l (rowsOf ns) ≡ some n → n < 64
+  row-below m n e k = omega (arith, first-unfit l (rowsOf ns) (queryOf 0 0 0 0) n k .0, few-numbers l (length ns) m e, rows-many ns)
