@@ -1,22 +1,31 @@
 -- What meets the terms of the claims of the program's output and of the C interface, from the statement: no claim's own proof is
 -- cited. Assumes nothing.
 use native.Mathlib.Omega.{arith}
-use mathlib.Core.Path.{subst, refl, ap, ap₂, _∙_}
-use lib.ListN.{take}
+use Prim.Native.Nat.{ℕ}
+use mathlib.Core.Path.{_≡_, subst, refl, sym, ap, ap₂, _∙_}
+use mathlib.Core.List.{List, [], _∷_}
+use lib.ListN.{length, take}
 use Rattle.format.specs.declared.Section.the-variants.{Groups, Rules, Constraints}
 use Rattle.format.specs.Bytes.{Bytes}
 use Rattle.format.specs.Answers.{outcome, extent}
 use Rattle.format.specs.Sample.{sample}
 use Rattle.format.proofs.Chain.{orElse-next}
+use Rattle.format.specs.Refusals.{refusal}
 use Rattle.extension.specs.Add.{newNumber}
+use Rattle.decision.specs.declared.Query.{Query}
+use Rattle.decision.specs.Decide.{answer}
 use Rattle.decision.specs.Cases.{companion, withSpace, extended}
 use Rattle.decision.proofs.Cases.{Answers, marked-answers}
 use Rattle.decision.specs.Numbers.{OutcomeFits, DecisionFits}
-use Rattle.mungaite.specs.Claims.{FaultFits, ExtentFits, NumberFits}
+use Rattle.mungaite.specs.Claims.{FaultFits, ExtentFits, NumberFits, RowFits}
+use Rattle.runs.specs.Runs.{runOf}
+use Rattle.runs.specs.Numbers.{numbersOf, numbersRun}
+use Rattle.runs.specs.Cases.{member, transition, offRule}
 use Rattle.claims.specs.Promises.{Promises}
 use Rattle.claims.specs.Terms.{query, PrintingMet, CallingMet}
-use Rattle.claims.proofs.Cases.{companion-space, cut-bytes, inputs, unknown-line, empty-printed, short-printed, three-printed}
+use Rattle.claims.proofs.Cases.{companion-space, cut-bytes, row-answers, fitNumbers, unfitNumbers, run-numbers, inputs, unknown-line, empty-printed, short-printed, three-printed}
 use Rattle.claims.proofs.ReadingTerms.{companion-after}
+use Rattle.claims.proofs.RunningTerms.{two-fit, two-unfit}
 
 module _ (p : Promises) where
   answers : Answers
@@ -48,10 +57,15 @@ module _ (p : Promises) where
   sample-bytes : Bytes sample
   sample-bytes = p .reading .sample-accepted .sample-bytes
 
+  -- the numbers of two queries
+  numbers-are : (qs : List Query) (ns : List ℕ) → numbersOf qs ≡ ns → numbersRun sample ns 2 ≡ runOf sample qs 2
+  numbers-are qs ns e = ap (λ x. numbersRun sample x 2) (sym e) ∙ p .calling .numbers-run sample qs (7 ∷ 8 ∷ []) .0
+
   pub calling-met : CallingMet
   calling-met =
       let c = p .calling in
       let passes = p .reading .sample-accepted .sample-passes in
+      let faults = c .numbers-faults sample .1 passes in
       let companied = p .deciding .marked-adds .companied in
       record {
         refusal-fits = λ l b f e. (let h = subst FaultFits e (c .check-whole l b) in (omega (arith, h .0), omega (arith, h .1)));
@@ -75,4 +89,17 @@ module _ (p : Promises) where
         no-section-read = λ s n h. c .record-read sample sample-bytes .1 s n (omega arith) ∙ orElse-next _ passes;
         companion-read = c .add-read (withSpace sample companion) companion-space companion ∙ ap₂ outcome companied (p .deciding .marked-adds .numbered);
         no-room-read = c .add-read sample sample-bytes companion ∙ ap (λ f. outcome f (newNumber sample companion)) (p .reading .refusal-cases .no-room);
+        row-fits = λ l b ns slots n e. (let h = subst (OutcomeFits RowFits) e (c .run-whole l b ns slots) in omega (arith, h));
+        fit-read = c .run-read sample sample-bytes fitNumbers (7 ∷ 8 ∷ []) .0 ∙ numbers-are (member ∷ transition ∷ []) fitNumbers (run-numbers .fit) ∙ two-fit p;
+        unfit-read = c .run-read sample sample-bytes unfitNumbers (7 ∷ 8 ∷ []) .0 ∙ numbers-are (member ∷ offRule ∷ []) unfitNumbers (run-numbers .unfit) ∙ two-unfit p;
+        slot-read = c .run-read sample sample-bytes fitNumbers (7 ∷ 8 ∷ []) .1 1 member (faults .3 2 (omega arith) (omega arith)) (omega (arith, run-numbers .many))
+            ∙ ap (answer sample) (run-numbers .second member)
+            ∙ row-answers answers .transition-is;
+        queries-run = λ qs ys. c .numbers-run sample qs ys .0;
+        three-numbers = λ x y z ys. c .numbers-left sample (x ∷ y ∷ z ∷ []) ys .1 (refusal 16 0) (faults .0 3 (length ys) (omega arith));
+        five-numbers = λ y. c .numbers-left sample (10 ∷ 21 ∷ 5 ∷ 1 ∷ 12 ∷ []) (y ∷ []) .1 (refusal 17 0) (faults .2 5 1 (omega arith) (omega arith) (λ e. absurd (omega arith))) .1;
+        five-refused = c .numbers-left sample (10 ∷ 21 ∷ 5 ∷ 1 ∷ 12 ∷ []) (0 ∷ []) .1 (refusal 17 0) (faults .2 5 1 (omega arith) (omega arith) (λ e. absurd (omega arith))) .0;
+        numbers-260 = λ ns ys h. c .numbers-left sample ns ys .1 (refusal 16 0) (faults .1 (length ns) (length ys) h) .0;
+        fit-code = c .parts-whole 1 0 0 (omega arith) (omega arith);
+        row-code = λ n h. c .parts-whole 0 0 n (omega arith) (omega arith) ∙ omega arith;
       }

@@ -14,10 +14,15 @@ use Rattle.format.proofs.Bytes.{bytes-of}
 use Rattle.format.proofs.Front.{image-in-of}
 use Rattle.extension.specs.Add.{sectionOf}
 use Rattle.extension.proofs.Adds.{section-of}
-use Rattle.format.specs.Answers.{gives}
-use Rattle.decision.specs.Decide.{unknown}
+use Rattle.format.specs.Answers.{refused, gives}
+use Rattle.decision.specs.Decide.{notPermitted, permitted, unknown, answer}
 use Rattle.decision.specs.Cases.{g0, allow, companion, withSpace}
 use Rattle.decision.specs.Rows.{queryAt}
+use Rattle.format.specs.Refusals.{refusal}
+use Rattle.decision.specs.declared.Query.{Query}
+use Rattle.decision.proofs.Cases.{Answers}
+use Rattle.runs.specs.Numbers.{rowsOf, numbersOf}
+use Rattle.runs.specs.Cases.{member, group, transition, offRule, noSource, runCases}
 use Rattle.lines.specs.Lines.{line}
 use Rattle.lines.specs.Output.{imageSize, printed}
 use Rattle.lines.specs.Worked.{ascii, workedLines, lineOf, lineSaid, WorkedLines, asked, workedRuns, runOf, runSaid, WorkedRuns}
@@ -110,6 +115,35 @@ pub record QueryRows : Type 0 where
 pub query-rows : QueryRows
 unfolding wordAt asked
 query-rows = record { many = refl; part = refl; first = refl; second = refl }
+
+-- the rows of runs: what each is answered, and their numbers
+pub record RowAnswers : Type 0 where
+  pub member-is : answer sample member ≡ gives (permitted 0)
+  pub group-is : answer sample group ≡ gives (permitted 0)
+  pub transition-is : answer sample transition ≡ gives (permitted 2)
+  pub off-is : answer sample offRule ≡ gives notPermitted
+  pub no-source-is : answer sample noSource ≡ refused (refusal 8 0)
+
+pub row-answers : Answers → RowAnswers
+unfolding member group transition offRule noSource
+row-answers a = record { member-is = a .member; group-is = a .group; transition-is = a .transition; off-is = a .off; no-source-is = a .no-source }
+
+abbrev pub fitNumbers : List ℕ
+fitNumbers = 10 ∷ 21 ∷ 5 ∷ 1 ∷ 12 ∷ 20 ∷ 9 ∷ 9 ∷ []
+
+abbrev pub unfitNumbers : List ℕ
+unfitNumbers = 10 ∷ 21 ∷ 5 ∷ 1 ∷ 13 ∷ 21 ∷ 5 ∷ 1 ∷ []
+
+pub record RunNumbers : Type 0 where
+  pub fit : numbersOf (member ∷ transition ∷ []) ≡ fitNumbers
+  pub unfit : numbersOf (member ∷ offRule ∷ []) ≡ unfitNumbers
+  pub many : length (rowsOf fitNumbers) ≡ 2
+  pub second : (d : Query) → getD (rowsOf fitNumbers) 1 d ≡ transition
+  pub cases : length runCases ≡ 19
+
+pub run-numbers : RunNumbers
+unfolding member transition offRule rowsOf numbersOf runCases
+run-numbers = record { fit = refl; unfit = refl; many = refl; second = λ d. refl; cases = refl }
 
 module _ (e : WorkedLines) where
   pub unknown-line : line (gives (unknown 1023 255)) ≡ ascii "U 1023 255\n"

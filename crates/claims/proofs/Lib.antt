@@ -2,5 +2,6 @@ pub mod Promises
 pub mod Cases
 pub mod ReadingTerms
 pub mod DecidingTerms
+pub mod RunningTerms
 pub mod CallingTerms
 pub mod Terms

@@ -14,6 +14,10 @@ use Rattle.decision.proofs.Growth as growth
 use Rattle.decision.proofs.Cases as cases
 use Rattle.decision.proofs.Numbers as coded
 use Rattle.decision.proofs.Rows as rows
+use Rattle.runs.proofs.Faults as faults
+use Rattle.runs.proofs.Holds as holds
+use Rattle.runs.proofs.Numbered as numbered
+use Rattle.runs.proofs.Cases as runs
 use Rattle.lines.proofs.Numbers as numbers
 use Rattle.lines.proofs.Output as output
 use Rattle.lines.proofs.Worked as worked
@@ -76,6 +80,19 @@ promises =
         rules-reordered = growth.rules-reordered;
         marked-order = cases.marked-order;
       };
+      running = record {
+        fit-exactly = holds.fit-exactly;
+        unfit-first = holds.unfit-first;
+        last-counts = holds.last-counts;
+        run-refused = holds.run-refused;
+        run-faults = faults.run-faults;
+        each-answered = holds.each-answered;
+        own-row = holds.own-row;
+        slots-left = holds.slots-left;
+        one-row = holds.one-row;
+        answer-said = holds.answer-said;
+        run-cases = runs.run-cases;
+      };
       printing = record {
         decimal-fewest = numbers.decimal-fewest;
         decimal-read = numbers.decimal-read;
@@ -88,11 +105,16 @@ promises =
         decide-whole = coded.decide-whole;
         record-whole = whole.record-whole;
         add-whole = whole.add-whole;
+        run-whole = whole.run-whole;
         parts-whole = coded.parts-whole;
         parts-read = coded.parts-read;
         check-read = host.check-read;
         decide-read = coded.decide-read;
         record-read = host.record-read;
         add-read = host.add-read;
+        run-read = host.run-read;
+        numbers-run = numbered.numbers-run;
+        numbers-faults = faults.numbers-faults;
+        numbers-left = numbered.numbers-left;
       };
     }

@@ -4,6 +4,7 @@ use Rattle.claims.specs.Terms.{TermsMet}
 use Rattle.claims.proofs.Promises.{promises}
 use Rattle.claims.proofs.ReadingTerms.{reading-met, adding-met}
 use Rattle.claims.proofs.DecidingTerms.{deciding-met, ordering-met}
+use Rattle.claims.proofs.RunningTerms.{running-met}
 use Rattle.claims.proofs.CallingTerms.{printing-met, calling-met}
 
 pub terms-met : Promises → TermsMet
@@ -13,6 +14,7 @@ terms-met p =
       adding = adding-met p;
       deciding = deciding-met p;
       ordering = ordering-met p;
+      running = running-met p;
       printing = printing-met p;
       calling = calling-met p;
     }

@@ -2,8 +2,8 @@
 -- it says beside it. The one proof of all is `promises` (proofs/Promises.antt), and specs/Terms.antt says what meets the claims' terms.
 --
 -- What is not here: that the code answers what the definitions say. That is each function's contract, above its body in src/:
--- `check`, `record`, `add`, `decide` and those for C each give, for every input, the answer and the bytes that a definition gives
--- (`check`, `givenRecord`, `bufferAfter`, `answer`, `decisionCode`, ..). docs/CLAIMS.md leads from each sentence of the documents to its
+-- `check`, `record`, `add`, `decide`, `run` and those for C each give, for every input, the answer and the bytes that a definition
+-- gives (`check`, `givenRecord`, `bufferAfter`, `answer`, `runOf`, `answersAfter`, `decisionCode`, ..). docs/CLAIMS.md leads from each sentence of the documents to its
 -- claim or its contract.
 use Rattle.format.specs.Claims.{AcceptedIsWellFormed, WellFormedIsAccepted, RecordsGiven, AllGiven, NoneGiven, EmptyTells, ReferencesHeld}
 use Rattle.format.specs.Longest.{LongestImage, LongestReached}
@@ -18,9 +18,11 @@ use Rattle.decision.specs.Cases.{MarkedCases, MarkedAdds, MarkedOrder}
 use Rattle.decision.specs.Clauses.{ClauseCases, RefusalCases}
 use Rattle.decision.specs.Numbers.{DecideWhole, PartsWhole, PartsRead, DecideRead}
 use Rattle.decision.specs.Rows.{RowsAnswered, SlotsStay, RowsWhole, RowAlone}
+use Rattle.runs.specs.Claims.{FitExactly, UnfitFirst, LastCounts, RunRefused, RunFaults, EachAnswered, SlotsLeft, OwnRow, OneRow, AnswerSaid, NumbersRun, NumbersLeft, NumbersFaults}
+use Rattle.runs.specs.Cases.{RunCases}
 use Rattle.lines.specs.Claims.{DecimalFewest, DecimalRead, AnyReads}
 use Rattle.lines.specs.Worked.{WorkedLines, WorkedRuns}
-use Rattle.mungaite.specs.Claims.{CheckWhole, RecordWhole, AddWhole, CheckRead, RecordRead, AddRead}
+use Rattle.mungaite.specs.Claims.{CheckWhole, RecordWhole, AddWhole, RunWhole, CheckRead, RecordRead, AddRead, RunRead}
 
 -- Demand 1: every policy that meets the layout is accepted with all its records, the last included; everything else is refused.
 pub record Reading : Type 0 where
@@ -120,6 +122,31 @@ pub record Ordering : Type 0 where
   -- and the sample with a record added
   pub marked-order : MarkedOrder
 
+-- Request 1: a run of 1 to 64 rows, each a query, on one policy.
+pub record Running : Type 0 where
+  -- a run is fit exactly when every row is Permitted
+  pub fit-exactly : FitExactly
+  -- the row that comes back is not Permitted, and every row before it is
+  pub unfit-first : UnfitFirst
+  -- the last row counts like any other
+  pub last-counts : LastCounts
+  -- a refused row does not make the call refused: only the image, and the counts of rows and of slots do
+  pub run-refused : RunRefused
+  -- the image's numbers, then 16, then 17
+  pub run-faults : RunFaults
+  -- each answer is what the single query would get, a refusal included
+  pub each-answered : EachAnswered
+  -- and depends on its own row alone
+  pub own-row : OwnRow
+  -- a refused call leaves every slot
+  pub slots-left : SlotsLeft
+  -- a run of one row answers what the single query is answered
+  pub one-row : OneRow
+  -- a slot says the whole answer
+  pub answer-said : AnswerSaid
+  -- runs on the sample, worked out from the documents
+  pub run-cases : RunCases
+
 -- The program's output.
 pub record Printing : Type 0 where
   -- a number has the fewest digits that hold it, and they read back as that number
@@ -138,6 +165,7 @@ pub record Calling : Type 0 where
   pub decide-whole : DecideWhole
   pub record-whole : RecordWhole
   pub add-whole : AddWhole
+  pub run-whole : RunWhole
   -- parts that fit are in the number as they are, and are read back from it
   pub parts-whole : PartsWhole
   pub parts-read : PartsRead
@@ -146,11 +174,17 @@ pub record Calling : Type 0 where
   pub decide-read : DecideRead
   pub record-read : RecordRead
   pub add-read : AddRead
+  pub run-read : RunRead
+  -- a run over the numbers of rows is the run over the rows; its refusals by the count of numbers, and what they leave
+  pub numbers-run : NumbersRun
+  pub numbers-faults : NumbersFaults
+  pub numbers-left : NumbersLeft
 
 pub record Promises : Type 0 where
   pub reading : Reading
   pub adding : Adding
   pub deciding : Deciding
   pub ordering : Ordering
+  pub running : Running
   pub printing : Printing
   pub calling : Calling

@@ -7,12 +7,12 @@
 --     threeQueries        document 01's first, third and fourth query, and what the program prints for them
 --     twoAndPart          two of them, and 7 bytes
 --     byBytes b           reads that bring one byte each
---     ReadingMet, AddingMet, DecidingMet, OrderingMet, PrintingMet, CallingMet   by the parts of the statement
+--     ReadingMet, AddingMet, DecidingMet, OrderingMet, RunningMet, PrintingMet, CallingMet   by the parts of the statement
 use Prim.Native.Nat.{ℕ, suc, _+_, _*_, _/_, _%_, _<_, _≤_}
 use Prim.Native.String.{String}
 use mathlib.Core.Path.{_≡_}
 use mathlib.Core.Bool.{true, false}
-use mathlib.Core.Option.{none, some}
+use mathlib.Core.Option.{Option, none, some}
 use mathlib.Core.List.{List, [], _∷_, _++_, map, List·Memᴰ}
 use lib.ListN.{length, getD, take, drop, replicate}
 use Rattle.format.specs.declared.Section.{Section}
@@ -31,14 +31,19 @@ use Rattle.format.specs.Longest.{longest}
 use Rattle.extension.specs.Add.{addFault, newNumber, bufferAfter}
 use Rattle.extension.specs.Claims.{addAll, allRecords}
 use Rattle.decision.specs.declared.Query.{Query}
+use Rattle.decision.specs.declared.Answer.{Answer}
 use Rattle.decision.specs.Sets.{anyOf, isIn, setOf, within}
 use Rattle.decision.specs.Reading.{Rule, Constraint, Request, requestOf, rulesOf}
-use Rattle.decision.specs.Decide.{covers, Decision, notPermitted, permitted, unknown, judge, decide, answer}
+use Rattle.decision.specs.Decide.{covers, Decision, notPermitted, permitted, unknown, judge, decide, answer, answerOutcome}
 use Rattle.decision.specs.Order.{height, Keeps, NoCompanion}
 use Rattle.decision.specs.Growth.{reordered, DecidedAbove}
 use Rattle.decision.specs.Cases.{g0, allow, companion, oneMember, withSpace, extended, cases}
 use Rattle.decision.specs.Tepla.{Dcs, compareDecisions, forget, evalPolicy}
 use Rattle.io.specs.Digits.{Fewest}
+use Rattle.runs.specs.Runs.{queriesFault, runOf, answerOf, answersAfter}
+use Rattle.runs.specs.Numbers.{numbersOf, numbersRun, codesAfter, runCode}
+use Rattle.runs.specs.Claims.{Permits}
+use Rattle.runs.specs.Cases.{member, group, transition, offRule, noSource, runCases}
 use Rattle.lines.specs.Lines.{width, decimal, line}
 use Rattle.lines.specs.Output.{imageSize, printed, ran}
 use Rattle.lines.specs.Claims.{readFrom}
@@ -46,7 +51,7 @@ use Rattle.lines.specs.Worked.{ascii, workedLines, asked, workedRuns}
 use Rattle.decision.specs.Numbers.{partsOf, decisionCode, hostDecision}
 use Rattle.decision.specs.Rows.{rowsIn, answered, rowAt}
 use Rattle.mungaite.specs.Code.{faultCode, recordCode, addCode}
-use Rattle.mungaite.specs.Host.{hostChecked, hostFound, hostAdded}
+use Rattle.mungaite.specs.Host.{hostChecked, hostFound, hostAdded, hostRun}
 
 abbrev pub query : ℕ → ℕ → ℕ → ℕ → Query
 query s d c a = record { source = s; dest = d; class = c; action = a }
@@ -201,6 +206,45 @@ pub record OrderingMet : Type 0 where
       (d : Decision) → answer (imageOf (reordered (policyOf (sampleAnd companion)))) (query 10 21 5 1) ≡ gives d → height d ≡ 2
   pub half-reordered : (l : List ℕ) → Bytes l → Accepted l → length (policyOf l .rules) ≤ 512 → Accepted (imageOf (reordered (policyOf l)))
 
+pub record RunningMet : Type 0 where
+  -- FitExactly: rows that are all Permitted, and back: the third row of a run that is fit
+  pub three-fit : runOf sample (member ∷ group ∷ transition ∷ []) 3 ≡ gives none
+  pub third-permits : Permits sample transition
+  -- UnfitFirst: the second row, whatever comes after it; the first, whatever it is refused with; and back
+  pub second-unfit : (q : Query) → runOf sample (member ∷ offRule ∷ q ∷ []) 3 ≡ gives (some 1)
+  pub refused-unfit : (q : Query) → runOf sample (noSource ∷ q ∷ []) 2 ≡ gives (some 0)
+  pub unfit-not :
+      (l : List ℕ) (qs : List Query) (slots n : ℕ) (other : Query) → runOf l qs slots ≡ gives (some n)
+      → (n < length qs) × (Permits l (getD qs n other) → ⊥) × ((i : ℕ) → suc i ≤ n → Permits l (getD qs i other))
+  -- LastCounts: after 63 rows that are Permitted
+  pub last-of-64 : runOf sample (replicate 63 transition ++ (offRule ∷ [])) 64 ≡ gives (some 63)
+  pub last-permits : (qs : List Query) (slots : ℕ) → runOf sample (qs ++ (offRule ∷ [])) slots ≡ gives none → ⊥
+  -- RunRefused, RunFaults: an image that is refused, whatever else; no row; 65 rows or more; a slot too few; and 64 rows
+  pub image-first : (qs : List Query) (slots : ℕ) → runOf (take 79 sample) qs slots ≡ refused (refusal 3 0)
+  pub no-row : (slots : ℕ) → runOf sample [] slots ≡ refused (refusal 16 0)
+  pub rows-65 : (qs : List Query) (slots : ℕ) → 65 ≤ length qs → runOf sample qs slots ≡ refused (refusal 16 0)
+  pub slot-missing : (q q′ : Query) → runOf sample (q ∷ q′ ∷ []) 1 ≡ refused (refusal 17 0)
+  pub rows-64 : queriesFault sample 64 64 ≡ none
+  -- EachAnswered: a refused row, the last of two; OwnRow: a row by itself
+  pub refused-row :
+      (q : Query) (y y′ : Answer) → answerOutcome (getD (answersAfter sample (q ∷ noSource ∷ []) (y ∷ y′ ∷ [])) 1 y) ≡ refused (refusal 8 0)
+  pub row-apart :
+      (l : List ℕ) (qs : List Query) (ys : List Answer) (i : ℕ) (other : Query) (y : Answer)
+      → queriesFault l (length qs) (length ys) ≡ none → i < length qs → Accepted l
+      → getD (answersAfter l qs ys) i y ≡ getD (answersAfter l (getD qs i other ∷ []) (y ∷ [])) 0 y
+  -- SlotsLeft: of 65 rows; and no slot is added or lost
+  pub slots-65 : (qs : List Query) (ys : List Answer) → 65 ≤ length qs → answersAfter sample qs ys ≡ ys
+  pub slots-many : (l : List ℕ) (qs : List Query) (ys : List Answer) → length (answersAfter l qs ys) ≡ length ys
+  -- OneRow: on an accepted image, and on one that is refused
+  pub one-said : (y : Answer) → map answerOutcome (answersAfter sample (offRule ∷ []) (y ∷ [])) ≡ gives notPermitted ∷ []
+  pub one-fit : runOf sample (transition ∷ []) 1 ≡ gives none
+  pub one-unfit : runOf sample (offRule ∷ []) 1 ≡ gives (some 0)
+  pub one-refused : (q : Query) → runOf (take 79 sample) (q ∷ []) 1 ≡ refused (refusal 3 0)
+  -- AnswerSaid: a slot that says the answer is the answer's
+  pub said-alike : (a b : Answer) → answerOutcome a ≡ answerOutcome b → a ≡ b
+  -- RunCases: all of them
+  pub run-cases-all : length runCases ≡ 19
+
 pub record PrintingMet : Type 0 where
   -- DecimalFewest, DecimalRead: the largest usize
   pub largest-fewest : Fewest 10 1 18446744073709551615 (width 18446744073709551615)
@@ -251,11 +295,26 @@ pub record CallingMet : Type 0 where
   -- AddRead: the companion's number; no room
   pub companion-read : hostAdded (addCode (withSpace sample companion) companion) ≡ gives 2
   pub no-room-read : hostAdded (addCode sample companion) ≡ refused (refusal 13 0)
+  -- RunWhole: a row that a run names; RunRead: one that is fit, one that is not, one that is refused, and a slot
+  pub row-fits : (l : List ℕ) → Bytes l → (ns : List ℕ) (slots n : ℕ) → numbersRun l ns slots ≡ gives (some n) → n ≤ 63
+  pub fit-read : hostRun (runCode (numbersRun sample (10 ∷ 21 ∷ 5 ∷ 1 ∷ 12 ∷ 20 ∷ 9 ∷ 9 ∷ []) 2)) ≡ gives none
+  pub unfit-read : hostRun (runCode (numbersRun sample (10 ∷ 21 ∷ 5 ∷ 1 ∷ 13 ∷ 21 ∷ 5 ∷ 1 ∷ []) 2)) ≡ gives (some 1)
+  pub slot-read : hostDecision (getD (codesAfter sample (10 ∷ 21 ∷ 5 ∷ 1 ∷ 12 ∷ 20 ∷ 9 ∷ 9 ∷ []) (7 ∷ 8 ∷ [])) 1 0) ≡ gives (permitted 2)
+  -- NumbersRun: the numbers of queries; NumbersFaults, NumbersLeft: three numbers, five, 260, and the slots after them
+  pub queries-run : (qs : List Query) (ys : List ℕ) → numbersRun sample (numbersOf qs) (length ys) ≡ runOf sample qs (length ys)
+  pub three-numbers : (x y z : ℕ) (ys : List ℕ) → (numbersRun sample (x ∷ y ∷ z ∷ []) (length ys) ≡ refused (refusal 16 0)) × (codesAfter sample (x ∷ y ∷ z ∷ []) ys ≡ ys)
+  pub five-numbers : (y : ℕ) → codesAfter sample (10 ∷ 21 ∷ 5 ∷ 1 ∷ 12 ∷ []) (y ∷ []) ≡ y ∷ []
+  pub five-refused : numbersRun sample (10 ∷ 21 ∷ 5 ∷ 1 ∷ 12 ∷ []) 1 ≡ refused (refusal 17 0)
+  pub numbers-260 : (ns ys : List ℕ) → 260 ≤ length ns → numbersRun sample ns (length ys) ≡ refused (refusal 16 0)
+  -- the numbers that include/mungaite.h gives: MUNGAITE_FIT, and row 0, which is 0
+  pub fit-code : runCode (gives none) ≡ 4294967296
+  pub row-code : (n : ℕ) → n ≤ 63 → runCode (gives (some n)) ≡ n
 
 pub record TermsMet : Type 0 where
   pub reading : ReadingMet
   pub adding : AddingMet
   pub deciding : DecidingMet
   pub ordering : OrderingMet
+  pub running : RunningMet
   pub printing : PrintingMet
   pub calling : CallingMet
