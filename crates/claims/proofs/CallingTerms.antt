@@ -1,15 +1,17 @@
 -- What meets the terms of the claims of the program's output and of the C interface, from the statement: no claim's own proof is
 -- cited. Assumes nothing.
 use native.Mathlib.Omega.{arith}
-use Prim.Native.Nat.{ℕ}
+use Prim.Native.Nat.{ℕ, _*_, _≤_}
+use mathlib.Core.Option.{some}
 use mathlib.Core.Path.{_≡_, subst, refl, sym, ap, ap₂, _∙_}
-use mathlib.Core.List.{List, [], _∷_}
+use mathlib.Core.List.{List, [], _∷_, map}
 use lib.ListN.{length, take}
 use Rattle.format.specs.declared.Section.the-variants.{Groups, Rules, Constraints}
 use Rattle.format.specs.Bytes.{Bytes}
-use Rattle.format.specs.Answers.{outcome, extent}
+use Rattle.format.specs.Answers.{refused, outcome, extent}
 use Rattle.format.specs.Sample.{sample}
-use Rattle.format.proofs.Chain.{orElse-next}
+use Rattle.format.proofs.Chain.{orElse-next, unless-accepted, some-not-none}
+use Rattle.format.specs.Check.{Accepted}
 use Rattle.format.specs.Refusals.{refusal}
 use Rattle.extension.specs.Add.{newNumber}
 use Rattle.decision.specs.declared.Query.{Query}
@@ -19,7 +21,7 @@ use Rattle.decision.proofs.Cases.{Answers, marked-answers}
 use Rattle.decision.specs.Numbers.{OutcomeFits, DecisionFits}
 use Rattle.mungaite.specs.Claims.{FaultFits, ExtentFits, NumberFits, RowFits}
 use Rattle.runs.specs.Runs.{runOf}
-use Rattle.runs.specs.Numbers.{numbersOf, numbersRun}
+use Rattle.runs.specs.Numbers.{numbersOf, numbersFault, numbersRun, rowCode}
 use Rattle.runs.specs.Cases.{member, transition, offRule}
 use Rattle.claims.specs.Promises.{Promises}
 use Rattle.claims.specs.Terms.{query, PrintingMet, CallingMet}
@@ -61,11 +63,17 @@ module _ (p : Promises) where
   numbers-are : (qs : List Query) (ns : List ℕ) → numbersOf qs ≡ ns → numbersRun sample ns 2 ≡ runOf sample qs 2
   numbers-are qs ns e = ap (λ x. numbersRun sample x 2) (sym e) ∙ p .calling .numbers-run sample qs (7 ∷ 8 ∷ []) .0
 
+  refused-16 : (l ns : List ℕ) (slots : ℕ) → numbersFault l (length ns) slots ≡ some (refusal 16 0) → numbersRun l ns slots ≡ refused (refusal 16 0)
+  refused-16 l ns slots = p .calling .numbers-refused l ns slots (refusal 16 0) .0
+
+  refused-17 :
+      (l ns : List ℕ) (slots : ℕ) → Accepted l → 4 ≤ length ns → length ns ≤ 259 → (length ns ≡ 4 * slots → ⊥) → numbersRun l ns slots ≡ refused (refusal 17 0)
+  refused-17 l ns slots a h k z = p .calling .numbers-refused l ns slots (refusal 17 0) .0 (p .calling .numbers-faults l .1 a .2 (length ns) slots h k z)
+
   pub calling-met : CallingMet
   calling-met =
       let c = p .calling in
       let passes = p .reading .sample-accepted .sample-passes in
-      let faults = c .numbers-faults sample .1 passes in
       let companied = p .deciding .marked-adds .companied in
       record {
         refusal-fits = λ l b f e. (let h = subst FaultFits e (c .check-whole l b) in (omega (arith, h .0), omega (arith, h .1)));
@@ -92,14 +100,23 @@ module _ (p : Promises) where
         row-fits = λ l b ns slots n e. (let h = subst (OutcomeFits RowFits) e (c .run-whole l b ns slots) in omega (arith, h));
         fit-read = c .run-read sample sample-bytes fitNumbers (7 ∷ 8 ∷ []) .0 ∙ numbers-are (member ∷ transition ∷ []) fitNumbers (run-numbers .fit) ∙ two-fit p;
         unfit-read = c .run-read sample sample-bytes unfitNumbers (7 ∷ 8 ∷ []) .0 ∙ numbers-are (member ∷ offRule ∷ []) unfitNumbers (run-numbers .unfit) ∙ two-unfit p;
-        slot-read = c .run-read sample sample-bytes fitNumbers (7 ∷ 8 ∷ []) .1 1 member (faults .3 2 (omega arith) (omega arith)) (omega (arith, run-numbers .many))
-            ∙ ap (answer sample) (run-numbers .second member)
+        slot-read = c .run-read sample sample-bytes fitNumbers (7 ∷ 8 ∷ []) .1 1 (c .numbers-faults sample .1 passes .3 2 (omega arith) (omega arith)) (omega arith)
+            ∙ ap (answer sample) (run-numbers .second)
             ∙ row-answers answers .transition-is;
-        queries-run = λ qs ys. c .numbers-run sample qs ys .0;
-        three-numbers = λ x y z ys. c .numbers-left sample (x ∷ y ∷ z ∷ []) ys .1 (refusal 16 0) (faults .0 3 (length ys) (omega arith));
-        five-numbers = λ y. c .numbers-left sample (10 ∷ 21 ∷ 5 ∷ 1 ∷ 12 ∷ []) (y ∷ []) .1 (refusal 17 0) (faults .2 5 1 (omega arith) (omega arith) (λ e. absurd (omega arith))) .1;
-        five-refused = c .numbers-left sample (10 ∷ 21 ∷ 5 ∷ 1 ∷ 12 ∷ []) (0 ∷ []) .1 (refusal 17 0) (faults .2 5 1 (omega arith) (omega arith) (λ e. absurd (omega arith))) .0;
-        numbers-260 = λ ns ys h. c .numbers-left sample ns ys .1 (refusal 16 0) (faults .1 (length ns) (length ys) h) .0;
+        queries-run = λ l qs ys. c .numbers-run l qs ys .0;
+        queries-codes = λ l qs ys e. c .numbers-run l qs ys .1 ∙ unless-accepted (map (rowCode l) qs) ys e;
+        four-numbers = λ s d k a. c .numbers-whole (s ∷ d ∷ k ∷ a ∷ []) 1 refl;
+        second-row = λ l x y z w s d k a u v e. c .numbers-answered l (x ∷ y ∷ z ∷ w ∷ s ∷ d ∷ k ∷ a ∷ []) (u ∷ v ∷ []) 1 0 (c .numbers-faults l .1 e .3 2 (omega arith) (omega arith)) (omega arith);
+        image-numbers = λ l ns slots f e. c .numbers-refused l ns slots f .0 (c .numbers-faults l .0 f (length ns) slots e);
+        numbers-3 = λ l ns slots e k. refused-16 l ns slots (c .numbers-faults l .1 e .0 (length ns) slots (omega (arith, k)));
+        numbers-5 = λ l ns e k. refused-17 l ns 1 e (omega (arith, k)) (omega (arith, k)) (λ z. absurd (omega (arith, z, k)));
+        numbers-4 = λ l ns e k. refused-17 l ns 2 e (omega (arith, k)) (omega (arith, k)) (λ z. absurd (omega (arith, z, k)));
+        numbers-259 = λ l ns e k. refused-17 l ns 64 e (omega (arith, k)) (omega (arith, k)) (λ z. absurd (omega (arith, z, k)));
+        numbers-260 = λ l ns slots e k. refused-16 l ns slots (c .numbers-faults l .1 e .1 (length ns) slots (omega (arith, k)));
+        numbers-256 = λ l ns f e k h. some-not-none
+            (sym (c .numbers-refused l ns 64 f .1 h) ∙ (let z : length ns ≡ 4 * 64 = omega (arith, k) in ap (λ n. numbersFault l n 64) z ∙ c .numbers-faults l .1 e .3 64 (omega arith) (omega arith)));
+        left-5 = λ l ns y e k. c .numbers-left l ns (y ∷ []) .1 (refusal 17 0) (refused-17 l ns 1 e (omega (arith, k)) (omega (arith, k)) (λ z. absurd (omega (arith, z, k))));
+        codes-many = λ l ns ys. c .numbers-left l ns ys .0;
         fit-code = c .parts-whole 1 0 0 (omega arith) (omega arith);
         row-code = λ n h. c .parts-whole 0 0 n (omega arith) (omega arith) ∙ omega arith;
       }

@@ -19,10 +19,9 @@ use Rattle.decision.specs.Decide.{notPermitted, permitted, unknown, answer}
 use Rattle.decision.specs.Cases.{g0, allow, companion, withSpace}
 use Rattle.decision.specs.Rows.{queryAt}
 use Rattle.format.specs.Refusals.{refusal}
-use Rattle.decision.specs.declared.Query.{Query}
 use Rattle.decision.proofs.Cases.{Answers}
 use Rattle.runs.specs.Numbers.{rowsOf, numbersOf}
-use Rattle.runs.specs.Cases.{member, group, transition, offRule, noSource, runCases}
+use Rattle.runs.specs.Cases.{member, group, transition, offRule, noSource, runCases, numberCases}
 use Rattle.lines.specs.Lines.{line}
 use Rattle.lines.specs.Output.{imageSize, printed}
 use Rattle.lines.specs.Worked.{ascii, workedLines, lineOf, lineSaid, WorkedLines, asked, workedRuns, runOf, runSaid, WorkedRuns}
@@ -137,13 +136,13 @@ unfitNumbers = 10 ∷ 21 ∷ 5 ∷ 1 ∷ 13 ∷ 21 ∷ 5 ∷ 1 ∷ []
 pub record RunNumbers : Type 0 where
   pub fit : numbersOf (member ∷ transition ∷ []) ≡ fitNumbers
   pub unfit : numbersOf (member ∷ offRule ∷ []) ≡ unfitNumbers
-  pub many : length (rowsOf fitNumbers) ≡ 2
-  pub second : (d : Query) → getD (rowsOf fitNumbers) 1 d ≡ transition
-  pub cases : length runCases ≡ 19
+  pub second : query 12 20 9 9 ≡ transition
+  pub cases : length runCases ≡ 25
+  pub number-cases : length numberCases ≡ 15
 
 pub run-numbers : RunNumbers
-unfolding member transition offRule rowsOf numbersOf runCases
-run-numbers = record { fit = refl; unfit = refl; many = refl; second = λ d. refl; cases = refl }
+unfolding member transition offRule rowsOf numbersOf runCases numberCases
+run-numbers = record { fit = refl; unfit = refl; second = refl; cases = refl; number-cases = refl }
 
 module _ (e : WorkedLines) where
   pub unknown-line : line (gives (unknown 1023 255)) ≡ ascii "U 1023 255\n"

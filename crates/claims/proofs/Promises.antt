@@ -115,6 +115,10 @@ promises =
         run-read = host.run-read;
         numbers-run = numbered.numbers-run;
         numbers-faults = faults.numbers-faults;
+        numbers-whole = numbered.numbers-whole;
+        numbers-answered = numbered.numbers-answered;
+        numbers-refused = numbered.numbers-refused;
         numbers-left = numbered.numbers-left;
+        number-cases = runs.number-cases;
       };
     }

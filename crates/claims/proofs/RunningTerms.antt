@@ -1,10 +1,10 @@
 -- What meets the terms of the claims of runs, from the statement: no claim's own proof is cited. Assumes nothing.
-use Prim.Native.Nat.{ℕ, zero, suc, _<_, _≤_}
+use Prim.Native.Nat.{ℕ, zero, suc, _+_, _≤_}
 use native.Mathlib.Omega.{arith}
-use mathlib.Core.Path.{_≡_, refl, sym, subst, ap, _∙_}
-use mathlib.Core.Option.{Option, none, some}
+use mathlib.Core.Path.{_≡_, refl, sym, ap, _∙_}
+use mathlib.Core.Option.{none, some}
 use mathlib.Core.List.{List, [], _∷_}
-use lib.ListN.{length, take, replicate, getD-replicate}
+use lib.ListN.{length, take}
 use Rattle.format.specs.declared.Refusal.{Refusal}
 use Rattle.format.specs.Refusals.{refusal}
 use Rattle.format.specs.Check.{Accepted}
@@ -13,7 +13,7 @@ use Rattle.format.specs.Sample.{sample}
 use Rattle.decision.specs.declared.Query.{Query}
 use Rattle.decision.specs.declared.Answer.{Answer}
 use Rattle.decision.specs.declared.Answer.the-variants.{NotPermitted}
-use Rattle.decision.specs.Decide.{Decision, notPermitted, permitted, answer}
+use Rattle.decision.specs.Decide.{Decision, notPermitted, permitted}
 use Rattle.decision.proofs.Cases.{marked-answers}
 use Rattle.runs.specs.Runs.{queriesFault, runOf, answerOf}
 use Rattle.runs.specs.Claims.{Permits, AllPermits}
@@ -64,47 +64,57 @@ module _ (p : Promises) where
       both (suc (suc i)) h = absurd (omega arith)
 
   pub two-unfit : runOf sample (member ∷ offRule ∷ []) 2 ≡ gives (some 1)
-  two-unfit = p .running .last-counts sample (member ∷ []) offRule 2 .0 (fits 2 (omega arith) (omega arith)) one off
+  two-unfit = p .running .last-counts sample (member ∷ []) offRule (NotPermitted ∷ NotPermitted ∷ []) NotPermitted .0 (fits 2 (omega arith) (omega arith)) one off
     where
       one : AllPermits sample (member ∷ []) offRule 1
       one zero h = (0, rows .member-is)
       one (suc i) h = absurd (omega arith)
 
-  refused-with : (qs : List Query) (slots : ℕ) (f : Refusal) → queriesFault sample (length qs) slots ≡ some f → runOf sample qs slots ≡ refused f
-  refused-with qs slots f = p .running .run-refused sample qs slots f .0
+  -- n rows and n slots on any accepted image
+  counts : (l : List ℕ) → Accepted l → (n : ℕ) → 1 ≤ n → n ≤ 64 → queriesFault l n n ≡ none
+  counts l a n h k = p .running .run-faults l .1 a .3 n h k
 
-  cut-refused : (qs : List Query) (slots : ℕ) → runOf (take 79 sample) qs slots ≡ refused (refusal 3 0)
-  cut-refused qs slots =
-      p .running .run-refused (take 79 sample) qs slots (refusal 3 0) .0
-      (p .running .run-faults (take 79 sample) .0 (refusal 3 0) (length qs) slots (p .reading .refusal-cases .cut))
+  -- one row more than qs, and as many slots
+  counts-last : (l : List ℕ) → Accepted l → (qs : List Query) (ys : List Answer) → length qs ≤ 63 → length ys ≡ suc (length qs) → queriesFault l (length qs + 1) (length ys) ≡ none
+  counts-last l a qs ys k e =
+      let z : length ys ≡ length qs + 1 = omega (arith, e) in
+      ap (queriesFault l (length qs + 1)) z ∙ counts l a (length qs + 1) (omega arith) (omega arith)
 
   pub running-met : RunningMet
   running-met =
       let r = p .running in
-      let faults = r .run-faults sample .1 passes in
-      let threeFit = r .fit-exactly sample (member ∷ group ∷ transition ∷ []) 3 member .1 (fits 3 (omega arith) (omega arith)) three in
       record {
-        three-fit = threeFit;
-        third-permits = r .fit-exactly sample (member ∷ group ∷ transition ∷ []) 3 member .0 threeFit .1 2 (omega arith);
+        fit-last = λ l qs n slots other e k. r .fit-exactly l qs slots other .0 e .1 n (omega (arith, k));
+        all-fit = λ l qs q a h k all. r .fit-exactly l qs (length qs) q .1 (counts l a (length qs) h k) all;
+        fit-counts = λ l qs slots e. r .fit-exactly l qs slots member .0 e .0;
+        three-fit = r .fit-exactly sample (member ∷ group ∷ transition ∷ []) 3 member .1 (fits 3 (omega arith) (omega arith)) three;
+        first-unfit = λ l q qs a k u. r .unfit-first l (q ∷ qs) (suc (length qs)) 0 q .1 (counts l a (suc (length qs)) (omega arith) (omega (arith, k))) (omega arith) u (λ i j. absurd (omega arith));
         second-unfit = λ q. r .unfit-first sample (member ∷ offRule ∷ q ∷ []) 3 1 member .1 (fits 3 (omega arith) (omega arith)) (omega arith) off (before-second q);
         refused-unfit = λ q. r .unfit-first sample (noSource ∷ q ∷ []) 2 0 member .1 (fits 2 (omega arith) (omega arith)) (omega arith) no-source (λ i h. absurd (omega arith));
-        unfit-not = λ l qs slots n other e. (let u = r .unfit-first l qs slots n other .0 e in (u .1, u .2, λ i h. u .3 i (omega arith)));
-        last-of-64 = r .last-counts sample (replicate 63 transition) offRule 64 .0 (fits 64 (omega arith) (omega arith))
-            (λ i h. (2, ap (answer sample) (getD-replicate 63 i transition offRule h) ∙ rows .transition-is)) off;
-        last-permits = λ qs slots e. off (r .last-counts sample qs offRule slots .1 e);
-        image-first = cut-refused;
-        no-row = λ slots. refused-with [] slots (refusal 16 0) (faults .0 slots);
-        rows-65 = λ qs slots h. refused-with qs slots (refusal 16 0) (faults .1 (length qs) slots h);
-        slot-missing = λ q q′. refused-with (q ∷ q′ ∷ []) 1 (refusal 17 0) (faults .2 2 1 (omega arith) (omega arith) (λ e. absurd (omega arith)));
-        rows-64 = fits 64 (omega arith) (omega arith);
-        refused-row = λ q y y′. r .each-answered sample (q ∷ noSource ∷ []) (y ∷ y′ ∷ []) 1 q y (fits 2 (omega arith) (omega arith)) (omega arith) ∙ rows .no-source-is;
-        row-apart = λ l qs ys i other y e k a. r .own-row l qs _ ys (y ∷ []) i 0 other y e (r .run-faults l .1 a .3 1 (omega arith) (omega arith)) k (omega arith) refl;
-        slots-65 = λ qs ys h. r .slots-left sample qs ys .1 (refusal 16 0) (faults .1 (length qs) (length ys) h);
+        unfit-not = λ l qs slots n other e. (let u = r .unfit-first l qs slots n other .0 e in (u .0, omega (arith, u .1), u .2));
+        unfit-before = λ l qs slots n other e. r .unfit-first l qs slots (suc n) other .0 e .3 n (omega arith);
+        only-unfit = λ l q y a u. r .last-counts l [] q (y ∷ []) y .0 (counts l a 1 (omega arith) (omega arith)) (λ i j. absurd (omega arith)) u;
+        last-unfit = λ l qs q ys a k e all u. r .last-counts l qs q ys NotPermitted .0 (counts-last l a qs ys k e) all u;
+        last-permits = λ qs ys e. off (r .last-counts sample qs offRule ys NotPermitted .1 e);
+        last-said = λ l qs q ys y a k e. r .last-counts l qs q ys y .2 (counts-last l a qs ys k e);
+        image-first = λ l qs slots f e. r .run-refused l qs slots f .0 (r .run-faults l .0 f (length qs) slots e);
+        no-row = λ l slots a. r .run-refused l [] slots (refusal 16 0) .0 (r .run-faults l .1 a .0 slots);
+        rows-65 = λ l qs slots a k. r .run-refused l qs slots (refusal 16 0) .0 (r .run-faults l .1 a .1 (length qs) slots (omega (arith, k)));
+        slot-few = λ l qs a k. r .run-refused l qs 63 (refusal 17 0) .0 (r .run-faults l .1 a .2 (length qs) 63 (omega (arith, k)) (omega (arith, k)) (λ e. absurd (omega (arith, e, k))));
+        slot-many = λ l q a. r .run-refused l (q ∷ []) 2 (refusal 17 0) .0 (r .run-faults l .1 a .2 1 2 (omega arith) (omega arith) (λ e. absurd (omega (arith, e))));
+        rows-64 = λ l a. counts l a 64 (omega arith) (omega arith);
+        refused-counts = λ l qs slots f. r .run-refused l qs slots f .1;
+        refused-said = λ l q q′ f y y′ a e. r .each-answered l (q ∷ q′ ∷ []) (y ∷ y′ ∷ []) 1 q y (counts l a 2 (omega arith) (omega arith)) (omega arith) ∙ e;
+        places-changed = λ l q q′ y y′ a.
+            r .own-row l (q ∷ q′ ∷ []) (q′ ∷ q ∷ []) (y ∷ y ∷ []) (y′ ∷ y′ ∷ []) 0 1 q y (counts l a 2 (omega arith) (omega arith)) (counts l a 2 (omega arith) (omega arith)) (omega arith) (omega arith) refl;
+        row-apart = λ l qs ys i other y e k a. r .own-row l qs _ ys (y ∷ []) i 0 other y e (counts l a 1 (omega arith) (omega arith)) k (omega arith) refl;
+        image-left = λ l qs ys f e. r .slots-left l qs ys .1 f (r .run-refused l qs (length ys) f .0 (r .run-faults l .0 f (length qs) (length ys) e));
+        slots-65 = λ qs ys k. r .slots-left sample qs ys .1 (refusal 16 0) (r .run-refused sample qs (length ys) (refusal 16 0) .0 (r .run-faults sample .1 passes .1 (length qs) (length ys) (omega (arith, k))));
         slots-many = λ l qs ys. r .slots-left l qs ys .0;
         one-said = λ y. r .one-row sample offRule y .0 passes ∙ ap (λ o. o ∷ []) (rows .off-is);
         one-fit = r .one-row sample transition NotPermitted .1 (2, rows .transition-is);
         one-unfit = r .one-row sample offRule NotPermitted .2 passes off;
-        one-refused = λ q. r .one-row (take 79 sample) q NotPermitted .3 (refusal 3 0) (p .reading .refusal-cases .cut) .0;
+        one-refused = λ q y. (let o = r .one-row (take 79 sample) q y .3 (refusal 3 0) (p .reading .refusal-cases .cut) in (o .0, o .2));
         said-alike = λ a b e. sym (r .answer-said .1 a) ∙ ap answerOf e ∙ r .answer-said .1 b;
-        run-cases-all = run-numbers .cases;
+        run-cases-all = (run-numbers .cases, run-numbers .number-cases);
       }

@@ -18,8 +18,8 @@ use Rattle.decision.specs.Cases.{MarkedCases, MarkedAdds, MarkedOrder}
 use Rattle.decision.specs.Clauses.{ClauseCases, RefusalCases}
 use Rattle.decision.specs.Numbers.{DecideWhole, PartsWhole, PartsRead, DecideRead}
 use Rattle.decision.specs.Rows.{RowsAnswered, SlotsStay, RowsWhole, RowAlone}
-use Rattle.runs.specs.Claims.{FitExactly, UnfitFirst, LastCounts, RunRefused, RunFaults, EachAnswered, SlotsLeft, OwnRow, OneRow, AnswerSaid, NumbersRun, NumbersLeft, NumbersFaults}
-use Rattle.runs.specs.Cases.{RunCases}
+use Rattle.runs.specs.Claims.{FitExactly, UnfitFirst, LastCounts, RunRefused, RunFaults, EachAnswered, SlotsLeft, OwnRow, OneRow, AnswerSaid, NumbersRun, NumbersWhole, NumbersAnswered, NumbersRefused, NumbersLeft, NumbersFaults}
+use Rattle.runs.specs.Cases.{RunCases, NumberCases}
 use Rattle.lines.specs.Claims.{DecimalFewest, DecimalRead, AnyReads}
 use Rattle.lines.specs.Worked.{WorkedLines, WorkedRuns}
 use Rattle.mungaite.specs.Claims.{CheckWhole, RecordWhole, AddWhole, RunWhole, CheckRead, RecordRead, AddRead, RunRead}
@@ -175,10 +175,17 @@ pub record Calling : Type 0 where
   pub record-read : RecordRead
   pub add-read : AddRead
   pub run-read : RunRead
-  -- a run over the numbers of rows is the run over the rows; its refusals by the count of numbers, and what they leave
+  -- a run over the numbers of rows is the run over the rows, and every list of whole rows is such numbers
   pub numbers-run : NumbersRun
+  pub numbers-whole : NumbersWhole
+  -- each slot holds the number of the answer to its four numbers
+  pub numbers-answered : NumbersAnswered
+  -- the refusals by the count of numbers, nothing else is refused, and a refused call leaves every slot
   pub numbers-faults : NumbersFaults
+  pub numbers-refused : NumbersRefused
   pub numbers-left : NumbersLeft
+  -- calls on the sample, worked out from the documents
+  pub number-cases : NumberCases
 
 pub record Promises : Type 0 where
   pub reading : Reading

@@ -40,10 +40,10 @@ use Rattle.decision.specs.Growth.{reordered, DecidedAbove}
 use Rattle.decision.specs.Cases.{g0, allow, companion, oneMember, withSpace, extended, cases}
 use Rattle.decision.specs.Tepla.{Dcs, compareDecisions, forget, evalPolicy}
 use Rattle.io.specs.Digits.{Fewest}
-use Rattle.runs.specs.Runs.{queriesFault, runOf, answerOf, answersAfter}
-use Rattle.runs.specs.Numbers.{numbersOf, numbersRun, codesAfter, runCode}
+use Rattle.runs.specs.Runs.{queriesFault, runOf, answersAfter}
+use Rattle.runs.specs.Numbers.{rowsOf, numbersOf, numbersRun, rowCode, codesAfter, runCode}
 use Rattle.runs.specs.Claims.{Permits}
-use Rattle.runs.specs.Cases.{member, group, transition, offRule, noSource, runCases}
+use Rattle.runs.specs.Cases.{member, group, transition, offRule, noSource, runCases, numberCases}
 use Rattle.lines.specs.Lines.{width, decimal, line}
 use Rattle.lines.specs.Output.{imageSize, printed, ran}
 use Rattle.lines.specs.Claims.{readFrom}
@@ -207,43 +207,70 @@ pub record OrderingMet : Type 0 where
   pub half-reordered : (l : List ℕ) → Bytes l → Accepted l → length (policyOf l .rules) ≤ 512 → Accepted (imageOf (reordered (policyOf l)))
 
 pub record RunningMet : Type 0 where
-  -- FitExactly: rows that are all Permitted, and back: the third row of a run that is fit
+  -- FitExactly: the last of any number of rows; 1 to 64 of them; and such a run is not refused
+  pub fit-last :
+      (l : List ℕ) (qs : List Query) (n slots : ℕ) (other : Query) → runOf l qs slots ≡ gives none → length qs ≡ suc n → Permits l (getD qs n other)
+  pub all-fit :
+      (l : List ℕ) (qs : List Query) (q : Query) → Accepted l → 1 ≤ length qs → length qs ≤ 64
+      → ((i : ℕ) → i < length qs → Permits l (getD qs i q)) → runOf l qs (length qs) ≡ gives none
+  pub fit-counts : (l : List ℕ) (qs : List Query) (slots : ℕ) → runOf l qs slots ≡ gives none → queriesFault l (length qs) slots ≡ none
+  -- and on the sample
   pub three-fit : runOf sample (member ∷ group ∷ transition ∷ []) 3 ≡ gives none
-  pub third-permits : Permits sample transition
-  -- UnfitFirst: the second row, whatever comes after it; the first, whatever it is refused with; and back
+  -- UnfitFirst: row 0, whatever follows; row 1 of the sample's; the row that comes back, the one before it, and that it is one of them
+  pub first-unfit :
+      (l : List ℕ) (q : Query) (qs : List Query) → Accepted l → length qs ≤ 63 → (Permits l q → ⊥)
+      → runOf l (q ∷ qs) (suc (length qs)) ≡ gives (some 0)
   pub second-unfit : (q : Query) → runOf sample (member ∷ offRule ∷ q ∷ []) 3 ≡ gives (some 1)
   pub refused-unfit : (q : Query) → runOf sample (noSource ∷ q ∷ []) 2 ≡ gives (some 0)
   pub unfit-not :
       (l : List ℕ) (qs : List Query) (slots n : ℕ) (other : Query) → runOf l qs slots ≡ gives (some n)
-      → (n < length qs) × (Permits l (getD qs n other) → ⊥) × ((i : ℕ) → suc i ≤ n → Permits l (getD qs i other))
-  -- LastCounts: after 63 rows that are Permitted
-  pub last-of-64 : runOf sample (replicate 63 transition ++ (offRule ∷ [])) 64 ≡ gives (some 63)
-  pub last-permits : (qs : List Query) (slots : ℕ) → runOf sample (qs ++ (offRule ∷ [])) slots ≡ gives none → ⊥
-  -- RunRefused, RunFaults: an image that is refused, whatever else; no row; 65 rows or more; a slot too few; and 64 rows
-  pub image-first : (qs : List Query) (slots : ℕ) → runOf (take 79 sample) qs slots ≡ refused (refusal 3 0)
-  pub no-row : (slots : ℕ) → runOf sample [] slots ≡ refused (refusal 16 0)
-  pub rows-65 : (qs : List Query) (slots : ℕ) → 65 ≤ length qs → runOf sample qs slots ≡ refused (refusal 16 0)
-  pub slot-missing : (q q′ : Query) → runOf sample (q ∷ q′ ∷ []) 1 ≡ refused (refusal 17 0)
-  pub rows-64 : queriesFault sample 64 64 ≡ none
-  -- EachAnswered: a refused row, the last of two; OwnRow: a row by itself
-  pub refused-row :
-      (q : Query) (y y′ : Answer) → answerOutcome (getD (answersAfter sample (q ∷ noSource ∷ []) (y ∷ y′ ∷ [])) 1 y) ≡ refused (refusal 8 0)
+      → (queriesFault l (length qs) slots ≡ none) × (suc n ≤ length qs) × (Permits l (getD qs n other) → ⊥)
+  pub unfit-before :
+      (l : List ℕ) (qs : List Query) (slots n : ℕ) (other : Query) → runOf l qs slots ≡ gives (some (suc n)) → Permits l (getD qs n other)
+  -- LastCounts: where it is the only row, and the 64th; of a fit run; and what it is answered
+  pub only-unfit : (l : List ℕ) (q : Query) (y : Answer) → Accepted l → (Permits l q → ⊥) → runOf l (q ∷ []) 1 ≡ gives (some 0)
+  pub last-unfit :
+      (l : List ℕ) (qs : List Query) (q : Query) (ys : List Answer) → Accepted l → length qs ≤ 63 → length ys ≡ suc (length qs)
+      → ((i : ℕ) → i < length qs → Permits l (getD qs i q)) → (Permits l q → ⊥) → runOf l (qs ++ (q ∷ [])) (length ys) ≡ gives (some (length qs))
+  pub last-permits : (qs : List Query) (ys : List Answer) → runOf sample (qs ++ (offRule ∷ [])) (length ys) ≡ gives none → ⊥
+  pub last-said :
+      (l : List ℕ) (qs : List Query) (q : Query) (ys : List Answer) (y : Answer) → Accepted l → length qs ≤ 63 → length ys ≡ suc (length qs)
+      → answerOutcome (getD (answersAfter l (qs ++ (q ∷ [])) ys) (length qs) y) ≡ answer l q
+  -- RunRefused, RunFaults: an image that is refused; none, 65 rows, a slot too few, one too many; 64 rows; and nothing else
+  pub image-first : (l : List ℕ) (qs : List Query) (slots : ℕ) (f : Refusal) → check l ≡ some f → runOf l qs slots ≡ refused f
+  pub no-row : (l : List ℕ) (slots : ℕ) → Accepted l → runOf l [] slots ≡ refused (refusal 16 0)
+  pub rows-65 : (l : List ℕ) (qs : List Query) (slots : ℕ) → Accepted l → length qs ≡ 65 → runOf l qs slots ≡ refused (refusal 16 0)
+  pub slot-few : (l : List ℕ) (qs : List Query) → Accepted l → length qs ≡ 64 → runOf l qs 63 ≡ refused (refusal 17 0)
+  pub slot-many : (l : List ℕ) (q : Query) → Accepted l → runOf l (q ∷ []) 2 ≡ refused (refusal 17 0)
+  pub rows-64 : (l : List ℕ) → Accepted l → queriesFault l 64 64 ≡ none
+  pub refused-counts :
+      (l : List ℕ) (qs : List Query) (slots : ℕ) (f : Refusal) → runOf l qs slots ≡ refused f → queriesFault l (length qs) slots ≡ some f
+  -- EachAnswered: a refused row's slot; OwnRow: two rows that change places, and a row by itself
+  pub refused-said :
+      (l : List ℕ) (q q′ : Query) (f : Refusal) (y y′ : Answer) → Accepted l → answer l q′ ≡ refused f
+      → answerOutcome (getD (answersAfter l (q ∷ q′ ∷ []) (y ∷ y′ ∷ [])) 1 y) ≡ refused f
+  pub places-changed :
+      (l : List ℕ) (q q′ : Query) (y y′ : Answer) → Accepted l
+      → getD (answersAfter l (q ∷ q′ ∷ []) (y ∷ y ∷ [])) 0 y ≡ getD (answersAfter l (q′ ∷ q ∷ []) (y′ ∷ y′ ∷ [])) 1 y
   pub row-apart :
       (l : List ℕ) (qs : List Query) (ys : List Answer) (i : ℕ) (other : Query) (y : Answer)
       → queriesFault l (length qs) (length ys) ≡ none → i < length qs → Accepted l
       → getD (answersAfter l qs ys) i y ≡ getD (answersAfter l (getD qs i other ∷ []) (y ∷ [])) 0 y
-  -- SlotsLeft: of 65 rows; and no slot is added or lost
-  pub slots-65 : (qs : List Query) (ys : List Answer) → 65 ≤ length qs → answersAfter sample qs ys ≡ ys
+  -- SlotsLeft: on an image that is refused; of 65 rows; no slot is added or lost
+  pub image-left : (l : List ℕ) (qs : List Query) (ys : List Answer) (f : Refusal) → check l ≡ some f → answersAfter l qs ys ≡ ys
+  pub slots-65 : (qs : List Query) (ys : List Answer) → length qs ≡ 65 → answersAfter sample qs ys ≡ ys
   pub slots-many : (l : List ℕ) (qs : List Query) (ys : List Answer) → length (answersAfter l qs ys) ≡ length ys
   -- OneRow: on an accepted image, and on one that is refused
   pub one-said : (y : Answer) → map answerOutcome (answersAfter sample (offRule ∷ []) (y ∷ [])) ≡ gives notPermitted ∷ []
   pub one-fit : runOf sample (transition ∷ []) 1 ≡ gives none
   pub one-unfit : runOf sample (offRule ∷ []) 1 ≡ gives (some 0)
-  pub one-refused : (q : Query) → runOf (take 79 sample) (q ∷ []) 1 ≡ refused (refusal 3 0)
+  pub one-refused :
+      (q : Query) (y : Answer)
+      → (runOf (take 79 sample) (q ∷ []) 1 ≡ refused (refusal 3 0)) × (answersAfter (take 79 sample) (q ∷ []) (y ∷ []) ≡ y ∷ [])
   -- AnswerSaid: a slot that says the answer is the answer's
   pub said-alike : (a b : Answer) → answerOutcome a ≡ answerOutcome b → a ≡ b
-  -- RunCases: all of them
-  pub run-cases-all : length runCases ≡ 19
+  -- RunCases, NumberCases: all of them
+  pub run-cases-all : (length runCases ≡ 25) × (length numberCases ≡ 15)
 
 pub record PrintingMet : Type 0 where
   -- DecimalFewest, DecimalRead: the largest usize
@@ -295,17 +322,31 @@ pub record CallingMet : Type 0 where
   -- AddRead: the companion's number; no room
   pub companion-read : hostAdded (addCode (withSpace sample companion) companion) ≡ gives 2
   pub no-room-read : hostAdded (addCode sample companion) ≡ refused (refusal 13 0)
-  -- RunWhole: a row that a run names; RunRead: one that is fit, one that is not, one that is refused, and a slot
+  -- RunWhole: a row that a run names; RunRead: one that is fit, one that is not, and a slot
   pub row-fits : (l : List ℕ) → Bytes l → (ns : List ℕ) (slots n : ℕ) → numbersRun l ns slots ≡ gives (some n) → n ≤ 63
   pub fit-read : hostRun (runCode (numbersRun sample (10 ∷ 21 ∷ 5 ∷ 1 ∷ 12 ∷ 20 ∷ 9 ∷ 9 ∷ []) 2)) ≡ gives none
   pub unfit-read : hostRun (runCode (numbersRun sample (10 ∷ 21 ∷ 5 ∷ 1 ∷ 13 ∷ 21 ∷ 5 ∷ 1 ∷ []) 2)) ≡ gives (some 1)
   pub slot-read : hostDecision (getD (codesAfter sample (10 ∷ 21 ∷ 5 ∷ 1 ∷ 12 ∷ 20 ∷ 9 ∷ 9 ∷ []) (7 ∷ 8 ∷ [])) 1 0) ≡ gives (permitted 2)
-  -- NumbersRun: the numbers of queries; NumbersFaults, NumbersLeft: three numbers, five, 260, and the slots after them
-  pub queries-run : (qs : List Query) (ys : List ℕ) → numbersRun sample (numbersOf qs) (length ys) ≡ runOf sample qs (length ys)
-  pub three-numbers : (x y z : ℕ) (ys : List ℕ) → (numbersRun sample (x ∷ y ∷ z ∷ []) (length ys) ≡ refused (refusal 16 0)) × (codesAfter sample (x ∷ y ∷ z ∷ []) ys ≡ ys)
-  pub five-numbers : (y : ℕ) → codesAfter sample (10 ∷ 21 ∷ 5 ∷ 1 ∷ 12 ∷ []) (y ∷ []) ≡ y ∷ []
-  pub five-refused : numbersRun sample (10 ∷ 21 ∷ 5 ∷ 1 ∷ 12 ∷ []) 1 ≡ refused (refusal 17 0)
-  pub numbers-260 : (ns ys : List ℕ) → 260 ≤ length ns → numbersRun sample ns (length ys) ≡ refused (refusal 16 0)
+  -- NumbersRun, NumbersWhole: the numbers of queries, and four numbers that are one
+  pub queries-run : (l : List ℕ) (qs : List Query) (ys : List ℕ) → numbersRun l (numbersOf qs) (length ys) ≡ runOf l qs (length ys)
+  pub queries-codes :
+      (l : List ℕ) (qs : List Query) (ys : List ℕ) → queriesFault l (length qs) (length ys) ≡ none
+      → codesAfter l (numbersOf qs) ys ≡ map (rowCode l) qs
+  pub four-numbers : (s d c a : ℕ) → numbersOf (rowsOf (s ∷ d ∷ c ∷ a ∷ [])) ≡ s ∷ d ∷ c ∷ a ∷ []
+  -- NumbersAnswered: the second row's four numbers
+  pub second-row :
+      (l : List ℕ) (x y z w s d c a u v : ℕ) → Accepted l
+      → getD (codesAfter l (x ∷ y ∷ z ∷ w ∷ s ∷ d ∷ c ∷ a ∷ []) (u ∷ v ∷ [])) 1 0 ≡ decisionCode (answer l (query s d c a))
+  -- NumbersRefused, NumbersFaults, NumbersLeft: 3, 5, 259 and 260 numbers, a slot too many; 256; a refused image; the slots after them
+  pub image-numbers : (l ns : List ℕ) (slots : ℕ) (f : Refusal) → check l ≡ some f → numbersRun l ns slots ≡ refused f
+  pub numbers-3 : (l ns : List ℕ) (slots : ℕ) → Accepted l → length ns ≡ 3 → numbersRun l ns slots ≡ refused (refusal 16 0)
+  pub numbers-5 : (l ns : List ℕ) → Accepted l → length ns ≡ 5 → numbersRun l ns 1 ≡ refused (refusal 17 0)
+  pub numbers-4 : (l ns : List ℕ) → Accepted l → length ns ≡ 4 → numbersRun l ns 2 ≡ refused (refusal 17 0)
+  pub numbers-259 : (l ns : List ℕ) → Accepted l → length ns ≡ 259 → numbersRun l ns 64 ≡ refused (refusal 17 0)
+  pub numbers-260 : (l ns : List ℕ) (slots : ℕ) → Accepted l → length ns ≡ 260 → numbersRun l ns slots ≡ refused (refusal 16 0)
+  pub numbers-256 : (l ns : List ℕ) (f : Refusal) → Accepted l → length ns ≡ 256 → numbersRun l ns 64 ≡ refused f → ⊥
+  pub left-5 : (l ns : List ℕ) (y : ℕ) → Accepted l → length ns ≡ 5 → codesAfter l ns (y ∷ []) ≡ y ∷ []
+  pub codes-many : (l ns ys : List ℕ) → length (codesAfter l ns ys) ≡ length ys
   -- the numbers that include/mungaite.h gives: MUNGAITE_FIT, and row 0, which is 0
   pub fit-code : runCode (gives none) ≡ 4294967296
   pub row-code : (n : ℕ) → n ≤ 63 → runCode (gives (some n)) ≡ n

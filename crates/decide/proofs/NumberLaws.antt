@@ -14,11 +14,11 @@ use lib.ListN.{length, getD, set, length-map, List·getD-map}
 use lib.Dec.{eqb}
 use Rattle.format.specs.declared.Refusal.{Refusal}
 use Rattle.decision.specs.declared.Query.{Query}
-use Rattle.decision.specs.Decide.{answerOutcome}
+use Rattle.decision.specs.Decide.{answerOutcome, queryOf}
 use Rattle.decision.specs.Numbers.{decisionCode}
 use Rattle.runs.specs.declared.Run.{Run}
 use Rattle.runs.specs.Runs.{runFault}
-use Rattle.runs.specs.Numbers.{queryOf, rowsOf, numbersFault, rowCode}
+use Rattle.runs.specs.Numbers.{rowsOf, numbersFault, rowCode}
 use Rattle.runs.specs.Inner.Progress.{runSaid, rowsFor, rowAt}
 use Rattle.runs.proofs.Fill.{fill, fill-next}
 use Rattle.runs.proofs.Faults.{numbers-fault, same-count, few-numbers}

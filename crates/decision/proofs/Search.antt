@@ -2,7 +2,10 @@
 --     anyOf-intro, anyOf-elim     some element passes: both ways
 --     allOf-intro, allOf-elim     each passes: both ways
 --     firstAt-some, firstAt-some-intro   the first is the lowest: both ways
---     lowest-inside               the lowest is one of the list
+--     lowest-inside, lowest-at, lowest-intro   the lowest is one of the list, and passes: by its place, both ways
+--     none-at, none-intro         none of the first n passes: by their places, both ways
+--     firstAt-nil, firstAt-next   the first of none, and of one element more
+--     orNow o i b                 what is found, where it was o before and the element i passes or not
 --     firstAt-any                 there is a first where some element passes
 --     firstAt-none, firstAt-none-intro   there is no first: both ways
 --     anyOf-map, firstAt-map      over a map
@@ -13,7 +16,8 @@ use mathlib.Core.Path.{_≡_, refl, sym, subst, ap, _∙_}
 use mathlib.Core.Bool.{Bool, true, false, _||_, cond}
 use mathlib.Core.Option.{Option, none, some}
 use mathlib.Core.List.{List, [], _∷_, map, List·Memᴰ, List·Memᴰ·head, List·Memᴰ·tail}
-use lib.ListN.{length, take}
+use native.Mathlib.Nat.{not-suc-le-zero, le-of-suc-le-suc}
+use lib.ListN.{length, getD, take}
 use Rattle.format.proofs.Chain.{some-not-none}
 use Rattle.format.proofs.Tests.{both, and-true, either, neither, or-left, or-right, false-not-true, true-not-false}
 use Rattle.decision.specs.Sets.{anyOf, allOf}
@@ -23,6 +27,10 @@ use Rattle.decision.specs.Lowest.{Lowest}
 unfoldable pub isFound : Option ℕ → Bool
 isFound none = false
 isFound (some n) = true
+
+abbrev pub orNow : Option ℕ → ℕ → Bool → Option ℕ
+orNow none i b = cond b (some i) none
+orNow (some n) i b = some n
 
 module _ {A : Type 0} (f : A → Bool) where
   pub anyOf-intro : {x : A} {xs : List A} → List·Memᴰ x xs → f x ≡ true → anyOf f xs ≡ true
@@ -81,6 +89,51 @@ module _ {A : Type 0} (f : A → Bool) where
   lowest-inside (x ∷ xs) (suc n) h =
       let r = lowest-inside xs n (record { here = h .here; before = neither (f x) (anyOf f (take n xs)) (h .before) .1 }) in
       omega arith
+
+  pub lowest-at : (xs : List A) (n : ℕ) (d : A) → Lowest f xs n → f (getD xs n d) ≡ true
+  unfolding anyOf
+  lowest-at [] zero d h = false-not-true (h .here)
+  lowest-at [] (suc n) d h = false-not-true (h .here)
+  lowest-at (x ∷ xs) zero d h = either (f x) false (h .here) (λ u. u) (λ u. false-not-true u)
+  lowest-at (x ∷ xs) (suc n) d h = lowest-at xs n d (record { here = h .here; before = neither (f x) (anyOf f (take n xs)) (h .before) .1 })
+
+  pub lowest-intro : (xs : List A) (n : ℕ) (d : A) → n < length xs → f (getD xs n d) ≡ true → anyOf f (take n xs) ≡ false → Lowest f xs n
+  unfolding anyOf
+  lowest-intro [] n d l t h = absurd (not-suc-le-zero l)
+  lowest-intro (x ∷ xs) zero d l t h = record { here = simp t; before = refl }
+  lowest-intro (x ∷ xs) (suc n) d l t h =
+      let s = neither (f x) (anyOf f (take n xs)) h in
+      let r = lowest-intro xs n d (le-of-suc-le-suc l) t (s .1) in
+      record { here = r .here; before = h }
+
+  pub none-at : (xs : List A) (n i : ℕ) (d : A) → anyOf f (take n xs) ≡ false → i < n → i < length xs → f (getD xs i d) ≡ false
+  unfolding anyOf
+  none-at [] n i d h l m = absurd (not-suc-le-zero m)
+  none-at (x ∷ xs) zero i d h l m = absurd (not-suc-le-zero l)
+  none-at (x ∷ xs) (suc n) zero d h l m = neither (f x) (anyOf f (take n xs)) h .0
+  none-at (x ∷ xs) (suc n) (suc i) d h l m = none-at xs n i d (neither (f x) (anyOf f (take n xs)) h .1) (le-of-suc-le-suc l) (le-of-suc-le-suc m)
+
+  pub none-intro : (xs : List A) (n : ℕ) (d : A) → ((i : ℕ) → i < n → i < length xs → f (getD xs i d) ≡ false) → anyOf f (take n xs) ≡ false
+  unfolding anyOf
+  none-intro xs zero d h = refl
+  none-intro [] (suc n) d h = refl
+  none-intro (x ∷ xs) (suc n) d h = rw (h 0 (omega arith) (omega arith), none-intro xs n d (λ i l m. h (suc i) (omega (arith, l)) (omega (arith, m)))) refl
+
+  pub firstAt-nil : (n : ℕ) → firstAt f n [] ≡ none
+  unfolding firstAt
+  firstAt-nil n = refl
+
+  pub firstAt-next : (xs : List A) (k j i : ℕ) (d : A) → j ≡ k + i → i < length xs → orNow (firstAt f k (take i xs)) j (f (getD xs i d)) ≡ firstAt f k (take (suc i) xs)
+  unfolding firstAt
+  firstAt-next [] k j i d e l = absurd (not-suc-le-zero l)
+  firstAt-next (x ∷ xs) k j zero d e l = let z : j ≡ k = omega (arith, e) in ap (λ (m : ℕ). cond (f x) (some m) none) z
+  firstAt-next (x ∷ xs) k j (suc i) d e l = go (f x) (firstAt-next xs (suc k) j i d (omega (arith, e)) (le-of-suc-le-suc l))
+    where
+      go :
+          (b : Bool) → orNow (firstAt f (suc k) (take i xs)) j (f (getD xs i d)) ≡ firstAt f (suc k) (take (suc i) xs)
+          → orNow (cond b (some k) (firstAt f (suc k) (take i xs))) j (f (getD xs i d)) ≡ cond b (some k) (firstAt f (suc k) (take (suc i) xs))
+      go true h = refl
+      go false h = h
 
   pub firstAt-any : (n : ℕ) (xs : List A) → isFound (firstAt f n xs) ≡ anyOf f xs
   unfolding firstAt anyOf isFound

@@ -14,6 +14,7 @@
 --     queryFault g q      refusals 8 and 9, where there are g groups
 --     answerFault l q     refusals 1 to 7, then 8 and 9
 --     answer l q          the engine's answer, for any bytes and any query
+--     queryOf s d c a     a query of four numbers
 --     answerOutcome r     what an `Answer` says
 --     Valid l q           the query's types are type fields of the image
 use Prim.Native.Nat.{ℕ, suc}
@@ -111,6 +112,9 @@ answerOutcome NotPermitted = gives notPermitted
 answerOutcome (Permitted r) = gives (permitted r)
 answerOutcome (UnKnown r c) = gives (unknown r c)
 answerOutcome (Refused f) = refused f
+
+abbrev pub queryOf : ℕ → ℕ → ℕ → ℕ → Query
+queryOf s d c a = record { source = s; dest = d; class = c; action = a }
 
 abbrev pub Valid : List ℕ → Query → Type 0
 Valid l q = (isType (countOf l Groups) (q .source) ≡ true) × (isType (countOf l Groups) (q .dest) ≡ true)

@@ -1,6 +1,6 @@
 -- What a host reads from a number is the answer: claims CheckRead, RecordRead, AddRead, RunRead. Each follows from the claim
 -- that no part is cut and from PartsRead alone. Assumes nothing.
-use Prim.Native.Nat.{ℕ}
+use Prim.Native.Nat.{ℕ, _+_, _*_}
 use mathlib.Core.Path.{_≡_, refl, ap, _∙_}
 use mathlib.Core.Option.{Option, none, some}
 use native.Mathlib.Omega.{arith}
@@ -15,11 +15,11 @@ use Rattle.format.specs.Answers.{Outcome, refused, gives, outcome, extent}
 use Rattle.format.specs.Give.{giveFault}
 use Rattle.extension.specs.Add.{addFault, newNumber}
 use Rattle.decision.specs.Numbers.{partsOf, codeOf, OutcomeFits}
+use Rattle.decision.specs.Decide.{queryOf}
 use Rattle.decision.specs.Numbers.{hostDecision}
 use Rattle.decision.proofs.Numbers.{parts-read, refused-kind, refused-back, decide-read}
-use Rattle.runs.specs.Numbers.{rowsOf, numbersRun, runCode}
-use Rattle.runs.proofs.Numbered.{code-at}
-use Rattle.runs.proofs.Holds.{row-code-is}
+use Rattle.runs.specs.Numbers.{numbersRun, runCode}
+use Rattle.runs.proofs.Numbered.{numbers-answered}
 use Rattle.mungaite.specs.Code.{faultCode, extentCode, recordIn, recordCode, addCode}
 use Rattle.mungaite.specs.Host.{sectionNumber, hostChecked, hostFound, hostAdded, hostRun}
 use Rattle.mungaite.specs.Claims.{FaultFits, ExtentFits, NumberFits, RowFits, CheckRead, RecordRead, AddRead, RunRead}
@@ -78,5 +78,5 @@ run-back (gives (some n)) h =
 pub run-read : RunRead
 run-read l b ns ys = (
   run-back (numbersRun l ns (length ys)) (run-whole l b ns (length ys)),
-  λ i other e k. ap hostDecision (code-at l ns ys i other e k ∙ row-code-is l (getD (rowsOf ns) i other)) ∙ decide-read l b (getD (rowsOf ns) i other),
+  λ i e k. ap hostDecision (numbers-answered l ns ys i 0 e k) ∙ decide-read l b (queryOf (getD ns (4 * i) 0) (getD ns (4 * i + 1) 0) (getD ns (4 * i + 2) 0) (getD ns (4 * i + 3) 0)),
 )

@@ -11,7 +11,7 @@
 -- So what a host reads from the number is the answer itself, of every image of bytes:
 --     CheckRead, RecordRead, AddRead   by each of the other functions
 --     RunRead             by a run, and in the slot of each of its rows
-use Prim.Native.Nat.{ℕ, _≤_, _<_}
+use Prim.Native.Nat.{ℕ, _+_, _*_, _≤_, _<_}
 use mathlib.Core.Path.{_≡_}
 use mathlib.Core.Option.{Option, none, some}
 use mathlib.Core.List.{List}
@@ -25,10 +25,9 @@ use Rattle.format.specs.Check.{check}
 use Rattle.format.specs.Answers.{outcome, extent}
 use Rattle.format.specs.Give.{giveFault}
 use Rattle.extension.specs.Add.{addFault, newNumber}
-use Rattle.decision.specs.declared.Query.{Query}
-use Rattle.decision.specs.Decide.{answer}
+use Rattle.decision.specs.Decide.{answer, queryOf}
 use Rattle.decision.specs.Numbers.{Part, RefusalFits, OutcomeFits, hostDecision}
-use Rattle.runs.specs.Numbers.{rowsOf, numbersFault, numbersRun, codesAfter, runCode}
+use Rattle.runs.specs.Numbers.{numbersFault, numbersRun, codesAfter, runCode}
 use Rattle.mungaite.specs.Code.{faultCode, recordCode, addCode}
 use Rattle.mungaite.specs.Host.{sectionNumber, hostChecked, hostFound, hostAdded, hostRun}
 
@@ -77,5 +76,6 @@ abbrev pub RunRead : Type 0
 RunRead =
     (l : List ℕ) → Bytes l → (ns ys : List ℕ)
     → (hostRun (runCode (numbersRun l ns (length ys))) ≡ numbersRun l ns (length ys))
-    × ((i : ℕ) (other : Query) → numbersFault l (length ns) (length ys) ≡ none → i < length (rowsOf ns)
-    → hostDecision (getD (codesAfter l ns ys) i 0) ≡ answer l (getD (rowsOf ns) i other))
+    × ((i : ℕ) → numbersFault l (length ns) (length ys) ≡ none → i < length ys
+    → hostDecision (getD (codesAfter l ns ys) i 0)
+    ≡ answer l (queryOf (getD ns (4 * i) 0) (getD ns (4 * i + 1) 0) (getD ns (4 * i + 2) 0) (getD ns (4 * i + 3) 0)))

@@ -17,7 +17,6 @@ use Rattle.format.specs.Check.{check}
 use Rattle.format.specs.Answers.{outcome, extent}
 use Rattle.format.specs.Give.{giveFault}
 use Rattle.extension.specs.Add.{addFault, newNumber}
-use Rattle.decision.specs.declared.Query.{Query}
 use Rattle.decision.specs.Numbers.{partsOf, refusalCode, codeOf}
 
 abbrev pub faultCode : Option Refusal → ℕ
@@ -37,6 +36,3 @@ recordCode l s n =
 
 unfoldable pub addCode : List ℕ → List ℕ → ℕ
 addCode b r = codeOf (partsOf 1 0) (outcome (addFault b r) (newNumber b r))
-
-abbrev pub queryOf : ℕ → ℕ → ℕ → ℕ → Query
-queryOf s d c a = record { source = s; dest = d; class = c; action = a }

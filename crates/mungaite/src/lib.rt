@@ -23,7 +23,7 @@ ghost use Rattle.extension.specs.Add.{bufferAfter};
 ghost use Rattle.decision.specs.Decide as deciding;
 ghost use Rattle.decision.specs.Numbers.{decisionCode};
 ghost use Rattle.runs.specs.Numbers.{numbersRun, codesAfter, runCode};
-ghost use Rattle.mungaite.specs.Code.{faultCode, recordIn, recordCode, addCode, queryOf};
+ghost use Rattle.mungaite.specs.Code.{faultCode, recordIn, recordCode, addCode};
 
 // 0 where the image is accepted, else the refusal.
 #[no_mangle]
@@ -45,7 +45,7 @@ pub extern "C" fn mungaite_decide(
     action: u16,
     image: &[u8],
 ) -> u64
-    ensures { λ r. ⌜ r ≡ decisionCode (deciding.answer (now (image .entry)) (queryOf source destination class action)) ⌝ }
+    ensures { λ r. ⌜ r ≡ decisionCode (deciding.answer (now (image .entry)) (deciding.queryOf source destination class action)) ⌝ }
 {
     let q = Query {
         source,

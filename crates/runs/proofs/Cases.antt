@@ -1,4 +1,4 @@
--- The runs on the sample sheet, by computation: claim RunCases. Assumes nothing.
+-- The runs on the sample sheet, by computation: claims RunCases, NumberCases. Assumes nothing.
 use mathlib.Core.Path.{refl}
 use mathlib.Core.List.{flatten}
 use Rattle.format.specs.Bytes.{wordAt, words, putWord}
@@ -13,10 +13,12 @@ use Rattle.decision.specs.Reading.{asks, live, ruleOf, constraintOf, requestOf,
 use Rattle.decision.specs.Decide.{tests, covers, reaches, separationBroken, rosterBroken, companionBroken, broken, applies, inside, fails, firstAt, decisionOf, judge, decide, queryFault, answerFault, answer}
 use Rattle.decision.specs.Cases.{withSpace, extended, g0, allow}
 use Rattle.runs.specs.Runs.{rowsFault, runFault, queriesFault, unfit, firstUnfit, runOf, rowAnswer, answersAfter}
-use Rattle.runs.specs.Cases.{member, group, transition, separated, offRule, noSource, comesOf, saysOf, runCases, RunCases}
+use Rattle.decision.specs.Numbers.{partsOf, refusalCode}
+use Rattle.runs.specs.Numbers.{rowsOf, numbersFault, numbersRun, rowCode, codesAfter}
+use Rattle.runs.specs.Cases.{member, group, transition, separated, offRule, noSource, noDest, comesOf, saysOf, runCases, RunCases, calls, numberCases, numberOf, codesOf, NumberCases}
 use Rattle.runs.specs.Cases as table
 
-pub run-cases : RunCases
+computed : RunCases × NumberCases
 unfolding
     flatten wordAt words putWord need _orElse_ unlessRefused
     knownVersion limitOf countPlace countOf kindIn lengthOk isType isCondition listOk firstRecord shapeOk badMember badType badGroup badAllow badTransition badConstraint badField
@@ -28,5 +30,12 @@ unfolding
     tests covers reaches separationBroken rosterBroken companionBroken broken applies inside fails firstAt decisionOf judge decide queryFault answerFault answer
     withSpace extended g0 allow
     rowsFault runFault queriesFault unfit firstUnfit runOf rowAnswer answersAfter
-    member group transition separated offRule noSource comesOf saysOf runCases table.asks
-run-cases = record { come = refl; say = refl }
+    member group transition separated offRule noSource noDest comesOf saysOf runCases table.asks
+    partsOf refusalCode rowsOf numbersFault numbersRun rowCode codesAfter calls numberCases numberOf codesOf
+computed = (record { come = refl; say = refl }, record { come = refl; say = refl })
+
+pub run-cases : RunCases
+run-cases = computed .0
+
+pub number-cases : NumberCases
+number-cases = computed .1

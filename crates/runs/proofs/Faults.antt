@@ -1,7 +1,7 @@
 -- Laws of a run's refusals. Assumes nothing.
 --     rows-few, rows-many, rows-slots, rows-none   16, 17, or none, whatever the rows are
 --     fault-fits, fault-rows           a run that is not refused: its answers' list fits, and it has at most 64 rows
---     same-lengths                     as many slots as queries
+--     queries-fault, same-lengths      the refusal of queries, by their rows; as many slots as queries
 --     numbers-fault, numbers-named     the refusal of numbers, by their rows; it is the check's, 16 or 17
 --     same-count, few-numbers          four numbers for each slot, and at most 64 rows of them
 --     run-faults, numbers-faults       the claims
@@ -78,6 +78,10 @@ module _ (l : List ℕ) (n : ℕ) (fits : Bool) where
       (λ _. orElse-refuses Named (need (leb 1 n && leb n 64) (refusal 16 0)) (need fits (refusal 17 0))
       (need-refuses Named (leb 1 n && leb n 64) (refusal 16 0) (inr (inl refl)))
       (λ _. need-refuses Named fits (refusal 17 0) (inr (inr refl))))
+
+pub queries-fault : (l : List ℕ) (n m : ℕ) → queriesFault l n m ≡ runFault l n (eqb m n)
+unfolding queriesFault
+queries-fault l n m = refl
 
 pub same-lengths : (l : List ℕ) (n m : ℕ) → queriesFault l n m ≡ none → m ≡ n
 unfolding queriesFault

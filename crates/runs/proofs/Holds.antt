@@ -1,14 +1,14 @@
 -- The claims of runs hold: FitExactly, UnfitFirst, LastCounts, RunRefused, EachAnswered, SlotsLeft, OwnRow, OneRow, AnswerSaid.
 -- Assumes nothing.
-use Prim.Native.Nat.{ℕ, zero, suc, _+_, _<_}
+use Prim.Native.Nat.{ℕ, zero, suc, _+_, _≤_, _<_}
 use mathlib.Core.Path.{_≡_, refl, sym, ap, subst, _∙_}
 use mathlib.Core.Bool.{Bool, true, false, not}
 use mathlib.Core.Option.{Option, none, some}
 use mathlib.Core.List.{List, [], _∷_, _++_, map}
 use native.Mathlib.Nat.{not-suc-le-zero, zero-add}
 use native.Mathlib.Omega.{arith}
-use lib.ListN.{length, length-append, length-map, getD, List·getD-append, List·getD-map}
-use lib.Seq.{getD-append-seam}
+use lib.ListN.{length, take, length-append, length-map, getD, List·getD-append, List·getD-map}
+use lib.Seq.{getD-append-seam, take-length}
 use borrow.Author.Tests.{not-false}
 use Rattle.format.specs.declared.Refusal.{Refusal}
 use Rattle.format.specs.Check.{check, Accepted}
@@ -20,12 +20,14 @@ use Rattle.decision.specs.declared.Answer.{Answer}
 use Rattle.decision.specs.declared.Answer.the-variants as answers
 use Rattle.decision.specs.Decide.{Decision, notPermitted, permitted, unknown, firstAt, answer, answerOutcome}
 use Rattle.decision.specs.Numbers.{decisionCode}
+use Rattle.decision.specs.Sets.{anyOf}
+use Rattle.decision.specs.Lowest.{Lowest}
+use Rattle.decision.proofs.Search.{firstAt-some, firstAt-some-intro, firstAt-none, firstAt-none-intro, lowest-inside, lowest-at, lowest-intro, none-at, none-intro}
 use Rattle.decision.proofs.Order.{answer-accepted}
 use Rattle.decision.proofs.Answers.{image-refused}
 use Rattle.runs.specs.Runs.{queriesFault, isPermitted, unfit, firstUnfit, runOf, answerOf, rowAnswer, answersAfter}
 use Rattle.runs.specs.Numbers.{rowCode}
 use Rattle.runs.specs.Claims.{Permits, AllPermits, FitExactly, UnfitFirst, LastCounts, RunRefused, EachAnswered, SlotsLeft, OwnRow, OneRow, AnswerSaid}
-use Rattle.runs.proofs.First.{Search, nowhere, first, searched, found-none, found-first}
 use Rattle.runs.proofs.Faults.{run-faults, same-lengths}
 
 -- ---- a row
@@ -57,37 +59,35 @@ module _ (l : List ℕ) (q : Query) where
 
 -- ---- the first row that is not Permitted
 
-some-is : {a b : ℕ} → some a ≡ some b → a ≡ b
-some-is e = cc
-
 module _ (l : List ℕ) (qs : List Query) (d : Query) where
-  pub none-unfit : firstUnfit l qs ≡ none → AllPermits l qs d (length qs)
+  -- of the first n rows none is unfit: each is Permitted, both ways
+  none-permits : (n : ℕ) → n ≤ length qs → anyOf (unfit l) (take n qs) ≡ false → AllPermits l qs d n
+  none-permits n h e i k = fit-permits l (getD qs i d) (none-at (unfit l) qs n i d e k (omega arith))
+
+  permits-none : (n : ℕ) → AllPermits l qs d n → anyOf (unfit l) (take n qs) ≡ false
+  permits-none n p = none-intro (unfit l) qs n d (λ i k _. permits-fit l (getD qs i d) (p i k))
+
+  none-unfit : firstUnfit l qs ≡ none → AllPermits l qs d (length qs)
   unfolding firstUnfit
-  none-unfit e = go (firstAt (unfit l) 0 qs) (searched (unfit l) d qs 0) e
-    where
-      go : (o : Option ℕ) → Search (unfit l) d qs 0 o → o ≡ none → AllPermits l qs d (length qs)
-      go none (nowhere h) e i k = fit-permits l (getD qs i d) (h i k)
-      go (some m) (first n k t h) e i j = some-not-none e
+  none-unfit e = none-permits (length qs) (omega arith) (ap (anyOf (unfit l)) (take-length qs) ∙ firstAt-none (unfit l) 0 qs e)
 
   all-fit : AllPermits l qs d (length qs) → firstUnfit l qs ≡ none
   unfolding firstUnfit
-  all-fit p = found-none (unfit l) d qs 0 (λ i k. permits-fit l (getD qs i d) (p i k))
+  all-fit p = firstAt-none-intro (unfit l) 0 qs (ap (anyOf (unfit l)) (sym (take-length qs)) ∙ permits-none (length qs) p)
 
   pub first-unfit : (m : ℕ) → firstUnfit l qs ≡ some m → (m < length qs) × (Permits l (getD qs m d) → ⊥) × AllPermits l qs d m
   unfolding firstUnfit
-  first-unfit m e = go (firstAt (unfit l) 0 qs) (searched (unfit l) d qs 0) e
-    where
-      go : (o : Option ℕ) → Search (unfit l) d qs 0 o → o ≡ some m → (m < length qs) × (Permits l (getD qs m d) → ⊥) × AllPermits l qs d m
-      go none (nowhere h) e = some-not-none (sym e)
-      go (some x) (first n k t h) e =
-          let z : n ≡ m = sym (zero-add n) ∙ some-is e in
-          subst (λ (j : ℕ). (j < length qs) × (Permits l (getD qs j d) → ⊥) × AllPermits l qs d j) z
-          (k, unfit-not l (getD qs n d) t, λ i j. fit-permits l (getD qs i d) (h i j))
+  first-unfit m e =
+      let x = firstAt-some (unfit l) 0 m qs e in
+      let z : x .0 ≡ m = omega (arith, x .1) in
+      let low = subst (Lowest (unfit l) qs) z (x .2) in
+      let h = lowest-inside (unfit l) qs m low in
+      (h, unfit-not l (getD qs m d) (lowest-at (unfit l) qs m d low), none-permits m (omega arith) (low .before))
 
   unfit-first-is : (m : ℕ) → m < length qs → (Permits l (getD qs m d) → ⊥) → AllPermits l qs d m → firstUnfit l qs ≡ some m
   unfolding firstUnfit
   unfit-first-is m k u p =
-      found-first (unfit l) d qs 0 m k (not-unfit l (getD qs m d) u) (λ i j. permits-fit l (getD qs i d) (p i j)) ∙ ap some (zero-add m)
+      firstAt-some-intro (unfit l) 0 m qs (lowest-intro (unfit l) qs m d k (not-unfit l (getD qs m d) u) (permits-none m p)) ∙ ap some (zero-add m)
 
 -- ---- what a run comes to
 
@@ -108,18 +108,6 @@ unfit-first l qs slots n d = (
       ),
   λ e k u p. ap (λ f. outcome f (firstUnfit l qs)) e ∙ ap gives (unfit-first-is l qs d n k u p),
 )
-
-pub last-counts : LastCounts
-last-counts l qs q slots =
-    let n : length (qs ++ (q ∷ [])) ≡ length qs + 1 = length-append qs (q ∷ []) in
-    let last : getD (qs ++ (q ∷ [])) (length qs) q ≡ q = getD-append-seam qs q [] q in (
-      λ e p u. unfit-first l (qs ++ (q ∷ [])) slots (length qs) q .1
-          (ap (λ k. queriesFault l k slots) n ∙ e)
-          (omega (arith, n))
-          (λ h. u (subst (Permits l) last h))
-          (λ i k. subst (Permits l) (sym (List·getD-append qs (q ∷ []) q i k)) (p i k)),
-      λ e. subst (Permits l) last (fit-exactly l (qs ++ (q ∷ [])) slots q .0 e .1 (length qs) (omega (arith, n))),
-    )
 
 pub run-refused : RunRefused
 unfolding runOf
@@ -150,10 +138,6 @@ pub said-answer : (l : List ℕ) (q : Query) (a : Answer) → answerOutcome a �
 unfolding rowAnswer
 said-answer l q a e = sym (said-outcome a) ∙ ap answerOf e
 
-pub row-code-is : (l : List ℕ) (q : Query) → rowCode l q ≡ decisionCode (answer l q)
-unfolding rowCode
-row-code-is l q = refl
-
 -- and its number is that of the row
 pub answer-code : (l : List ℕ) (q : Query) → decisionCode (answerOutcome (rowAnswer l q)) ≡ rowCode l q
 unfolding rowAnswer rowCode
@@ -175,12 +159,26 @@ pub each-answered : EachAnswered
 unfolding rowAnswer
 each-answered l qs ys i d y e k = ap answerOutcome (slot-is l qs ys i d y e k) ∙ outcome-said (answer l (getD qs i d))
 
+pub last-counts : LastCounts
+last-counts l qs q ys y =
+    let slots = length ys in
+    let n : length (qs ++ (q ∷ [])) ≡ length qs + 1 = length-append qs (q ∷ []) in
+    let last : getD (qs ++ (q ∷ [])) (length qs) q ≡ q = getD-append-seam qs q [] q in (
+      λ e p u. unfit-first l (qs ++ (q ∷ [])) slots (length qs) q .1
+          (ap (λ k. queriesFault l k slots) n ∙ e)
+          (omega (arith, n))
+          (λ h. u (subst (Permits l) last h))
+          (λ i k. subst (Permits l) (sym (List·getD-append qs (q ∷ []) q i k)) (p i k)),
+      λ e. subst (Permits l) last (fit-exactly l (qs ++ (q ∷ [])) slots q .0 e .1 (length qs) (omega (arith, n))),
+      λ e. each-answered l (qs ++ (q ∷ [])) ys (length qs) q y (ap (λ k. queriesFault l k slots) n ∙ e) (omega (arith, n)) ∙ ap (answer l) last,
+    )
+
 pub own-row : OwnRow
 own-row l qs qs′ ys ys′ i i′ d y e e′ k k′ same = slot-is l qs ys i d y e k ∙ ap (rowAnswer l) same ∙ sym (slot-is l qs′ ys′ i′ d y e′ k′)
 
 pub slots-left : SlotsLeft
 unfolding answersAfter
-slots-left l qs ys = (many (queriesFault l (length qs) (length ys)) refl, λ f e. unless-refused (map (rowAnswer l) qs) ys e)
+slots-left l qs ys = (many (queriesFault l (length qs) (length ys)) refl, λ f e. unless-refused (map (rowAnswer l) qs) ys (run-refused l qs (length ys) f .1 e))
   where
     many : (f : Option Refusal) → queriesFault l (length qs) (length ys) ≡ f → length (answersAfter l qs ys) ≡ length ys
     many none e = ap length (unless-accepted (map (rowAnswer l) qs) ys e) ∙ length-map qs (rowAnswer l) ∙ sym (same-lengths l (length qs) (length ys) e)
@@ -193,7 +191,7 @@ one-row l q y =
       λ a. ap (map answerOutcome) (unless-accepted (map (rowAnswer l) (q ∷ [])) (y ∷ []) (accepted a)) ∙ ap (λ o. o ∷ []) (outcome-said (answer l q)),
       λ p. fit-exactly l (q ∷ []) 1 q .1 (accepted (answer-accepted l q (permitted (p .0)) (p .1) .0)) (one p),
       λ a u. unfit-first l (q ∷ []) 1 0 q .1 (accepted a) (omega arith) u (λ i k. absurd (not-suc-le-zero k)),
-      λ f e. (run-refused l (q ∷ []) 1 f .0 (run-faults l .0 f 1 1 e), image-refused l q f e),
+      λ f e. (let r = run-refused l (q ∷ []) 1 f .0 (run-faults l .0 f 1 1 e) in (r, image-refused l q f e, slots-left l (q ∷ []) (y ∷ []) .1 f r)),
     )
   where
     one : Permits l q → AllPermits l (q ∷ []) q 1

@@ -1,4 +1,3 @@
-pub mod First
 pub mod Faults
 pub mod Holds
 pub mod Numbered

@@ -1,12 +1,12 @@
--- Rows as numbers: claims NumbersRun, NumbersLeft, and where a row stands. Assumes nothing.
+-- Rows as numbers: claims NumbersRun, NumbersWhole, NumbersAnswered, NumbersRefused, NumbersLeft, and where a row stands. Assumes
+-- nothing.
 --     same-test    two tests of the same numbers
 --     row-at       row i of a list of numbers
 --     rows-many    how many whole rows it has
 --     row-inside   a row's numbers are in the list
 --     numbers-run-is   what a run comes to, by its refusal and its rows
---     code-at      the slot of a row
 --     row-below    the row that comes back is below 64
-use Prim.Native.Nat.{ℕ, zero, suc, _+_, _*_, _/_, _<_}
+use Prim.Native.Nat.{ℕ, zero, suc, _+_, _-_, _*_, _/_, _<_}
 use mathlib.Core.Path.{_≡_, refl, sym, ap, ap₂, _∙_}
 use mathlib.Core.Bool.{Bool, true, false}
 use mathlib.Core.Option.{Option, none, some}
@@ -19,12 +19,13 @@ use borrow.Author.Tests.{eqb-true, eqb-false, eq-eqb, ne-eqb}
 use Rattle.format.specs.declared.Refusal.{Refusal}
 use Rattle.format.specs.Refusals.{unlessRefused}
 use Rattle.format.specs.Answers.{outcome}
-use Rattle.format.proofs.Chain.{unless-accepted, unless-refused}
+use Rattle.format.proofs.Chain.{unless-accepted, unless-refused, outcome-refused}
 use Rattle.decision.specs.declared.Query.{Query}
+use Rattle.decision.specs.Decide.{queryOf}
 use Rattle.runs.specs.Runs.{runFault, queriesFault, firstUnfit, runOf}
-use Rattle.runs.specs.Numbers.{queryOf, rowsOf, numbersOf, numbersFault, numbersRun, rowCode, codesAfter}
+use Rattle.runs.specs.Numbers.{rowsOf, numbersOf, numbersFault, numbersRun, rowCode, codesAfter}
 use Rattle.runs.specs.Inner.Progress.{rowAt}
-use Rattle.runs.specs.Claims.{NumbersRun, NumbersLeft}
+use Rattle.runs.specs.Claims.{NumbersRun, NumbersWhole, NumbersAnswered, NumbersRefused, NumbersLeft}
 use Rattle.runs.proofs.Faults.{same-count, few-numbers}
 use Rattle.runs.proofs.Holds.{map-at, first-unfit}
 
@@ -32,6 +33,14 @@ rows-read : (qs : List Query) → rowsOf (numbersOf qs) ≡ qs
 unfolding rowsOf numbersOf
 rows-read [] = refl
 rows-read (q ∷ qs) = ap {B = List Query} (λ r. q ∷ r) (rows-read qs)
+
+pub numbers-whole : NumbersWhole
+unfolding rowsOf numbersOf
+numbers-whole [] m e = refl
+numbers-whole (s ∷ []) m e = absurd (omega (arith, e))
+numbers-whole (s ∷ x ∷ []) m e = absurd (omega (arith, e))
+numbers-whole (s ∷ x ∷ c ∷ []) m e = absurd (omega (arith, e))
+numbers-whole (s ∷ x ∷ c ∷ a ∷ ns) m e = ap {B = List ℕ} (λ r. s ∷ x ∷ c ∷ a ∷ r) (numbers-whole ns (m - 1) (omega (arith, e)))
 
 numbers-many : (qs : List Query) → length (numbersOf qs) ≡ 4 * length qs
 unfolding numbersOf
@@ -94,11 +103,18 @@ row-inside ns i h = omega (arith, h, rows-many ns)
 
 -- ---- the slots
 
+pub numbers-refused : NumbersRefused
+unfolding numbersRun
+numbers-refused l ns slots f = (
+  λ e. ap (λ g. outcome g (firstUnfit l (rowsOf ns))) e,
+  λ e. outcome-refused (numbersFault l (length ns) slots) (firstUnfit l (rowsOf ns)) (sym e),
+)
+
 pub numbers-left : NumbersLeft
-unfolding numbersRun codesAfter
+unfolding codesAfter
 numbers-left l ns ys = (
   many (numbersFault l (length ns) (length ys)) refl,
-  λ f e. (ap (λ g. outcome g (firstUnfit l (rowsOf ns))) e, unless-refused (map (rowCode l) (rowsOf ns)) ys e),
+  λ f e. unless-refused (map (rowCode l) (rowsOf ns)) ys (numbers-refused l ns (length ys) f .1 e),
 )
   where
     many : (f : Option Refusal) → numbersFault l (length ns) (length ys) ≡ f → length (codesAfter l ns ys) ≡ length ys
@@ -108,14 +124,19 @@ numbers-left l ns ys = (
         ap length (unless-accepted (map (rowCode l) (rowsOf ns)) ys e) ∙ omega (arith, m, rows-many ns, k)
     many (some f) e = ap length (unless-refused (map (rowCode l) (rowsOf ns)) ys e)
 
+pub numbers-answered : NumbersAnswered
+unfolding codesAfter rowCode
+numbers-answered l ns ys i y e k =
+    let d : Query = queryOf 0 0 0 0 in
+    let h : i < length (rowsOf ns) = omega (arith, k, same-count l (length ns) (length ys) e, rows-many ns) in
+    ap (λ zs. getD zs i y) (unless-accepted (map (rowCode l) (rowsOf ns)) ys e)
+    ∙ map-at (rowCode l) (rowsOf ns) i d y h
+    ∙ ap (rowCode l) (row-at ns i d h)
+
 module _ (l ns : List ℕ) where
   pub numbers-run-is : (m : ℕ) → numbersRun l ns m ≡ outcome (numbersFault l (length ns) m) (firstUnfit l (rowsOf ns))
   unfolding numbersRun
   numbers-run-is m = refl
-
-  pub code-at : (ys : List ℕ) (i : ℕ) (d : Query) → numbersFault l (length ns) (length ys) ≡ none → i < length (rowsOf ns) → getD (codesAfter l ns ys) i 0 ≡ rowCode l (getD (rowsOf ns) i d)
-  unfolding codesAfter
-  code-at ys i d e k = ap (λ zs. getD zs i 0) (unless-accepted (map (rowCode l) (rowsOf ns)) ys e) ∙ map-at (rowCode l) (rowsOf ns) i d 0 k
 
   -- the row that comes back is one of at most 64
   pub row-below : (m n : ℕ) → numbersFault l (length ns) m ≡ none → firstUnfit l (rowsOf ns) ≡ some n → n < 64

@@ -4,16 +4,15 @@
 --     rows-most, rows-decided   at most all rows are decided, and one is only where nothing is refused
 --     ran, wrote              after the last: what it comes to, and its slots; ran-queries, wrote-queries, ran-numbers, wrote-numbers
 --     open-fault              the refusal, from what the check gave
-use Prim.Native.Nat.{ℕ, zero, suc, _+_, _≤_, _<_}
+use Prim.Native.Nat.{ℕ, suc, _≤_, _<_}
 use mathlib.Core.Path.{_≡_, refl, sym, ap, _∙_}
-use mathlib.Core.Bool.{Bool, true, false, not, _&&_, cond}
+use mathlib.Core.Bool.{Bool, not}
 use mathlib.Core.Option.{Option, none, some}
-use mathlib.Core.List.{List, [], _∷_, map}
-use native.Mathlib.Nat.{not-suc-le-zero, le-of-suc-le-suc, zero-add}
+use mathlib.Core.List.{List, map}
+use native.Mathlib.Nat.{not-suc-le-zero, zero-add}
 use native.Mathlib.Omega.{arith}
 use lib.ListN.{length, length-map, getD, take}
 use lib.Seq.{take-length}
-use lib.Dec.{leb}
 use Rattle.format.specs.declared.Refusal.{Refusal}
 use Rattle.format.specs.declared.Starts.{Starts}
 use Rattle.format.specs.Refusals.{unlessRefused}
@@ -23,6 +22,7 @@ use Rattle.format.proofs.Chain.{orElse-next, orElse-first, unless-accepted, unl
 use Rattle.decision.specs.declared.Query.{Query}
 use Rattle.decision.specs.declared.Answer.{Answer}
 use Rattle.decision.specs.Decide.{Decision, notPermitted, permitted, unknown, firstAt, answer}
+use Rattle.decision.proofs.Search.{orNow, firstAt-nil, firstAt-next}
 use Rattle.runs.specs.declared.Run.{Run}
 use Rattle.runs.specs.declared.Run.the-variants.{Fit, Unfit, Refused}
 use Rattle.runs.specs.Runs.{runFault, queriesFault, isPermitted, unfit, firstUnfit, runOf, answerOf, rowAnswer, answersAfter, runOutcome}
@@ -54,11 +54,6 @@ result-said none none = refl
 result-said none (some n) = refl
 result-said (some f) n = refl
 
--- what is found by row i, where it is row i's turn
-abbrev orNow : Option ℕ → ℕ → Bool → Option ℕ
-orNow none i b = cond b (some i) none
-orNow (some n) i b = some n
-
 next-result : (f : Option Refusal) (o : Option ℕ) (i : ℕ) (x : Outcome Decision) → nextRun (resultOf f o) i (answerOf x) ≡ resultOf f (orNow o i (not (isPermitted x)))
 next-result none none i (gives notPermitted) = refl
 next-result none none i (gives (permitted r)) = refl
@@ -67,26 +62,13 @@ next-result none none i (refused f) = refl
 next-result none (some n) i x = refl
 next-result (some f) o i x = refl
 
-module _ {A : Type 0} (f : A → Bool) (d : A) where
-  now-rest : (b c : Bool) (k j : ℕ) (o p : Option ℕ) → orNow o j c ≡ p → orNow (cond b (some k) o) j c ≡ cond b (some k) p
-  now-rest true c k j o p e = refl
-  now-rest false c k j o p e = e
-
-  first-next : (xs : List A) (k j i : ℕ) → j ≡ k + i → i < length xs → orNow (firstAt f k (take i xs)) j (f (getD xs i d)) ≡ firstAt f k (take (suc i) xs)
-  unfolding firstAt
-  first-next [] k j i e l = absurd (not-suc-le-zero l)
-  first-next (x ∷ xs) k j zero e l = let z : j ≡ k = omega (arith, e) in ap (λ (m : ℕ). cond (f x) (some m) none) z
-  first-next (x ∷ xs) k j (suc i) e l =
-      now-rest (f x) (f (getD xs i d)) k j (firstAt f (suc k) (take i xs)) (firstAt f (suc k) (take (suc i) xs))
-      (first-next xs (suc k) j i (omega (arith, e)) (le-of-suc-le-suc l))
-
 module _ (l : List ℕ) (f : Option Refusal) (qs : List Query) where
   abbrev pub outAt : ℕ → Run
   outAt i = resultOf f (firstUnfit l (take i qs))
 
   pub out-none : runSaid f ≡ outAt 0
-  unfolding firstUnfit firstAt
-  out-none = go f
+  unfolding firstUnfit
+  out-none = go f ∙ ap (resultOf f) (sym (firstAt-nil (unfit l) 0))
     where
       go : (f : Option Refusal) → runSaid f ≡ resultOf f none
       go none = refl
@@ -95,7 +77,7 @@ module _ (l : List ℕ) (f : Option Refusal) (qs : List Query) where
   pub out-next : (i : ℕ) (d : Query) → i < length qs → nextRun (outAt i) i (rowAnswer l (getD qs i d)) ≡ outAt (suc i)
   unfolding rowAnswer unfit firstUnfit
   out-next i d k =
-      next-result f (firstAt (unfit l) 0 (take i qs)) i (answer l (getD qs i d)) ∙ ap (resultOf f) (first-next (unfit l) d qs 0 i i (sym (zero-add i)) k)
+      next-result f (firstAt (unfit l) 0 (take i qs)) i (answer l (getD qs i d)) ∙ ap (resultOf f) (firstAt-next (unfit l) qs 0 i i d (sym (zero-add i)) k)
 
 pub rows-most : (f : Option Refusal) (n : ℕ) → rowsFor (runSaid f) n ≤ n
 rows-most none n = omega arith

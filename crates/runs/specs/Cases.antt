@@ -1,27 +1,29 @@
 -- Runs on the sample sheet, worked out by hand from document 01's cases and from document 02, request 1.
---     row s d c a         a row
---     member, group, offRule, transition, separated, noSource   rows: document 01's marked queries, and one of a source that is no type
---     times n q           n times the same row
---     RunCase             the image, the rows, the slots before; what the run comes to, and what the slots say afterwards
---     runCases            a fit run of three rows, and of one; the first, a middle and the last row not Permitted; refused rows among
---                         others, and last; UnKnown; 64 rows, of which the last is not Permitted; 65, and none; slots too few and too
---                         many; a refused image before 16, and 16 before 17
---     RunCases            the definitions give these
+--     member, group, transition, separated, offRule, noSource, noDest   rows: document 01's marked queries, and two of a type that is none
+--     P r, N, R8, R9      what a row is answered: Permitted by rule r, NotPermitted, refused with 8 and with 9
+--     blank n             n slots before the run
+--     RunCase, asks       the image, the rows, the slots before; what the run comes to, and what the slots say afterwards
+--     runCases            fit runs of three rows, of one, of 64; the first, a middle and the last row not Permitted, of one row and of 64;
+--                         refused rows alone, among others, and last; UnKnown; 65 rows, and none; slots too few and too many; a refused
+--                         image, before 16 and before 17
+--     comesOf, saysOf     what the definitions give
+--     RunCases            that, for each
+--     NumberCase, calls, numberCases, numberOf, codesOf, NumberCases   the same over numbers, as C calls it: a number each
 use Prim.Native.Nat.{ℕ}
 use mathlib.Core.Path.{_≡_}
 use mathlib.Core.Option.{Option, none, some}
 use mathlib.Core.List.{List, [], _∷_, _++_, map}
-use lib.ListN.{length, take, replicate}
+use lib.ListN.{length, take, set, replicate}
 use Rattle.format.specs.Refusals.{refusal}
 use Rattle.format.specs.Answers.{Outcome, refused, gives}
 use Rattle.format.specs.Sample.{sample}
 use Rattle.decision.specs.declared.Query.{Query}
-use Rattle.decision.specs.Decide.{Decision, notPermitted, permitted, unknown, answerOutcome}
+use Rattle.decision.specs.Decide.{Decision, notPermitted, permitted, unknown, answerOutcome, queryOf}
 use Rattle.decision.specs.Cases.{g0, allow, extended}
 use Rattle.runs.specs.Runs.{runOf, answerOf, answersAfter}
-use Rattle.runs.specs.Numbers.{queryOf}
+use Rattle.runs.specs.Numbers.{numbersRun, codesAfter, runCode}
 
--- Permitted by rules 0, 0, 2 and 1; NotPermitted; refused with 8
+-- Permitted by rules 0, 0, 2 and 1; NotPermitted; refused with 8, and with 9
 unfoldable pub member : Query
 member = queryOf 10 21 5 1
 
@@ -40,6 +42,9 @@ offRule = queryOf 13 21 5 1
 unfoldable pub noSource : Query
 noSource = queryOf 1024 21 5 1
 
+unfoldable pub noDest : Query
+noDest = queryOf 10 32769 5 1
+
 abbrev Said : Type 0
 Said = Outcome Decision
 
@@ -51,6 +56,9 @@ N = gives notPermitted
 
 abbrev pub R8 : Said
 R8 = refused (refusal 8 0)
+
+abbrev pub R9 : Said
+R9 = refused (refusal 9 0)
 
 -- what slots hold before: UnKnown, rule 1,000 and constraint 200, which the sample has not
 abbrev pub blank : ℕ → List Said
@@ -76,7 +84,8 @@ runCases =
     ∷ asks sample (member ∷ transition ∷ offRule ∷ []) 3 (gives (some 2)) (P 0 ∷ P 2 ∷ N ∷ [])
     ∷ asks sample (member ∷ noSource ∷ transition ∷ offRule ∷ []) 4 (gives (some 1)) (P 0 ∷ R8 ∷ P 2 ∷ N ∷ [])
     ∷ asks sample (member ∷ group ∷ noSource ∷ []) 3 (gives (some 2)) (P 0 ∷ P 0 ∷ R8 ∷ [])
-    ∷ asks (extended sample (allow 10 30 5 3)) (member ∷ separated ∷ []) 2 (gives (some 1)) (P 0 ∷ gives (unknown 1 1) ∷ [])
+    ∷ asks sample (noDest ∷ []) 1 (gives (some 0)) (R9 ∷ [])
+    ∷ asks (extended sample (allow 10 30 5 3)) (member ∷ separated ∷ transition ∷ []) 3 (gives (some 1)) (P 0 ∷ gives (unknown 1 1) ∷ P 2 ∷ [])
     ∷ asks sample (replicate 64 transition) 64 (gives none) (replicate 64 (P 2))
     ∷ asks sample (replicate 63 transition ++ (offRule ∷ [])) 64 (gives (some 63)) (replicate 63 (P 2) ++ (N ∷ []))
     ∷ asks sample (replicate 65 transition) 65 (refused (refusal 16 0)) (blank 65)
@@ -85,6 +94,11 @@ runCases =
     ∷ asks sample (replicate 65 transition) 1 (refused (refusal 16 0)) (blank 1)
     ∷ asks sample (member ∷ transition ∷ []) 1 (refused (refusal 17 0)) (blank 1)
     ∷ asks sample (member ∷ transition ∷ []) 3 (refused (refusal 17 0)) (blank 3)
+    ∷ asks sample (replicate 64 transition) 63 (refused (refusal 17 0)) (blank 63)
+    ∷ asks sample (replicate 64 transition) 65 (refused (refusal 17 0)) (blank 65)
+    ∷ asks sample (member ∷ []) 0 (refused (refusal 17 0)) []
+    ∷ asks (take 79 sample) (member ∷ []) 1 (refused (refusal 3 0)) (blank 1)
+    ∷ asks (take 79 (set sample 2 79)) (member ∷ []) 1 (refused (refusal 5 69)) (blank 1)
     ∷ asks (take 79 sample) [] 1 (refused (refusal 3 0)) (blank 1)
     ∷ asks (take 79 sample) (member ∷ []) 2 (refused (refusal 3 0)) (blank 2)
     ∷ []
@@ -98,3 +112,43 @@ saysOf c = map answerOutcome (answersAfter (c .image) (c .rows) (map answerOf (c
 pub record RunCases : Type 0 where
   pub come : map comesOf runCases ≡ map (λ c. c .comes) runCases
   pub say : map saysOf runCases ≡ map (λ c. c .says) runCases
+
+-- the image, the numbers, how many slots, which hold 7; what comes back, and the slots afterwards
+pub record NumberCase : Type 0 where
+  pub image : List ℕ
+  pub numbers : List ℕ
+  pub slots : ℕ
+  pub comes : ℕ
+  pub says : List ℕ
+
+unfoldable pub calls : List ℕ → List ℕ → ℕ → ℕ → List ℕ → NumberCase
+calls l ns m n s = record { image = l; numbers = ns; slots = m; comes = n; says = s }
+
+unfoldable pub numberCases : List NumberCase
+numberCases =
+    calls sample (10 ∷ 21 ∷ 5 ∷ 1 ∷ 12 ∷ 20 ∷ 9 ∷ 9 ∷ []) 2 0x100000000 (0x100000000 ∷ 0x100000002 ∷ [])
+    ∷ calls sample (20 ∷ 30 ∷ 5 ∷ 2 ∷ 13 ∷ 21 ∷ 5 ∷ 1 ∷ []) 2 1 (0x100000001 ∷ 0 ∷ [])
+    ∷ calls sample (13 ∷ 21 ∷ 5 ∷ 1 ∷ []) 1 0 (0 ∷ [])
+    ∷ calls sample (10 ∷ 21 ∷ 5 ∷ 1 ∷ 1024 ∷ 21 ∷ 5 ∷ 1 ∷ []) 2 1 (0x100000000 ∷ 0x200080000 ∷ [])
+    ∷ calls sample (10 ∷ 32769 ∷ 5 ∷ 1 ∷ []) 1 0 (0x200090000 ∷ [])
+    ∷ calls (extended sample (allow 10 30 5 3)) (20 ∷ 30 ∷ 5 ∷ 2 ∷ []) 1 0 (0x300010001 ∷ [])
+    ∷ calls sample (replicate 256 0) 64 0 (replicate 64 0)
+    ∷ calls sample [] 0 0x200100000 []
+    ∷ calls sample (12 ∷ 20 ∷ 9 ∷ []) 1 0x200100000 (7 ∷ [])
+    ∷ calls sample (12 ∷ 20 ∷ 9 ∷ 9 ∷ 12 ∷ []) 1 0x200110000 (7 ∷ [])
+    ∷ calls sample (12 ∷ 20 ∷ 9 ∷ 9 ∷ []) 0 0x200110000 []
+    ∷ calls sample (12 ∷ 20 ∷ 9 ∷ 9 ∷ []) 4 0x200110000 (replicate 4 7)
+    ∷ calls sample (replicate 259 0) 64 0x200110000 (replicate 64 7)
+    ∷ calls sample (replicate 260 0) 65 0x200100000 (replicate 65 7)
+    ∷ calls (take 79 sample) (12 ∷ 20 ∷ 9 ∷ 9 ∷ []) 1 0x200030000 (7 ∷ [])
+    ∷ []
+
+unfoldable pub numberOf : NumberCase → ℕ
+numberOf c = runCode (numbersRun (c .image) (c .numbers) (c .slots))
+
+unfoldable pub codesOf : NumberCase → List ℕ
+codesOf c = codesAfter (c .image) (c .numbers) (replicate (c .slots) 7)
+
+pub record NumberCases : Type 0 where
+  pub come : map numberOf numberCases ≡ map (λ c. c .comes) numberCases
+  pub say : map codesOf numberCases ≡ map (λ c. c .says) numberCases

@@ -1,9 +1,10 @@
 -- What is claimed of runs, and proved in proofs/.
 --     Permits l q        a row is Permitted
---     AllPermits l qs n  each of the first n rows is
+--     AllPermits l qs other n   each of the first n rows is
 --     FitExactly         a run is fit exactly when it is not refused and every row is Permitted
 --     UnfitFirst         the row that comes back is not Permitted and every row before it is; and such a row comes back
---     LastCounts         of rows that are all Permitted but the last, the last comes back; a fit run's last row is Permitted
+--     LastCounts         of rows that are all Permitted but the last, the last comes back; a fit run's last row is Permitted; and the
+--                        last row is answered
 --     RunRefused         a run is refused for its own causes alone, and what the rows are does not matter
 --     RunFaults          the image's refusal first, then 16 outside 1 to 64 rows, then 17
 --     EachAnswered       each slot says what the single query is answered, a refusal included
@@ -13,8 +14,12 @@
 --     AnswerSaid         `answerOf` and `answerOutcome` are inverses, so a slot says the whole answer
 -- And of runs over numbers.
 --     NumbersRun         over the numbers of rows it is the run over the rows, and its slots hold their answers' numbers
+--     NumbersWhole       and every list of four numbers a row is the numbers of rows
+--     NumbersAnswered    slot i is the number of the answer to the query of numbers 4 i to 4 i + 3
+--     NumbersRefused     it is refused for its own causes alone
 --     NumbersLeft        a refused call leaves every slot, and there are always as many
---     NumbersFaults      the refusals by the count of numbers: fewer than 4, and 260 or more, are 16; a row cut short is 17
+--     NumbersFaults      the image's refusal first; fewer than 4 numbers, and 260 or more, are 16; else 17 unless there are four for
+--                        each slot
 use Prim.Native.Nat.{ℕ, _+_, _*_, _<_, _≤_}
 use mathlib.Core.Path.{_≡_}
 use mathlib.Core.Option.{none, some}
@@ -26,14 +31,15 @@ use Rattle.format.specs.Check.{check, Accepted}
 use Rattle.format.specs.Answers.{Outcome, refused, gives}
 use Rattle.decision.specs.declared.Query.{Query}
 use Rattle.decision.specs.declared.Answer.{Answer}
-use Rattle.decision.specs.Decide.{Decision, permitted, answer, answerOutcome}
+use Rattle.decision.specs.Decide.{Decision, permitted, answer, answerOutcome, queryOf}
+use Rattle.decision.specs.Numbers.{decisionCode}
 use Rattle.runs.specs.Runs.{queriesFault, runOf, answerOf, answersAfter}
-use Rattle.runs.specs.Numbers.{numbersOf, numbersFault, numbersRun, rowCode, codesAfter}
+use Rattle.runs.specs.Numbers.{rowsOf, numbersOf, numbersFault, numbersRun, rowCode, codesAfter}
 
 abbrev pub Permits : List ℕ → Query → Type 0
 Permits l q = (r : ℕ) × (answer l q ≡ gives (permitted r))
 
--- `other` stands for a row past the last, of which nothing is said
+-- `other` stands past the last row; no claim asks for more rows than there are
 abbrev pub AllPermits : List ℕ → List Query → Query → ℕ → Type 0
 AllPermits l qs other n = (i : ℕ) → i < n → Permits l (getD qs i other)
 
@@ -53,10 +59,12 @@ UnfitFirst =
 
 abbrev pub LastCounts : Type 0
 LastCounts =
-    (l : List ℕ) (qs : List Query) (q : Query) (slots : ℕ)
-    → (queriesFault l (length qs + 1) slots ≡ none → AllPermits l qs q (length qs) → (Permits l q → ⊥)
-    → runOf l (qs ++ (q ∷ [])) slots ≡ gives (some (length qs)))
-    × (runOf l (qs ++ (q ∷ [])) slots ≡ gives none → Permits l q)
+    (l : List ℕ) (qs : List Query) (q : Query) (ys : List Answer) (y : Answer)
+    → (queriesFault l (length qs + 1) (length ys) ≡ none → AllPermits l qs q (length qs) → (Permits l q → ⊥)
+    → runOf l (qs ++ (q ∷ [])) (length ys) ≡ gives (some (length qs)))
+    × (runOf l (qs ++ (q ∷ [])) (length ys) ≡ gives none → Permits l q)
+    × (queriesFault l (length qs + 1) (length ys) ≡ none
+    → answerOutcome (getD (answersAfter l (qs ++ (q ∷ [])) ys) (length qs) y) ≡ answer l q)
 
 abbrev pub RunRefused : Type 0
 RunRefused =
@@ -84,7 +92,7 @@ abbrev pub SlotsLeft : Type 0
 SlotsLeft =
     (l : List ℕ) (qs : List Query) (ys : List Answer)
     → (length (answersAfter l qs ys) ≡ length ys)
-    × ((f : Refusal) → queriesFault l (length qs) (length ys) ≡ some f → answersAfter l qs ys ≡ ys)
+    × ((f : Refusal) → runOf l qs (length ys) ≡ refused f → answersAfter l qs ys ≡ ys)
 
 abbrev pub OwnRow : Type 0
 OwnRow =
@@ -99,7 +107,8 @@ OneRow =
     → (Accepted l → map answerOutcome (answersAfter l (q ∷ []) (y ∷ [])) ≡ answer l q ∷ [])
     × (Permits l q → runOf l (q ∷ []) 1 ≡ gives none)
     × (Accepted l → (Permits l q → ⊥) → runOf l (q ∷ []) 1 ≡ gives (some 0))
-    × ((f : Refusal) → check l ≡ some f → (runOf l (q ∷ []) 1 ≡ refused f) × (answer l q ≡ refused f))
+    × ((f : Refusal) → check l ≡ some f
+    → (runOf l (q ∷ []) 1 ≡ refused f) × (answer l q ≡ refused f) × (answersAfter l (q ∷ []) (y ∷ []) ≡ y ∷ []))
 
 abbrev pub AnswerSaid : Type 0
 AnswerSaid = ((o : Outcome Decision) → answerOutcome (answerOf o) ≡ o) × ((a : Answer) → answerOf (answerOutcome a) ≡ a)
@@ -110,12 +119,26 @@ NumbersRun =
     → (numbersRun l (numbersOf qs) (length ys) ≡ runOf l qs (length ys))
     × (codesAfter l (numbersOf qs) ys ≡ unlessRefused (queriesFault l (length qs) (length ys)) (map (rowCode l) qs) ys)
 
+abbrev pub NumbersWhole : Type 0
+NumbersWhole = (ns : List ℕ) (m : ℕ) → length ns ≡ 4 * m → numbersOf (rowsOf ns) ≡ ns
+
+abbrev pub NumbersAnswered : Type 0
+NumbersAnswered =
+    (l ns ys : List ℕ) (i y : ℕ) → numbersFault l (length ns) (length ys) ≡ none → i < length ys
+    → getD (codesAfter l ns ys) i y
+    ≡ decisionCode (answer l (queryOf (getD ns (4 * i) 0) (getD ns (4 * i + 1) 0) (getD ns (4 * i + 2) 0) (getD ns (4 * i + 3) 0)))
+
+abbrev pub NumbersRefused : Type 0
+NumbersRefused =
+    (l ns : List ℕ) (slots : ℕ) (f : Refusal)
+    → (numbersFault l (length ns) slots ≡ some f → numbersRun l ns slots ≡ refused f)
+    × (numbersRun l ns slots ≡ refused f → numbersFault l (length ns) slots ≡ some f)
+
 abbrev pub NumbersLeft : Type 0
 NumbersLeft =
     (l ns ys : List ℕ)
     → (length (codesAfter l ns ys) ≡ length ys)
-    × ((f : Refusal) → numbersFault l (length ns) (length ys) ≡ some f
-    → (numbersRun l ns (length ys) ≡ refused f) × (codesAfter l ns ys ≡ ys))
+    × ((f : Refusal) → numbersRun l ns (length ys) ≡ refused f → codesAfter l ns ys ≡ ys)
 
 abbrev pub NumbersFaults : Type 0
 NumbersFaults =

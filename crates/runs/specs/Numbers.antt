@@ -1,12 +1,12 @@
 -- A run over numbers, as C lends it: four for each row, and the number of its answer for each slot.
---     queryOf s d c a      a query of four numbers
 --     rowsOf ns            the whole rows of a list of numbers; what is left at its end is no row
 --     numbersOf qs         the numbers of rows
 --     numbersFault l n m   of n numbers with m slots: 16 by the whole rows, then 17 unless there are four numbers for each slot
 --     numbersRun l ns m    what a run with m slots comes to
 --     rowCode l q          the number of a row's answer
 --     codesAfter l ns ys   the slots afterwards: each row's number, and where the call is refused as they were
---     runCode o            what a run comes to, as a number: 0, 1, 0, 0 fit; 0, 0, 0, row the first that is not Permitted; or the refusal
+--     rowFound o           0, 1, 0, 0 where no row is found, which is fit; 0, 0, 0, row where one is
+--     runCode o            what a run comes to, as a number: that, or the refusal
 use Prim.Native.Nat.{ℕ, _*_, _/_}
 use mathlib.Core.Option.{Option, none, some}
 use mathlib.Core.List.{List, [], _∷_, map}
@@ -16,12 +16,9 @@ use Rattle.format.specs.declared.Refusal.{Refusal}
 use Rattle.format.specs.Refusals.{unlessRefused}
 use Rattle.format.specs.Answers.{Outcome, outcome}
 use Rattle.decision.specs.declared.Query.{Query}
-use Rattle.decision.specs.Decide.{answer}
+use Rattle.decision.specs.Decide.{answer, queryOf}
 use Rattle.decision.specs.Numbers.{partsOf, codeOf, decisionCode}
 use Rattle.runs.specs.Runs.{runFault, firstUnfit}
-
-abbrev pub queryOf : ℕ → ℕ → ℕ → ℕ → Query
-queryOf s d c a = record { source = s; dest = d; class = c; action = a }
 
 unfoldable pub rowsOf : List ℕ → List Query
 rowsOf [] = []

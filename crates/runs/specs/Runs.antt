@@ -1,7 +1,7 @@
 -- A run: 1 to 64 rows, each a query, on one policy (document 02, request 1: "Whole formulas on the pipetting arm").
 --     rowsFault n fits      16 unless there are 1 to 64 rows, then 17 unless the answers' list fits
 --     runFault l n fits     the image's refusals, 1 to 7, before them
---     queriesFault l n m    of n rows with m slots for answers
+--     queriesFault l n m    the same, of n rows with m slots for answers
 --     isPermitted o         what a query is answered is Permitted
 --     unfit l q             a row is not Permitted: NotPermitted, UnKnown or refused
 --     firstUnfit l qs       the number, counted from 0, of the first row that is not

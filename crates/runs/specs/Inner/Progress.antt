@@ -15,10 +15,10 @@ use Rattle.format.specs.Answers.{Outcome, refused, gives}
 use Rattle.decision.specs.declared.Query.{Query}
 use Rattle.decision.specs.declared.Answer.{Answer}
 use Rattle.decision.specs.declared.Answer.the-variants as answers
+use Rattle.decision.specs.Decide.{queryOf}
 use Rattle.runs.specs.declared.Run.{Run}
 use Rattle.runs.specs.declared.Run.the-variants.{Fit, Unfit, Refused}
 use Rattle.runs.specs.Runs.{rowsFault}
-use Rattle.runs.specs.Numbers.{queryOf}
 
 abbrev pub openFault : Outcome Starts → ℕ → Bool → Option Refusal
 openFault (refused f) rows fits = some f
