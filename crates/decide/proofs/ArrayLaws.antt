@@ -1,8 +1,8 @@
 -- Laws of an array's elements: of one that holds the same everywhere, and of one more element stored. Assumes nothing.
 use Prim.Native.Nat.{ℕ, zero, suc}
-use mathlib.Core.Path.{_≡_, refl, sym, subst}
+use mathlib.Core.Path.{_≡_, refl, sym, subst, ap}
 use mathlib.Core.Bool.{Bool, true, false}
-use mathlib.Core.List.{List}
+use mathlib.Core.List.{List, _∷_}
 use lib.ListN.{length, getD, set, replicate}
 use lib.Seq.{getD-set-same, getD-set-other, set-out}
 use lib.Dec.{eqb, ltb}
@@ -13,6 +13,12 @@ module _ {A : Type 0} (d : A) where
   blank zero g = refl
   blank (suc n) zero = refl
   blank (suc n) (suc g) = blank n g
+
+  -- what was stored in it is stored over
+  pub set-back : (n g : ℕ) (v : A) → set (set (replicate n d) g v) g d ≡ replicate n d
+  set-back zero g v = refl
+  set-back (suc n) zero v = refl
+  set-back (suc n) (suc g) v = ap {B = List A} (λ xs. d ∷ xs) (set-back n g v)
 
   -- what holds of each element, and of v at g, holds of each once v is stored at g
   pub by-set : (P : ℕ → A → Type 0) (xs : List A) (g : ℕ) (v : A) → ((j : ℕ) → P j (getD xs j d)) → P g v → (i : ℕ) → P i (getD (set xs g v) i d)

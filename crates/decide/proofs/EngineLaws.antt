@@ -20,7 +20,7 @@ use Rattle.decision.specs.Decide.{firstAt, covers, fails}
 use Rattle.decide.specs.declared.cover.Found.{Found}
 use Rattle.decide.specs.declared.cover.Found.the-variants.{At, Nothing}
 use Rattle.decide.specs.Inner.Parts.{rulesIn, requestIn, setIn}
-use Rattle.decide.specs.Inner.Marks.{markAll, Marked}
+use Rattle.decide.specs.Inner.Marks.{noMarks, markAll, Marked}
 use Rattle.decide.specs.Inner.Rules.{foundOf, firstRule, firstConstraint}
 use Rattle.format.proofs.Chain.{orElse-next, orElse-first, need-none, need-some}
 use Rattle.decide.proofs.TypeLaws.{set-rising}
@@ -62,6 +62,10 @@ module _ (g : ℕ) (q : Query) where
 
 pub type-told : (g h t w : ℕ) (b : Bool) → b ≡ isType g t → g ≡ h → t ≡ w → isType h w ≡ b
 type-told g h t w b e f k = sym (e ∙ ap (λ x. isType x t) f ∙ ap (isType h) k)
+
+-- marks of a set, where there were none before
+pub marks-after : (ms ns : List Bool) (S : List ℕ) → ns ≡ markAll ms S → ms ≡ noMarks → ns ≡ markAll noMarks S
+marks-after ms ns S e f = e ∙ ap (λ m. markAll m S) f
 
 pub marked-type :
     (l : List ℕ) (ms : List Bool) (size t w : ℕ) → Accepted l → IsType (countOf l Groups) w → t ≡ w → ms ≡ markAll (replicate 1024 false) (setIn l t) → size ≡ length (setIn l t)

@@ -21,8 +21,8 @@ use Rattle.format.proofs.Places.{words-at-length, words-at-none, words-at-next}
 use Rattle.format.proofs.Fields.{rising-parts}
 use Rattle.decision.specs.Sets.{anyOf, isIn, setOf, unionOf}
 use Rattle.decide.specs.Inner.Parts.{groupsIn, Spans}
-use Rattle.decide.specs.Inner.Marks.{markAll, Marked}
-use Rattle.decide.proofs.ArrayLaws.{blank}
+use Rattle.decide.specs.Inner.Marks.{noMarks, markAll, Marked}
+use Rattle.decide.proofs.ArrayLaws.{blank, set-back}
 use Rattle.decide.proofs.TypeLaws.{set-basic, set-rising}
 
 abbrev pub Small : List ℕ → Type 0
@@ -60,6 +60,9 @@ module _ (l : List ℕ) (t : ℕ) (h : t < 32768) where
   pub mark-basic : (ms : List Bool) → markAll ms (setOf (groupsIn l) t) ≡ set ms t true
   unfolding markAll
   mark-basic ms = rw (set-basic l t h)
+
+  pub unmark-basic : (ms : List Bool) → ms ≡ markAll noMarks (setOf (groupsIn l) t) → set ms t false ≡ noMarks
+  unmark-basic ms e = ap (λ x. set x t false) (e ∙ mark-basic noMarks) ∙ set-back false 1024 t true
 
   pub size-basic : length (setOf (groupsIn l) t) ≡ 1
   size-basic = rw (set-basic l t h)

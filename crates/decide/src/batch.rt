@@ -17,17 +17,16 @@ ghost use Rattle.runs.specs.Runs.{runFault, queriesFault, runOf, answersAfter, 
 ghost use Rattle.runs.specs.Numbers.{numbersRun, codesAfter};
 ghost use Rattle.runs.specs.Inner.Progress.{openFault, runSaid, rowsFor, nextRun, rowAt};
 ghost use Rattle.decide.specs.Inner.Parts.{Surveyed};
-ghost use Rattle.decide.specs.Inner.Kept.{KeptVerdicts, Leaves};
+ghost use Rattle.decide.specs.Inner.Kept.{Tables, Leaves};
 ghost use Rattle.decide.specs.Inner.Steps.{Begins, stepOf};
 
-// What a run begins with: how many rows are decided, what it comes to before the first of them, the policy as the check leaves
-// it, and a table of verdicts, of zeros.
+// What a run begins with: how many rows are decided, what it comes to before the first of them, and the policy as the check
+// leaves it.
 pub(crate) struct Begun {
     pub rows: usize,
     pub run: Run,
     pub sections: Sections,
     pub groups: [u16; 256],
-    pub verdicts: [u8; 256],
 }
 
 // A row's answer, and what the run comes to after it.
@@ -84,13 +83,11 @@ fn begin(image: &[u8], rows: usize, fits: bool) -> Begun
     let mut groups = [0u16; 256];
     let sections = survey(image, &mut groups);
     let run = opening(sections, rows, fits);
-    let verdicts = [0u8; 256];
     Begun {
         rows: decided(run, rows),
         run,
         sections,
         groups,
-        verdicts,
     }
 }
 
@@ -124,13 +121,16 @@ fn decide_row(
     sections: Sections,
     q: Query,
     verdicts: &mut [u8; 256],
+    source: &mut [bool; 1024],
+    dest: &mut [bool; 1024],
     run: Run,
     i: usize,
 ) -> Step
-    requires { ⌜ Surveyed (now image) (now groups) sections × KeptVerdicts (now image) (now verdicts) ⌝ }
-    ensures { λ r. ⌜ Leaves (stepOf (now (image .entry)) q run i) (KeptVerdicts (now (image .entry)) (now (verdicts .exit))) r ⌝ }
+    requires { ⌜ Surveyed (now image) (now groups) sections × Tables (now image) (now verdicts) (now source) (now dest) ⌝ }
+    ensures { λ r. ⌜ Leaves (stepOf (now (image .entry)) q run i)
+        (Tables (now (image .entry)) (now (verdicts .exit)) (now (source .exit)) (now (dest .exit))) r ⌝ }
 {
-    let answer = decide_surveyed(image, groups, sections, q, verdicts);
+    let answer = decide_surveyed(image, groups, sections, q, verdicts, source, dest);
     Step {
         answer,
         run: next(run, i, answer),
@@ -148,10 +148,22 @@ pub fn run(image: &[u8], queries: &[Query], answers: &mut [Answer]) -> Run
     let mut run = begun.run;
     let sections = begun.sections;
     let groups = begun.groups;
-    let mut verdicts = begun.verdicts;
+    let mut verdicts = [0u8; 256];
+    let mut source = [false; 1024];
+    let mut dest = [false; 1024];
     let mut i = 0;
     while i < rows {
-        let s = decide_row(image, &groups, sections, queries[i], &mut verdicts, run, i);
+        let s = decide_row(
+            image,
+            &groups,
+            sections,
+            queries[i],
+            &mut verdicts,
+            &mut source,
+            &mut dest,
+            run,
+            i,
+        );
         answers[i] = s.answer;
         run = s.run;
         i += 1;
@@ -193,11 +205,23 @@ pub fn run_numbers(image: &[u8], queries: &[u16], answers: &mut [u64]) -> Run
     let mut run = begun.run;
     let sections = begun.sections;
     let groups = begun.groups;
-    let mut verdicts = begun.verdicts;
+    let mut verdicts = [0u8; 256];
+    let mut source = [false; 1024];
+    let mut dest = [false; 1024];
     let mut i: usize = 0;
     while i < rows {
         let q = row_at(queries, i);
-        let s = decide_row(image, &groups, sections, q, &mut verdicts, run, i);
+        let s = decide_row(
+            image,
+            &groups,
+            sections,
+            q,
+            &mut verdicts,
+            &mut source,
+            &mut dest,
+            run,
+            i,
+        );
         let a = s.answer;
         answers[i] = number(a);
         run = s.run;

@@ -3,6 +3,7 @@ use crate::constraint::first_constraint;
 use crate::cover::Found;
 use crate::cover::first_rule;
 use crate::sets::mark_type;
+use crate::sets::unmark_type;
 use crate::word::wide_word;
 use crate::word::word_in;
 use decision::Answer;
@@ -17,19 +18,27 @@ ghost use mathlib.Core.Path.{_≡_};
 ghost use Rattle.format.specs.Policy.{policyOf};
 ghost use Rattle.format.specs.Answers.{gives};
 ghost use Rattle.decision.specs.Decide as deciding;
-ghost use Rattle.decide.specs.Inner.Parts.{Ready, Surveyed};
-ghost use Rattle.decide.specs.Inner.Kept.{KeptVerdicts, Leaves};
+ghost use Rattle.decide.specs.Inner.Parts.{Ready, Surveyed, setIn};
+ghost use Rattle.decide.specs.Inner.Marks.{Marked};
+ghost use Rattle.decide.specs.Inner.Kept.{KeptVerdicts, Tables, Leaves};
 
-// The decision of an accepted policy on a query of its types.
-fn judge(image: &[u8], groups: &[u16; 256], s: Starts, q: Query, verdicts: &mut [u8; 256]) -> Answer
-    requires { ⌜ Ready (now image) (now groups) s × deciding.Valid (now image) q × KeptVerdicts (now image) (now verdicts) ⌝ }
+// The decision of an accepted policy on a query whose source and destination are marked, with their sizes.
+fn judge_marked(
+    image: &[u8],
+    groups: &[u16; 256],
+    s: Starts,
+    q: Query,
+    source: &[bool; 1024],
+    sources: usize,
+    dest: &[bool; 1024],
+    dests: usize,
+    verdicts: &mut [u8; 256],
+) -> Answer
+    requires { ⌜ Ready (now image) (now groups) s × Marked (setIn (now image) (q .source)) (now source) sources
+        × Marked (setIn (now image) (q .dest)) (now dest) dests × KeptVerdicts (now image) (now verdicts) ⌝ }
     ensures { λ r. ⌜ Leaves (gives (deciding.decide (policyOf (now (image .entry))) q))
         (KeptVerdicts (now (image .entry)) (now (verdicts .exit))) (deciding.answerOutcome r) ⌝ }
 {
-    let mut source = [false; 1024];
-    let sources = mark_type(image, groups, wide_word(q.source), &mut source);
-    let mut dest = [false; 1024];
-    let dests = mark_type(image, groups, wide_word(q.dest), &mut dest);
     let mut ksource = [0u8; 256];
     let mut kdest = [0u8; 256];
     match first_rule(
@@ -37,9 +46,9 @@ fn judge(image: &[u8], groups: &[u16; 256], s: Starts, q: Query, verdicts: &mut 
         groups,
         s,
         q,
-        &source,
+        source,
         sources,
-        &dest,
+        dest,
         dests,
         &mut ksource,
         &mut kdest,
@@ -50,9 +59,9 @@ fn judge(image: &[u8], groups: &[u16; 256], s: Starts, q: Query, verdicts: &mut 
             groups,
             s,
             q,
-            &source,
+            source,
             sources,
-            &dest,
+            dest,
             dests,
             &mut ksource,
             &mut kdest,
@@ -64,18 +73,46 @@ fn judge(image: &[u8], groups: &[u16; 256], s: Starts, q: Query, verdicts: &mut 
     }
 }
 
-// The engine's answer on an image that `survey` has checked, with what it gave. What is found of constraints is kept in a table,
-// of zeros at first, which serves for every query on the image.
+// The decision of an accepted policy on a query of its types. The marks are taken off again, which costs less than 1,024 new
+// ones for each query.
+fn judge(
+    image: &[u8],
+    groups: &[u16; 256],
+    s: Starts,
+    q: Query,
+    verdicts: &mut [u8; 256],
+    source: &mut [bool; 1024],
+    dest: &mut [bool; 1024],
+) -> Answer
+    requires { ⌜ Ready (now image) (now groups) s × deciding.Valid (now image) q
+        × Tables (now image) (now verdicts) (now source) (now dest) ⌝ }
+    ensures { λ r. ⌜ Leaves (gives (deciding.decide (policyOf (now (image .entry))) q))
+        (Tables (now (image .entry)) (now (verdicts .exit)) (now (source .exit)) (now (dest .exit))) (deciding.answerOutcome r) ⌝ }
+{
+    let from = wide_word(q.source);
+    let to = wide_word(q.dest);
+    let sources = mark_type(image, groups, from, source);
+    let dests = mark_type(image, groups, to, dest);
+    let answer = judge_marked(image, groups, s, q, source, sources, dest, dests, verdicts);
+    unmark_type(from, source);
+    unmark_type(to, dest);
+    answer
+}
+
+// The engine's answer on an image that `survey` has checked, with what it gave. Three tables serve for every query on the image:
+// what is found of constraints, of zeros at first, and marks, of which none is set.
 pub(crate) fn decide_surveyed(
     image: &[u8],
     groups: &[u16; 256],
     sections: Sections,
     q: Query,
     verdicts: &mut [u8; 256],
+    source: &mut [bool; 1024],
+    dest: &mut [bool; 1024],
 ) -> Answer
-    requires { ⌜ Surveyed (now image) (now groups) sections × KeptVerdicts (now image) (now verdicts) ⌝ }
+    requires { ⌜ Surveyed (now image) (now groups) sections × Tables (now image) (now verdicts) (now source) (now dest) ⌝ }
     ensures { λ r. ⌜ Leaves (deciding.answer (now (image .entry)) q)
-        (KeptVerdicts (now (image .entry)) (now (verdicts .exit))) (deciding.answerOutcome r) ⌝ }
+        (Tables (now (image .entry)) (now (verdicts .exit)) (now (source .exit)) (now (dest .exit))) (deciding.answerOutcome r) ⌝ }
 {
     match sections {
         Sections::Refused(f) => Answer::Refused(f),
@@ -93,7 +130,7 @@ pub(crate) fn decide_surveyed(
                     place: 0,
                 });
             }
-            judge(image, groups, s, q, verdicts)
+            judge(image, groups, s, q, verdicts, source, dest)
         }
     }
 }
@@ -105,5 +142,15 @@ pub fn decide(image: &[u8], q: Query) -> Answer
     let mut groups = [0u16; 256];
     let sections = survey(image, &mut groups);
     let mut verdicts = [0u8; 256];
-    decide_surveyed(image, &groups, sections, q, &mut verdicts)
+    let mut source = [false; 1024];
+    let mut dest = [false; 1024];
+    decide_surveyed(
+        image,
+        &groups,
+        sections,
+        q,
+        &mut verdicts,
+        &mut source,
+        &mut dest,
+    )
 }

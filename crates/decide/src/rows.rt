@@ -12,7 +12,7 @@ ghost use Rattle.decision.specs.Decide.{answer};
 ghost use Rattle.decision.specs.Numbers.{decisionCode};
 ghost use Rattle.decision.specs.Rows.{queryAt, rowsIn, answered};
 ghost use Rattle.decide.specs.Inner.Parts.{Surveyed};
-ghost use Rattle.decide.specs.Inner.Kept.{KeptVerdicts, Leaves};
+ghost use Rattle.decide.specs.Inner.Kept.{Tables, Leaves};
 
 // The query in the row at a place.
 fn query_at(queries: &[u8], at: usize) -> Query
@@ -35,13 +35,16 @@ fn row(
     queries: &[u8],
     at: usize,
     verdicts: &mut [u8; 256],
+    source: &mut [bool; 1024],
+    dest: &mut [bool; 1024],
 ) -> u64
-    requires { ⌜ Surveyed (now image) (now groups) sections × KeptVerdicts (now image) (now verdicts) × (at + 7 < length (now queries)) ⌝ }
+    requires { ⌜ Surveyed (now image) (now groups) sections × Tables (now image) (now verdicts) (now source) (now dest)
+        × (at + 7 < length (now queries)) ⌝ }
     ensures { λ r. ⌜ Leaves (decisionCode (answer (now (image .entry)) (queryAt (now (queries .entry)) at)))
-        (KeptVerdicts (now (image .entry)) (now (verdicts .exit))) r ⌝ }
+        (Tables (now (image .entry)) (now (verdicts .exit)) (now (source .exit)) (now (dest .exit))) r ⌝ }
 {
     let q = query_at(queries, at);
-    number(decide_surveyed(image, groups, sections, q, verdicts))
+    number(decide_surveyed(image, groups, sections, q, verdicts, source, dest))
 }
 
 // Answers as many whole rows as there are slots, and tells how many. Every other slot stays as it is. A refused image gives its
@@ -54,11 +57,22 @@ pub fn decide_all(image: &[u8], queries: &[u8], answers: &mut [u64]) -> usize
     let mut groups = [0u16; 256];
     let sections = survey(image, &mut groups);
     let mut verdicts = [0u8; 256];
+    let mut source = [false; 1024];
+    let mut dest = [false; 1024];
     for k in 0..answers.len() {
         if rows <= k {
             return rows;
         }
-        answers[k] = row(image, &groups, sections, queries, 8 * k, &mut verdicts);
+        answers[k] = row(
+            image,
+            &groups,
+            sections,
+            queries,
+            8 * k,
+            &mut verdicts,
+            &mut source,
+            &mut dest,
+        );
     }
     answers.len()
 }

@@ -10,7 +10,8 @@ ghost use Rattle.format.specs.Claims.{IsType};
 ghost use Rattle.format.specs.Inner.Places.{wordsAt};
 ghost use Rattle.decision.specs.Sets.{unionOf};
 ghost use Rattle.decide.specs.Inner.Parts.{Known, TypesAt, groupsIn, setIn};
-ghost use Rattle.decide.specs.Inner.Marks.{markAll};
+ghost use Rattle.decide.specs.Inner.Marks.{Basic, markAll};
+ghost use Rattle.decide.specs.Inner.Kept.{Unmarks};
 
 // Marks the basic types of a type, and tells how many they are.
 pub(crate) fn mark_type(
@@ -51,4 +52,16 @@ pub(crate) fn mark_types(
         at += 2;
         left -= 1;
     }
+}
+
+// Takes the marks of a type off again, which leaves none.
+pub(crate) fn unmark_type(t: usize, marks: &mut [bool; 1024])
+    requires { ⌜ Basic t ⌝ }
+    ensures { λ _. ⌜ Unmarks t (now (marks .entry)) (now (marks .exit)) ⌝ }
+{
+    if t < 32768 {
+        marks[t] = false;
+        return;
+    }
+    *marks = [false; 1024];
 }

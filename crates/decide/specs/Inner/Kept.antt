@@ -10,6 +10,8 @@
 --     KeptNames l names, KeptVerdicts l verdicts   of the groups' names, and of the verdicts
 --     KeptReach l ms f ..      of the groups that touch marks, and of a test of sources; KeptNaming: and of names
 --     KeptPolicy l ..          of names and of verdicts
+--     Unmarks t ms ns          where ms are the marks of the type t, ns are none
+--     Tables l vs ms ns        what is lent from query to query: the verdicts, and marks for a source and a destination, none of them set
 --     Leaves x K r             the answer is x, and what is kept is right after it
 use Prim.Native.Nat.{ℕ, _+_, _-_, _<_}
 use mathlib.Core.Path.{_≡_}
@@ -22,7 +24,7 @@ use Rattle.format.specs.Policy.{placeOf}
 use Rattle.decision.specs.declared.Query.{Query}
 use Rattle.decision.specs.Decide.{broken}
 use Rattle.decide.specs.Inner.Parts.{rulesIn, constraintIn, setIn, groupSet}
-use Rattle.decide.specs.Inner.Marks.{Marked, anyMarked, fullyMarked}
+use Rattle.decide.specs.Inner.Marks.{noMarks, markAll, Marked, anyMarked, fullyMarked}
 use Rattle.decide.specs.Inner.Names.{nameOf}
 
 unfoldable pub bit : Bool → ℕ
@@ -68,6 +70,14 @@ pub record KeptNaming (l : List ℕ) (ms : List Bool) (kr ns : List ℕ) : Type 
 pub record KeptPolicy (l ns vs : List ℕ) : Type 0 where
   pub names : KeptNames l ns
   pub verdicts : KeptVerdicts l vs
+
+abbrev pub Unmarks : ℕ → List Bool → List Bool → Type 0
+Unmarks t ms ns = (l : List ℕ) → ms ≡ markAll noMarks (setIn l t) → ns ≡ noMarks
+
+pub record Tables (l vs : List ℕ) (ms ns : List Bool) : Type 0 where
+  pub verdicts : KeptVerdicts l vs
+  pub source : ms ≡ noMarks
+  pub dest : ns ≡ noMarks
 
 module _ {A : Type 0} where
   pub record Leaves (x : A) (K : Type 0) (r : A) : Type 0 where

@@ -1,4 +1,6 @@
 -- Sets as marks, one for each basic type.
+--     Basic t               a type that is no group is a basic type
+--     noMarks               1,024 marks, none of them set
 --     markAll ms xs         marks with those of a list
 --     anyIs ms v xs         an element of a list has a mark of a value; anyMarked: it is marked
 --     tallied ms xs         how many elements are marked
@@ -8,10 +10,16 @@ use Prim.Native.Nat.{ℕ, _+_, _<_}
 use mathlib.Core.Path.{_≡_}
 use mathlib.Core.Bool.{Bool, Bool·beq, true, false, cond}
 use mathlib.Core.List.{List, [], _∷_}
-use lib.ListN.{length, getD, set}
+use lib.ListN.{length, getD, set, replicate}
 use lib.Dec.{eqb}
 use Rattle.format.specs.Inner.Places.{Rising}
 use Rattle.decision.specs.Sets.{anyOf, isIn}
+
+abbrev pub Basic : ℕ → Type 0
+Basic t = t < 32768 → t < 1024
+
+abbrev pub noMarks : List Bool
+noMarks = replicate 1024 false
 
 unfoldable pub markAll : List Bool → List ℕ → List Bool
 markAll ms [] = ms

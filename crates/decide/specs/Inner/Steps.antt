@@ -13,13 +13,11 @@ use Rattle.runs.specs.Inner.Progress.{runSaid, rowsFor, nextRun}
 use Rattle.decide.specs.declared.batch.Begun.{Begun}
 use Rattle.decide.specs.declared.batch.Step.{Step}
 use Rattle.decide.specs.Inner.Parts.{Surveyed}
-use Rattle.decide.specs.Inner.Kept.{KeptVerdicts}
 
 pub record Begins (l : List ℕ) (n : ℕ) (f : Option Refusal) (b : Begun) : Type 0 where
   pub rows : b .rows ≡ rowsFor (runSaid f) n
   pub run : b .run ≡ runSaid f
   pub surveyed : Surveyed l (b .groups) (b .sections)
-  pub kept : KeptVerdicts l (b .verdicts)
 
 abbrev pub stepOf : List ℕ → Query → Run → ℕ → Step
 stepOf l q r i = record { answer = rowAnswer l q; run = nextRun r i (rowAnswer l q) }

@@ -8,7 +8,6 @@ use Rattle.image.proofs.SurveyLaws.{survey-placed}
 use Rattle.runs.specs.Runs.{runFault}
 use Rattle.runs.specs.Inner.Progress.{openFault, runSaid, rowsFor}
 use Rattle.runs.proofs.Progress.{open-fault}
-use Rattle.decide.proofs.KeptLaws.{kept-none}
 use Rattle.decide.proofs.batch.begin.Statement.{statement}
 use Rattle.decide.proofs.batch.begin.Tie as tie
 
@@ -27,7 +26,6 @@ returns c =
       rows = c .decided .ensures ∙ ap (λ r. rowsFor r (c .before .before .before .before .before .args .rows)) (run-is (c .before));
       run = run-is (c .before);
       surveyed = record { sections = s .sections; placed = survey-placed _ _ _ _ s };
-      kept = kept-none _ 256;
     }
 
 pub begin-spec : {M : Type 1} → statement M

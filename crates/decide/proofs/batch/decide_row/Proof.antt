@@ -7,7 +7,7 @@ use Rattle.decide.proofs.batch.decide_row.Tie as tie
 returns : tie.Need-returns
 returns c =
     let r = c .before .decide-surveyed .ensures in
-    let a = c .before .before .before .before .args in
+    let a = c .before .before .before .before .before .before .args in
     record { is = step-is _ _ (a .run) (a .i) _ _ (r .is) (c .next .ensures); kept = r .kept }
 
 pub decide-row-spec : {M : Type 1} → statement M

@@ -1,6 +1,6 @@
 -- `run` meets its contract: a walk of its MIR, by hand, with one loop and two calls of covered functions.
--- `begin_queries` says how many rows are decided. The table of the groups' places is lent for the time of the loop, that of the
--- verdicts anew for each turn. A turn reads a query out of the `&[Query]`, calls `decide_row`, and stores the answer into the
+-- `begin_queries` says how many rows are decided. The table of the groups' places is lent for the time of the loop, the verdicts
+-- and the marks anew for each turn. A turn reads a query out of the `&[Query]`, calls `decide_row`, and stores the answer into the
 -- `&mut [Answer]`, which is opened and closed within the turn. After i rows the answers are `filled i` and the run comes to
 -- `out i`; the variant is the number of rows left. Assumes nothing.
 use mathlib.Core.Path.{_≡_, refl, sym, ap, subst, _∙_}
@@ -12,7 +12,7 @@ use Prim.Native.Nat.{ℕ, zero, suc, _+_, _-_, _*_, _<_, _≤_, _^_}
 use native.Mathlib.Nat.{add-zero, add-suc, lt-of-le-of-lt, lt-of-lt-of-le, le-of-lt, mul-le-mul-right}
 use native.Mathlib.Omega.{arith}
 use mathlib.Core.List.{List, [], _∷_, map}
-use lib.ListN.{length, getD, set, length-set, length-map, List·getD-map}
+use lib.ListN.{length, getD, set, replicate, length-set, length-map, List·getD-map}
 use lib.WfN.{Nat·lt-wfRel}
 use lib.Dec.{ltb, lit<, lit≤}
 use borrow.Author.Tests.{ltb-true, ltb-false}
@@ -30,8 +30,8 @@ use sound.WpLaws.{WpFn-mono, FmC, fmOf}
 use contract.Monad.{Fun, fact}
 use contract.Running.{givenOf, tables, tablesOf}
 use types.Kit.{Given, Item, Sq, ‵, raw, some, later, _⊛_, ⋆, runs, anyQ, atRet, _$_, _∵_, !, qed, by, move, keep, drop, use1, use2, use3, split, join, pick, await, rewrite, fsplit, fjoin, fpick, fpack, suffices, frame, done}
-use types.Part.{whole, sub, look-in}
-use types.Run.{look, look-raw, store, store-raw, init, forget, stop, hop, fld, from, load, lit, addr, of-opd, bin, and-then, no-more, assigns, assigns-last, land, first, blocks, stays, leaves-loop, loops, again, Below, exec, returns, enter, alloc1, alloc0, params1, pass1, pass0, free1, free0}
+use types.Part.{whole, sub, look-in, rep}
+use types.Run.{look, look-raw, store, store-raw, init, forget, stop, hop, fld, from, load, lit, false-lit, addr, of-opd, bin, and-then, no-more, assigns, assigns-last, land, first, blocks, stays, leaves-loop, loops, again, Below, exec, returns, enter, alloc1, alloc0, params1, pass1, pass0, free1, free0}
 use types.Share.{arr-parts}
 use types.SemTy.{Body}
 use types.Tokens.{lft-new, lft-end, lent-back}
@@ -40,10 +40,10 @@ use denote.RattleType.{RattleType, owns}
 use denote.Shadow.{pureI}
 use denote.Laws.{Is, shows}
 use denote.Memory.{partAt, pointee, shares, mem}
-use denote.Plain.{uint-makes, uint-lawful}
-use denote.Builtin.{u8, u16, usize}
+use denote.Plain.{uint-vals, uint-tells, uint-makes, uint-lawful, uint-copy, bool-vals, bool-tells, bool-makes, bool-lawful, bool-copy}
+use denote.Builtin.{u8, u16, usize, bool}
 use denote.Ref.{RefT, MutRef, ShrRef, shr-copy}
-use denote.Array.{array-lawful, array-makes}
+use denote.Array.{Array, array-tells, array-lawful, array-makes, array-repeat}
 use denote.Slice.{sliceTy, sliceVal, ShrSlice, MutSlice, heres, Room, slice-vals, shr-slice-tells, shr-slice-copy, mut-slice-tells, at-slice, codedHoleys}
 use denote.Lend.{Held, lends-shr, lends-ref, ref-back}
 use denote.Index.{place-is, elem-out, elem-back, elem-put, looks-slice, shuts-slice, opens-slice, closes-slice}
@@ -77,11 +77,13 @@ use Rattle.runs.proofs.Run as O
 use Rattle.runs.proofs.Run.Laws as O′
 use Rattle.runs.proofs.Fill.{fill, length-fill, fill-next}
 use Rattle.runs.proofs.Progress.{outAt, out-none, out-next, rows-most, rows-decided, ran-queries, wrote-queries}
-use Rattle.decide.proofs.LentTables.{Tab, tab-ty, tab-val, map-same, lies, lies-back}
+use Rattle.decide.proofs.LentTables.{tab-ty, tab-val, repeated, map-same, lies, lies-back}
 use Rattle.decide.specs.declared.batch.Begun.{Begun}
 use Rattle.decide.specs.declared.batch.Step.{Step}
 use Rattle.decide.specs.Inner.Parts.{Surveyed}
-use Rattle.decide.specs.Inner.Kept.{KeptVerdicts, Leaves}
+use Rattle.decide.specs.Inner.Kept as Kept
+use Rattle.decide.specs.Inner.Kept.{Leaves}
+use Rattle.decide.proofs.KeptLaws.{kept-none}
 use Rattle.decide.specs.Inner.Steps.{Begins, stepOf}
 use Rattle.decide.proofs.batch.Begun as B
 use Rattle.decide.proofs.batch.Begun.Laws as B′
@@ -123,18 +125,34 @@ bval = SL.val B.the-type B′.the-laws
 abbrev sval : Step → Val
 sval = SL.val S.the-type S′.the-laws
 
--- the table of places, and that of the verdicts
+-- the table of places, that of the verdicts, and marks
 abbrev G : RattleType
-G = Tab w16
+G = Array u16 256
 
 abbrev gval : List ℕ → Val
-gval = tab-val w16
+gval = tab-val (uint-vals w16)
 
 abbrev Verdicts : RattleType
-Verdicts = Tab w8
+Verdicts = Array u8 256
 
 abbrev vval : List ℕ → Val
-vval = tab-val w8
+vval = tab-val (uint-vals w8)
+
+abbrev Marks : RattleType
+Marks = Array bool 1024
+
+abbrev mval : List Bool → Val
+mval = tab-val bool-vals
+
+-- their MIR types
+abbrev tyG : Ty
+tyG = tab-ty u16 256
+
+abbrev tyV : Ty
+tyV = tab-ty u8 256
+
+abbrev tyM : Ty
+tyM = tab-ty bool 1024
 
 abbrev noQuery : Query
 noQuery = record { source = 0; dest = 0; class = 0; action = 0 }
@@ -159,7 +177,7 @@ tested false = inr refl
 
 -- where local k stands, behind n others
 abbrev L : ℕ → ℕ → ℕ
-L n k = n + 2 * (20 - k)
+L n k = n + 2 * (24 - k)
 
 fewer : (r i : ℕ) → i < r → r - suc i < r - i
 fewer r i l = omega (arith, l)
@@ -273,55 +291,72 @@ module _ {M : Type 1} (𝓤 : URA M) (H : Heap 𝓤) (A : Atoms 𝓤) (W : Given
   said-begin : (r : Begun) → ent 𝓤 (ensured 𝓤 H A begin.ended (begin.clauses 𝓤 H A at-mem run) (κ₀, tt) (x₀, (length qs, (length ys, tt))) tt r) (fact 𝓤 (Begun-is r))
   said-begin r = exE 𝓤 _ (λ ws. snd∗ 𝓤 (sem 𝓤 H A (lasts begin.ended (κ₀, tt) (x₀, (length qs, (length ys, tt))) ws)) (fact 𝓤 (Begun-is r)))
 
-  -- what was prepared: the sections, and the table of places, lent for α; and the verdicts, lent for ν
-  module _ (st : Sections) (gs : List ℕ) (l₈ l₉ α : ℕ) (γ : GName) where
+  -- what was prepared: the sections, and the table of places, lent for α; and the verdicts and the marks, lent for ν, σ and π
+  module _ (st : Sections) (gs : List ℕ) (l₈ l₉ l₁₀ l₁₁ α : ℕ) (γ : GName) where
     abbrev xg : RefT (List ℕ)
     xg = record { ptr = (l₈, 0); name = γ; now = gs }
 
     abbrev OwnG : Fml
     OwnG = ShrRef (named 1) (α ∷ []) G .own xg (vptr l₈ 0 ∷ [])
 
-    module _ (vs : List ℕ) (ν : ℕ) (δ : GName) where
-      abbrev xv : RefT (List ℕ)
-      xv = record { ptr = (l₉, 0); name = δ; now = vs }
+    abbrev xv : List ℕ → GName → RefT (List ℕ)
+    xv vs δ = record { ptr = (l₉, 0); name = δ; now = vs }
 
-      abbrev OwnV : Fml
-      OwnV = MutRef (named 2) (ν ∷ []) Verdicts .own xv (vptr l₉ 0 ∷ [])
+    abbrev OwnV : List ℕ → ℕ → GName → Fml
+    OwnV vs ν δ = MutRef (named 2) (ν ∷ []) Verdicts .own (xv vs δ) (vptr l₉ 0 ∷ [])
 
-      abbrev Args : ℕ → RefT (List ℕ) × (RefT (List ℕ) × (Sections × (Query × (RefT (List ℕ) × (Run × (ℕ × Unit {0}))))))
-      Args i = (x₀, (xg, (st, (elem i, (xv, (out i, (i, tt)))))))
+    abbrev xs : List Bool → GName → RefT (List Bool)
+    xs ms δ = record { ptr = (l₁₀, 0); name = δ; now = ms }
+
+    abbrev OwnS : List Bool → ℕ → GName → Fml
+    OwnS ms σ δ = MutRef (named 3) (σ ∷ []) Marks .own (xs ms δ) (vptr l₁₀ 0 ∷ [])
+
+    abbrev xd : List Bool → GName → RefT (List Bool)
+    xd ns δ = record { ptr = (l₁₁, 0); name = δ; now = ns }
+
+    abbrev OwnD : List Bool → ℕ → GName → Fml
+    OwnD ns π δ = MutRef (named 4) (π ∷ []) Marks .own (xd ns δ) (vptr l₁₁ 0 ∷ [])
+
+    module _ (vs : List ℕ) (ms ns : List Bool) (ν σ π : ℕ) (δ₁ δ₂ δ₃ : GName) where
+      abbrev Args : ℕ → RefT (List ℕ) × (RefT (List ℕ) × (Sections × (Query × (RefT (List ℕ) × (RefT (List Bool) × (RefT (List Bool) × (Run × (ℕ × Unit {0}))))))))
+      Args i = (x₀, (xg, (st, (elem i, (xv vs δ₁, (xs ms δ₂, (xd ns δ₃, (out i, (i, tt)))))))))
 
       abbrev to-row : ℕ → Decides 𝓤 H A at-mem run .Ghost
       to-row i = (
         (
-          (κ₀, (α ∷ [], (ν ∷ [], tt))),
-          (q₀, (fullShare, (fullShare, tt))),
+          (κ₀, (α ∷ [], (ν ∷ [], (σ ∷ [], (π ∷ [], tt))))),
+          (q₀, (fullShare, (fullShare, (fullShare, (fullShare, tt))))),
           tt,
           Args i,
-          (s₀ ∷ [], (vptr l₈ 0 ∷ [], (xval st ∷ [], (qval (elem i) ∷ [], (vptr l₉ 0 ∷ [], (oval (out i) ∷ [], (vint w64 i ∷ [], tt))))))),
+          (s₀ ∷ [], (vptr l₈ 0 ∷ [], (xval st ∷ [], (qval (elem i) ∷ [], (vptr l₉ 0 ∷ [], (vptr l₁₀ 0 ∷ [], (vptr l₁₁ 0 ∷ [], (oval (out i) ∷ [], (vint w64 i ∷ [], tt))))))))),
         ),
         tt,
       )
 
-      ask-row : (i : ℕ) → Surveyed img gs st → KeptVerdicts img vs → Is X.the-row st (xval st ∷ []) → Is Q.the-row (elem i) (qval (elem i) ∷ []) → Is O.the-row (out i) (oval (out i) ∷ []) → i < 2 ^ 64
-          → ent 𝓤 (sep 𝓤 (A .lft κ₀ q₀) (sep 𝓤 (A .lft (α ∷ []) fullShare) (sep 𝓤 (A .lft (ν ∷ []) fullShare) (sep 𝓤 (sem 𝓤 H A Own₀) (sep 𝓤 (sem 𝓤 H A OwnG) (sem 𝓤 H A OwnV))))))
-          (Decides 𝓤 H A at-mem run .pre (to-row i))
+      -- what `decide_row` is handed
+      abbrev Handed : SProp 𝓤
+      Handed =
+          sep 𝓤 (A .lft κ₀ q₀) (sep 𝓤 (A .lft (α ∷ []) fullShare) (sep 𝓤 (A .lft (ν ∷ []) fullShare) (sep 𝓤 (A .lft (σ ∷ []) fullShare) (sep 𝓤 (A .lft (π ∷ []) fullShare)
+          (sep 𝓤 (sem 𝓤 H A Own₀) (sep 𝓤 (sem 𝓤 H A OwnG) (sep 𝓤 (sem 𝓤 H A (OwnV vs ν δ₁)) (sep 𝓤 (sem 𝓤 H A (OwnS ms σ δ₂)) (sem 𝓤 H A (OwnD ns π δ₃))))))))))
+
+      ask-row : (i : ℕ) → Surveyed img gs st → Kept.Tables img vs ms ns → Is X.the-row st (xval st ∷ []) → Is Q.the-row (elem i) (qval (elem i) ∷ []) → Is O.the-row (out i) (oval (out i) ∷ []) → i < 2 ^ 64
+          → ent 𝓤 Handed (Decides 𝓤 H A at-mem run .pre (to-row i))
       ask-row i surveyed kept ist isq iso g =
-          qed W (‵ (flft κ₀ q₀) ∷ ‵ (flft (α ∷ []) fullShare) ∷ (‵ (flft (ν ∷ []) fullShare) ⊛ (‵ Own₀ ⊛ (‵ OwnG ⊛ ‵ OwnV))) ∷ []) ∵ says ! (surveyed, kept) $
-          move ! (2 ∷ []) $ split ! $ move ! (1 ∷ []) $ split ! $ move ! (1 ∷ []) $ split ! $
-          -- [the table; the verdicts; image; ν; κ₀; α]
+          qed W (‵ (flft κ₀ q₀) ∷ ‵ (flft (α ∷ []) fullShare) ∷ (‵ (flft (ν ∷ []) fullShare) ⊛ (‵ (flft (σ ∷ []) fullShare) ⊛ (‵ (flft (π ∷ []) fullShare) ⊛ (‵ Own₀ ⊛ (‵ OwnG ⊛ (‵ (OwnV vs ν δ₁) ⊛ (‵ (OwnS ms σ δ₂) ⊛ ‵ (OwnD ns π δ₃)))))))) ∷ []) ∵ says ! (surveyed, kept) $
+          move ! (2 ∷ []) $ split ! $ move ! (1 ∷ []) $ split ! $ move ! (1 ∷ []) $ split ! $ move ! (1 ∷ []) $ split ! $ move ! (1 ∷ []) $ split ! $ move ! (1 ∷ []) $ split ! $ move ! (1 ∷ []) $ split ! $
+          -- [source; destination; the verdicts; the table; image; π; σ; ν; κ₀; α]
           nothing ! $ owned ! usize (Is usize) (uint-makes 𝓤 H A W w64) i _ (refl, g) $ fjoin ! $
           owned ! O.the-row (Is O.the-row) (EL.makes O.the-type O′.the-plain 𝓤 H A) (out i) _ iso $ fjoin ! $
-          move ! (2 ∷ 0 ∷ []) $ fjoin ! $
+          move ! (2 ∷ 0 ∷ []) $ fjoin ! $ move ! (1 ∷ 0 ∷ []) $ fjoin ! $ move ! (1 ∷ 0 ∷ []) $ fjoin ! $
           owned ! Q.the-row (Is Q.the-row) (SL.makes Q.the-type Q′.the-plain 𝓤 H A) (elem i) _ isq $ fjoin ! $
           owned ! X.the-row (Is X.the-row) (EL.makes X.the-type X′.the-plain 𝓤 H A) st _ ist $ fjoin ! $
-          -- [the last five; the table; image; ν; κ₀; α]
+          -- [the last seven; the table; image; π; σ; ν; κ₀; α]
           move ! (1 ∷ 0 ∷ []) $ fjoin ! $ move ! (1 ∷ 0 ∷ []) $ fjoin ! $
-          -- [the parameters; ν; κ₀; α]
-          nothing ! $ move ! (2 ∷ 0 ∷ []) $ join ! $ move ! (3 ∷ 0 ∷ []) $ join ! $ move ! (2 ∷ 0 ∷ []) $ join ! $ done !
+          -- [the parameters; π; σ; ν; κ₀; α]
+          nothing ! $ move ! (2 ∷ 0 ∷ []) $ join ! $ move ! (2 ∷ 0 ∷ []) $ join ! $ move ! (2 ∷ 0 ∷ []) $ join ! $ move ! (3 ∷ 0 ∷ []) $ join ! $ move ! (2 ∷ 0 ∷ []) $ join ! $ done !
 
   module _ (𝓣 : Tables 𝓤 H) (g₁ : Room Q.the-row (length qs)) (g₂ : Room N.the-row (length ys)) (known-row : Triple 𝓤 (𝓣 .C #decide·decide-row) (Decides 𝓤 H A at-mem run))
-      (l₀ l₁ l₂ l₃ l₄ l₅ l₆ l₇ l₈ l₉ l₁₀ l₁₁ l₁₂ l₁₃ l₁₄ l₁₅ l₁₆ l₁₇ l₁₈ l₁₉ l₂₀ : ℕ) where
+      (l₀ l₁ l₂ l₃ l₄ l₅ l₆ l₇ l₈ l₉ l₁₀ l₁₁ l₁₂ l₁₃ l₁₄ l₁₅ l₁₆ l₁₇ l₁₈ l₁₉ l₂₀ l₂₁ l₂₂ l₂₃ l₂₄ : ℕ) where
     abbrev word : Ty
     word = tyInt w64
 
@@ -335,43 +370,52 @@ module _ {M : Type 1} (𝓤 : URA M) (H : Heap 𝓤) (A : Atoms 𝓤) (W : Given
     slice₂ = sliceTy (tyRef (named 2) mut (pointee (N.the-row .written)))
 
     abbrev to-places : Ty
-    to-places = tyRef erased imm (tab-ty w16)
+    to-places = tyRef erased imm tyG
 
     abbrev to-verdicts : Ty
-    to-verdicts = tyRef erased mut (tab-ty w8)
+    to-verdicts = tyRef erased mut tyV
+
+    abbrev to-marks : Ty
+    to-marks = tyRef erased mut tyM
 
     abbrev En : Env 𝓤 H
-    En = (O′.mir, l₀) ∷ (slice₀, l₁) ∷ (slice₁, l₂) ∷ (slice₂, l₃) ∷ (B′.mir, l₄) ∷ (word, l₅) ∷ (O′.mir, l₆) ∷ (X′.mir, l₇) ∷ (tab-ty w16, l₈) ∷ (tab-ty w8, l₉) ∷ (word, l₁₀) ∷ (S′.mir, l₁₁) ∷ (word, l₁₂) ∷ (word, l₁₃) ∷ (tyBool, l₁₄)
-        ∷ (to-places, l₁₅) ∷ (word, l₁₆) ∷ (tyPtr, l₁₇) ∷ (Q′.mir, l₁₈) ∷ (to-verdicts, l₁₉) ∷ (tyPtr, l₂₀) ∷ []
+    En = (O′.mir, l₀) ∷ (slice₀, l₁) ∷ (slice₁, l₂) ∷ (slice₂, l₃) ∷ (B′.mir, l₄) ∷ (word, l₅) ∷ (O′.mir, l₆) ∷ (X′.mir, l₇) ∷ (tyG, l₈) ∷ (tyV, l₉) ∷ (tyM, l₁₀) ∷ (tyM, l₁₁) ∷ (word, l₁₂)
+        ∷ (S′.mir, l₁₃) ∷ (word, l₁₄) ∷ (word, l₁₅) ∷ (tyBool, l₁₆) ∷ (to-places, l₁₇) ∷ (word, l₁₈) ∷ (tyPtr, l₁₉) ∷ (Q′.mir, l₂₀) ∷ (to-verdicts, l₂₁) ∷ (to-marks, l₂₂) ∷ (to-marks, l₂₃) ∷ (tyPtr, l₂₄) ∷ []
 
-    -- the locals, the last first: local k stands at 2 · (20 − k). Those that are written before the loop are given
-    abbrev Cells : Item 𝓤 → Item 𝓤 → Item 𝓤 → Item 𝓤 → Item 𝓤 → Item 𝓤 → Item 𝓤 → Item 𝓤 → Item 𝓤 → List (Item 𝓤) → List (Item 𝓤)
-    Cells c₄ c₅ c₆ c₇ c₈ c₉ c₁₀ c₁₂ c₁₃ Γ = ‵ (froom tyPtr l₂₀ 0) ∷ ‵ (fdies tyPtr l₂₀) ∷ ‵ (froom to-verdicts l₁₉ 0) ∷ ‵ (fdies to-verdicts l₁₉) ∷ ‵ (froom Q′.mir l₁₈ 0) ∷ ‵ (fdies Q′.mir l₁₈) ∷ ‵ (froom tyPtr l₁₇ 0) ∷ ‵ (fdies tyPtr l₁₇) ∷ ‵ (froom word l₁₆ 0) ∷ ‵ (fdies word l₁₆) ∷ ‵ (froom to-places l₁₅ 0) ∷ ‵ (fdies to-places l₁₅) ∷
-        ‵ (froom tyBool l₁₄ 0) ∷ ‵ (fdies tyBool l₁₄) ∷ c₁₃ ∷ ‵ (fdies word l₁₃) ∷ c₁₂ ∷ ‵ (fdies word l₁₂) ∷ ‵ (froom S′.mir l₁₁ 0) ∷ ‵ (fdies S′.mir l₁₁) ∷ c₁₀ ∷ ‵ (fdies word l₁₀) ∷ c₉ ∷ ‵ (fdies (tab-ty w8) l₉) ∷
-        c₈ ∷ ‵ (fdies (tab-ty w16) l₈) ∷ c₇ ∷ ‵ (fdies X′.mir l₇) ∷ c₆ ∷ ‵ (fdies O′.mir l₆) ∷ c₅ ∷ ‵ (fdies word l₅) ∷ c₄ ∷ ‵ (fdies B′.mir l₄) ∷
-        ‵ (fat fullShare slice₂ l₃ 0 s₂) ∷ ‵ (fdies slice₂ l₃) ∷ ‵ (fat fullShare slice₁ l₂ 0 s₁) ∷ ‵ (fdies slice₁ l₂) ∷ ‵ (fat fullShare slice₀ l₁ 0 s₀) ∷ ‵ (fdies slice₀ l₁) ∷ ‵ (froom O′.mir l₀ 0) ∷ ‵ (fdies O′.mir l₀) ∷ Γ
+    -- the locals, the last first: local k stands at 2 · (24 − k). Those that are written before the loop are given
+    abbrev Cells : Item 𝓤 → Item 𝓤 → Item 𝓤 → Item 𝓤 → Item 𝓤 → Item 𝓤 → Item 𝓤 → Item 𝓤 → Item 𝓤 → Item 𝓤 → Item 𝓤 → List (Item 𝓤) → List (Item 𝓤)
+    Cells c₄ c₅ c₆ c₇ c₈ c₉ c₁₀ c₁₁ c₁₂ c₁₄ c₁₅ Γ =
+        ‵ (froom tyPtr l₂₄ 0) ∷ ‵ (fdies tyPtr l₂₄) ∷ ‵ (froom to-marks l₂₃ 0) ∷ ‵ (fdies to-marks l₂₃) ∷ ‵ (froom to-marks l₂₂ 0) ∷ ‵ (fdies to-marks l₂₂) ∷ ‵ (froom to-verdicts l₂₁ 0) ∷ ‵ (fdies to-verdicts l₂₁) ∷ ‵ (froom Q′.mir l₂₀ 0) ∷ ‵ (fdies Q′.mir l₂₀) ∷
+        ‵ (froom tyPtr l₁₉ 0) ∷ ‵ (fdies tyPtr l₁₉) ∷ ‵ (froom word l₁₈ 0) ∷ ‵ (fdies word l₁₈) ∷ ‵ (froom to-places l₁₇ 0) ∷ ‵ (fdies to-places l₁₇) ∷ ‵ (froom tyBool l₁₆ 0) ∷ ‵ (fdies tyBool l₁₆) ∷ c₁₅ ∷ ‵ (fdies word l₁₅) ∷
+        c₁₄ ∷ ‵ (fdies word l₁₄) ∷ ‵ (froom S′.mir l₁₃ 0) ∷ ‵ (fdies S′.mir l₁₃) ∷ c₁₂ ∷ ‵ (fdies word l₁₂) ∷ c₁₁ ∷ ‵ (fdies tyM l₁₁) ∷ c₁₀ ∷ ‵ (fdies tyM l₁₀) ∷
+        c₉ ∷ ‵ (fdies tyV l₉) ∷ c₈ ∷ ‵ (fdies tyG l₈) ∷ c₇ ∷ ‵ (fdies X′.mir l₇) ∷ c₆ ∷ ‵ (fdies O′.mir l₆) ∷ c₅ ∷ ‵ (fdies word l₅) ∷
+        c₄ ∷ ‵ (fdies B′.mir l₄) ∷ ‵ (fat fullShare slice₂ l₃ 0 s₂) ∷ ‵ (fdies slice₂ l₃) ∷ ‵ (fat fullShare slice₁ l₂ 0 s₁) ∷ ‵ (fdies slice₁ l₂) ∷ ‵ (fat fullShare slice₀ l₁ 0 s₀) ∷ ‵ (fdies slice₀ l₁) ∷ ‵ (froom O′.mir l₀ 0) ∷ ‵ (fdies O′.mir l₀) ∷ Γ
 
     -- where the table of places is lent
     module _ (st : Sections) (gs : List ℕ) (surveyed : Surveyed img gs st) (ist : Is X.the-row st (xval st ∷ [])) (isg : Is G gs (gval gs ∷ [])) (α : ℕ) (γ : GName) where
       abbrev Lent : Fml
-      Lent = OwnG st gs l₈ l₉ α γ
+      Lent = OwnG st gs l₈ l₉ l₁₀ l₁₁ α γ
 
-      -- between two turns, where the verdicts are vs
-      abbrev Locals : ℕ → List ℕ → List (Item 𝓤)
-      Locals i vs = ‵ (flft (α ∷ []) fullShare) ∷ ‵ Lent ∷ Cells (‵ (froom B′.mir l₄ 0)) (‵ (fat fullShare word l₅ 0 (vint w64 rows))) (‵ (fat fullShare O′.mir l₆ 0 (oval (out i)))) (‵ (fat fullShare X′.mir l₇ 0 (xval st)))
-          (‵ (flent (α ∷ []) (partAt G fullShare gs l₈ 0))) (‵ (fat fullShare (tab-ty w8) l₉ 0 (vval vs))) (‵ (fat fullShare word l₁₀ 0 (vint w64 i))) (‵ (froom word l₁₂ 0)) (‵ (froom word l₁₃ 0)) []
+      -- between two turns, where the verdicts are vs and the marks ms and ns
+      abbrev Locals : ℕ → List ℕ → List Bool → List Bool → List (Item 𝓤)
+      Locals i vs ms ns = ‵ (flft (α ∷ []) fullShare) ∷ ‵ Lent ∷ Cells (‵ (froom B′.mir l₄ 0)) (‵ (fat fullShare word l₅ 0 (vint w64 rows))) (‵ (fat fullShare O′.mir l₆ 0 (oval (out i)))) (‵ (fat fullShare X′.mir l₇ 0 (xval st)))
+          (‵ (flent (α ∷ []) (partAt G fullShare gs l₈ 0))) (‵ (fat fullShare tyV l₉ 0 (vval vs))) (‵ (fat fullShare tyM l₁₀ 0 (mval ms))) (‵ (fat fullShare tyM l₁₁ 0 (mval ns))) (‵ (fat fullShare word l₁₂ 0 (vint w64 i))) (‵ (froom word l₁₄ 0)) (‵ (froom word l₁₅ 0)) []
 
-      -- where the loop is: after i rows, of which there are at most `rows`, with the verdicts kept so far
+      -- where the loop is: after i rows, of which there are at most `rows`, with the tables as they are then
       record At : Type 0 where
         i : ℕ
         vs : List ℕ
+        ms : List Bool
+        ns : List Bool
         few : i ≤ rows
         run-is : Is O.the-row (out i) (oval (out i) ∷ [])
-        table-is : Is Verdicts vs (vval vs ∷ [])
-        kept : KeptVerdicts img vs
+        verdicts-are : Is Verdicts vs (vval vs ∷ [])
+        source-is : Is Marks ms (mval ms ∷ [])
+        dest-is : Is Marks ns (mval ns ∷ [])
+        kept : Kept.Tables img vs ms ns
 
       abbrev Inv : At → List (Item 𝓤)
-      Inv t = Has (filled (t .i)) (Locals (t .i) (t .vs))
+      Inv t = Has (filled (t .i)) (Locals (t .i) (t .vs) (t .ms) (t .ns))
 
       abbrev Less : At → At → Type 0
       Less t u = rows - t .i < rows - u .i
@@ -383,14 +427,14 @@ module _ {M : Type 1} (𝓤 : URA M) (H : Heap 𝓤) (A : Atoms 𝓤) (W : Given
       turnQ t = Below 𝓤 H A Less Inv t
 
       abbrev Turn : At → Type 1
-      Turn t = Sq W (Inv t) (runs (𝓣 .C) (𝓣 .Λ) En mir.turn-1 (anyQ (afterTurn 𝓤 H (turnQ t) (afterBlock 𝓤 H (afterSeq 𝓤 H (Wp 𝓤 H (𝓣 .C) (𝓣 .Λ) En mir.t-11 (atReturn 𝓤 H En Post)) (atReturn 𝓤 H En Post))))))
+      Turn t = Sq W (Inv t) (runs (𝓣 .C) (𝓣 .Λ) En mir.turn-1 (anyQ (afterTurn 𝓤 H (turnQ t) (afterBlock 𝓤 H (afterSeq 𝓤 H (Wp 𝓤 H (𝓣 .C) (𝓣 .Λ) En mir.t-13 (atReturn 𝓤 H En Post)) (atReturn 𝓤 H En Post))))))
 
-      -- what `decide_row` ensures, where it leaves the verdicts us
-      abbrev Said : ℕ → List ℕ → Step → Type 0
-      Said i us r = Leaves (step i) (KeptVerdicts img us) r
+      -- what `decide_row` ensures, where it leaves the tables as they are named
+      abbrev Said : ℕ → List ℕ → List Bool → List Bool → Step → Type 0
+      Said i vs ms ns r = Leaves (step i) (Kept.Tables img vs ms ns) r
 
       abbrev Lasts : Type 0
-      Lasts = Unit {0} × (Unit {0} × (Unit {0} × (Unit {0} × (List ℕ × (Unit {0} × (Unit {0} × Unit {0}))))))
+      Lasts = Unit {0} × (Unit {0} × (Unit {0} × (Unit {0} × (List ℕ × (List Bool × (List Bool × (Unit {0} × (Unit {0} × Unit {0}))))))))
 
       -- a turn that decides row i
       more : (t : At) → ltb (t .i) rows ≡ true → Turn t
@@ -398,6 +442,8 @@ module _ {M : Type 1} (𝓤 : URA M) (H : Heap 𝓤) (A : Atoms 𝓤) (W : Given
       more t holds =
           let i = t .i in
           let vs = t .vs in
+          let ms = t .ms in
+          let ns = t .ns in
           let l = ltb-true i rows holds in
           let none′ = rows-decided o (length qs) i l in
           let lq : i < length qs = omega (arith, l, rows-most o (length qs)) in
@@ -405,71 +451,89 @@ module _ {M : Type 1} (𝓤 : URA M) (H : Heap 𝓤) (A : Atoms 𝓤) (W : Given
           let lz : i < length (filled i) = subst (λ (m : ℕ). i < m) (sym (length-fill (map f qs) ys i)) ly in
           let ig : i < 2 ^ 64 = omega (arith, lq, g₁ .0) in
           let ng : i + 1 < 2 ^ 64 = omega (arith, lq, g₁ .0) in
-          assigns ! (bin ! (load ! (from ! (stop !)) (look ! (L 11 10) refl)) (load ! (from ! (stop !)) (look ! (L 11 5) refl)) tt) (from ! (stop !)) (init ! (L 11 14) refl (tt, tt)) $
-          rewrite ! (L 11 14) (λ (y : Bool). ‵ (fat fullShare tyBool l₁₄ 0 (vbool y))) holds refl $
-          stays ! (load ! (from ! (stop !)) (look ! (L 11 14) refl)) $
-          assigns ! (addr ! (from ! (stop !))) (from ! (stop !)) (init ! (L 11 15) refl (tt, tt)) $
-          assigns ! (bin ! (load ! (from ! (stop !)) (look ! (L 11 10) refl)) (lit ! tt) (record { fits = scaled sizeQ i (length qs) lq (g₁ .1) })) (from ! (stop !)) (init ! (L 11 16) refl (tt, record { fits = scaled sizeQ i (length qs) lq (g₁ .1) })) $
-          assigns ! (bin ! (load ! (from ! (fld ! refl (stop !))) (look-in ! (L 11 2) (sub ! 0 refl (whole !)))) (load ! (from ! (stop !)) (look ! (L 11 16) refl)) tt) (from ! (stop !)) (init ! (L 11 17) refl (tt, tt)) $
-          rewrite ! (L 11 17) (λ (p : ℕ). ‵ (fat fullShare tyPtr l₁₇ 0 (vptr b₁ p))) (sym (place-is sizeQ o₁ i)) refl $
+          assigns ! (bin ! (load ! (from ! (stop !)) (look ! (L 11 12) refl)) (load ! (from ! (stop !)) (look ! (L 11 5) refl)) tt) (from ! (stop !)) (init ! (L 11 16) refl (tt, tt)) $
+          rewrite ! (L 11 16) (λ (y : Bool). ‵ (fat fullShare tyBool l₁₆ 0 (vbool y))) holds refl $
+          stays ! (load ! (from ! (stop !)) (look ! (L 11 16) refl)) $
+          assigns ! (addr ! (from ! (stop !))) (from ! (stop !)) (init ! (L 11 17) refl (tt, tt)) $
+          assigns ! (bin ! (load ! (from ! (stop !)) (look ! (L 11 12) refl)) (lit ! tt) (record { fits = scaled sizeQ i (length qs) lq (g₁ .1) })) (from ! (stop !)) (init ! (L 11 18) refl (tt, record { fits = scaled sizeQ i (length qs) lq (g₁ .1) })) $
+          assigns ! (bin ! (load ! (from ! (fld ! refl (stop !))) (look-in ! (L 11 2) (sub ! 0 refl (whole !)))) (load ! (from ! (stop !)) (look ! (L 11 18) refl)) tt) (from ! (stop !)) (init ! (L 11 19) refl (tt, tt)) $
+          rewrite ! (L 11 19) (λ (p : ℕ). ‵ (fat fullShare tyPtr l₁₉ 0 (vptr b₁ p))) (sym (place-is sizeQ o₁ i)) refl $
           -- the query is read
           move ! (6 ∷ 5 ∷ []) $ looks-slice ! tt Q.the-row (Is Q.the-row) (shows 𝓤 H A Q.the-row) (SL.vals Q.the-type Q′.the-laws) (SL.tells Q.the-type Q′.the-laws) (SL.copy Q.the-type Q′.the-copy 𝓤 H A W) qs b₁ o₁ (λ q′.
           elem-out ! Q.the-row (Is Q.the-row) (shows 𝓤 H A Q.the-row) (SL.vals Q.the-type Q′.the-laws) (SL.tells Q.the-type Q′.the-laws) q′ qs i noQuery b₁ o₁ lq (λ isq.
           -- [queries[i]; what it owns; the others; what shuts; the fractured borrow; obs; the borrow; κ₂; κ₀; image; res; queries' fact; α; the table; the locals]
-          assigns ! (of-opd ! (load ! (from ! (hop ! (look ! (L 14 17) refl) (stop !))) (look-raw ! 0 refl))) (from ! (stop !)) (init ! (L 14 18) refl (SL.lawful Q.the-type Q′.the-laws 𝓤 H A W .typed (elem i) _ isq .0)) $
+          assigns ! (of-opd ! (load ! (from ! (hop ! (look ! (L 14 19) refl) (stop !))) (look-raw ! 0 refl))) (from ! (stop !)) (init ! (L 14 20) refl (SL.lawful Q.the-type Q′.the-laws 𝓤 H A W .typed (elem i) _ isq .0)) $
           elem-back ! Q.the-row q′ qs i noQuery (qval (elem i) ∷ []) b₁ o₁ lq $ shuts-slice ! tt Q.the-row q′ qs b₁ o₁ $
           -- [κ₁; the fractured borrow; obs; the borrow; κ₂; κ₀; image; res; queries' fact; α; the table; the locals]
-          assigns ! (addr ! (from ! (stop !))) (from ! (stop !)) (init ! (L 11 19) refl (tt, tt)) $
+          assigns ! (addr ! (from ! (stop !))) (from ! (stop !)) (init ! (L 11 21) refl (tt, tt)) $
+          assigns ! (addr ! (from ! (stop !))) (from ! (stop !)) (init ! (L 11 22) refl (tt, tt)) $
+          assigns ! (addr ! (from ! (stop !))) (from ! (stop !)) (init ! (L 11 23) refl (tt, tt)) $
           move ! (6 ∷ []) $ use1 W (‵ Own₀ ⊛ ‵ Own₀) (shr-slice-copy 𝓤 H A W (named 0) κ₀ u8 .twice x₀ (s₀ ∷ [])) $ split ! $
-          move ! (11 ∷ []) $ use1 W (‵ Lent ⊛ ‵ Lent) (shr-copy 𝓤 H A W (named 1) (α ∷ []) G .twice (xg st gs l₈ l₉ α γ) (vptr l₈ 0 ∷ [])) $ split ! $
+          move ! (11 ∷ []) $ use1 W (‵ Lent ⊛ ‵ Lent) (shr-copy 𝓤 H A W (named 1) (α ∷ []) G .twice (xg st gs l₈ l₉ l₁₀ l₁₁ α γ) (vptr l₈ 0 ∷ [])) $ split ! $
           -- [the table; the table; image; image; κ₁; the fractured borrow; obs; the borrow; κ₂; κ₀; res; queries' fact; α; the locals]: the verdicts are lent
-          owned ! Verdicts (Is Verdicts) (array-makes 𝓤 H A W u8 (uint-makes 𝓤 H A W w8) 256) vs _ (t .table-is) $ move ! (L 14 9 ∷ 0 ∷ []) $ use2 W (‵ (partAt Verdicts fullShare vs l₉ 0)) (lies 𝓤 H A W w8 vs l₉) $
-          lft-new ! tt (λ ν. move ! (1 ∷ []) $ use1 W (later (some (λ (δ : GName). ‵ (OwnV st gs l₈ l₉ α γ vs ν δ) ⊛ ‵ (flent (ν ∷ []) (Body (mem Verdicts) l₉ 0 δ))))) (lends-ref 𝓤 H A W Verdicts (named 2) (ν ∷ []) vs l₉ 0) $ await ! tt $ pick ! (λ δ. split ! $
-          -- [the verdicts; lent; ν; the table; the table; image; image; κ₁; the fractured borrow; obs; the borrow; κ₂; κ₀; res; queries' fact; α; the locals but _9]
-          move ! (3 ∷ 0 ∷ []) $ join ! $ move ! (4 ∷ 0 ∷ []) $ join ! $ move ! (2 ∷ 0 ∷ []) $ join ! $ move ! (9 ∷ 12 ∷ 0 ∷ []) $
-          use3 W (raw (Decides 𝓤 H A at-mem run .pre (to-row st gs l₈ l₉ α γ vs ν δ i))) (ask-row st gs l₈ l₉ α γ vs ν δ i surveyed (t .kept) ist isq (t .run-is) ig) $
-          -- [what is asked; lent; the table; image; κ₁; the fractured borrow; obs; the borrow; κ₂; res; queries' fact; the locals but _9]: the row is decided
-          calls-at ! (fmOf 𝓤 H (W .laws) 𝓣) (Decides 𝓤 H A at-mem run) known-row (to-row st gs l₈ l₉ α γ vs ν δ i)
-          (and-then ! (load ! (from ! (stop !)) (look ! (L 10 1) refl)) (and-then ! (load ! (from ! (stop !)) (look ! (L 11 15) refl)) (and-then ! (load ! (from ! (stop !)) (look ! (L 10 7) refl)) (and-then ! (load ! (from ! (stop !)) (look ! (L 11 18) refl)) (and-then ! (load ! (from ! (stop !)) (look ! (L 11 19) refl)) (and-then ! (load ! (from ! (stop !)) (look ! (L 10 6) refl)) (and-then ! (load ! (from ! (stop !)) (look ! (L 11 10) refl)) (no-more !)))))))) (λ u.
-          use1 W (later (some (λ (r : Step). ((‵ (flft κ₀ q₀) ⊛ (‵ (flft (α ∷ []) fullShare) ⊛ (‵ (flft (ν ∷ []) fullShare) ⊛ ‵ ftrue))) ⊛ ‵ (S.the-row .own r (u ∷ []))) ⊛ raw (ensured 𝓤 H A row.ended (row.clauses 𝓤 H A at-mem run) (κ₀, (α ∷ [], (ν ∷ [], tt))) (Args st gs l₈ l₉ α γ vs ν δ i) tt r)))) (id⊢ 𝓤 _) $ await ! tt $ pick ! (λ r.
-          split ! $ move ! (1 ∷ []) $ use1 W (some (λ (ws : Lasts). ‵ (lasts row.ended (κ₀, (α ∷ [], (ν ∷ [], tt))) (Args st gs l₈ l₉ α γ vs ν δ i) ws) ⊛ raw (fact 𝓤 (Said i (ws .1 .1 .1 .1 .0) r)))) (id⊢ 𝓤 _) $ pick ! (λ ws.
-          split ! $ move ! (1 ∷ []) $ heard ! (Said i (ws .1 .1 .1 .1 .0) r) (λ e.
-          let us : List ℕ = ws .1 .1 .1 .1 .0 in
-          fsplit ! $ drop ! $ fsplit ! $ drop ! $ fsplit ! $ drop ! $ fsplit ! $ drop ! $ fsplit ! $ move ! (1 ∷ []) $ drop ! $
-          -- [the verdicts' last; the tokens and the result; lent; ..]
-          move ! (1 ∷ []) $ split ! $ move ! (1 ∷ []) $ facts ! S.the-row (Is S.the-row) (shows 𝓤 H A S.the-row) r (u ∷ []) (λ is′.
-          split ! $ move ! (1 ∷ []) $ split ! $ move ! (1 ∷ []) $ split ! $ move ! (1 ∷ []) $ drop ! $
+          owned ! Verdicts (Is Verdicts) (array-makes 𝓤 H A W u8 (uint-makes 𝓤 H A W w8) 256) vs _ (t .verdicts-are) $ move ! (L 14 9 ∷ 0 ∷ []) $ use2 W (‵ (partAt Verdicts fullShare vs l₉ 0)) (lies 𝓤 H A W u8 (uint-vals w8) (uint-tells w8) 256 vs l₉) $
+          lft-new ! tt (λ ν. move ! (1 ∷ []) $ use1 W (later (some (λ (δ : GName). ‵ (OwnV st gs l₈ l₉ l₁₀ l₁₁ α γ vs ν δ) ⊛ ‵ (flent (ν ∷ []) (Body (mem Verdicts) l₉ 0 δ))))) (lends-ref 𝓤 H A W Verdicts (named 2) (ν ∷ []) vs l₉ 0) $ await ! tt $ pick ! (λ δ₁. split ! $
+          -- [the verdicts; lent; ν; as before; the locals but _9]: the source's marks are
+          owned ! Marks (Is Marks) (array-makes 𝓤 H A W bool (bool-makes 𝓤 H A W) 1024) ms _ (t .source-is) $ move ! (L 17 10 ∷ 0 ∷ []) $ use2 W (‵ (partAt Marks fullShare ms l₁₀ 0)) (lies 𝓤 H A W bool bool-vals bool-tells 1024 ms l₁₀) $
+          lft-new ! tt (λ σ. move ! (1 ∷ []) $ use1 W (later (some (λ (δ : GName). ‵ (OwnS st gs l₈ l₉ l₁₀ l₁₁ α γ ms σ δ) ⊛ ‵ (flent (σ ∷ []) (Body (mem Marks) l₁₀ 0 δ))))) (lends-ref 𝓤 H A W Marks (named 3) (σ ∷ []) ms l₁₀ 0) $ await ! tt $ pick ! (λ δ₂. split ! $
+          -- [source; lent; σ; as before; the locals but _9 and _10]: and the destination's
+          owned ! Marks (Is Marks) (array-makes 𝓤 H A W bool (bool-makes 𝓤 H A W) 1024) ns _ (t .dest-is) $ move ! (L 20 11 ∷ 0 ∷ []) $ use2 W (‵ (partAt Marks fullShare ns l₁₁ 0)) (lies 𝓤 H A W bool bool-vals bool-tells 1024 ns l₁₁) $
+          lft-new ! tt (λ π. move ! (1 ∷ []) $ use1 W (later (some (λ (δ : GName). ‵ (OwnD st gs l₈ l₉ l₁₀ l₁₁ α γ ns π δ) ⊛ ‵ (flent (π ∷ []) (Body (mem Marks) l₁₁ 0 δ))))) (lends-ref 𝓤 H A W Marks (named 4) (π ∷ []) ns l₁₁ 0) $ await ! tt $ pick ! (λ δ₃. split ! $
+          -- [destination; lent; π; source; lent; σ; the verdicts; lent; ν; the table; the table; image; image; κ₁; the fractured borrow; obs; the borrow; κ₂; κ₀; res; queries' fact; α; the other locals]
+          move ! (3 ∷ 0 ∷ []) $ join ! $ move ! (5 ∷ 0 ∷ []) $ join ! $ move ! (7 ∷ 0 ∷ []) $ join ! $ move ! (8 ∷ 0 ∷ []) $ join ! $ move ! (2 ∷ 0 ∷ []) $ join ! $ move ! (3 ∷ 0 ∷ []) $ join ! $ move ! (4 ∷ 0 ∷ []) $ join ! $ move ! (11 ∷ 14 ∷ 0 ∷ []) $
+          use3 W (raw (Decides 𝓤 H A at-mem run .pre (to-row st gs l₈ l₉ l₁₀ l₁₁ α γ vs ms ns ν σ π δ₁ δ₂ δ₃ i))) (ask-row st gs l₈ l₉ l₁₀ l₁₁ α γ vs ms ns ν σ π δ₁ δ₂ δ₃ i surveyed (t .kept) ist isq (t .run-is) ig) $
+          -- [what is asked; lent, three times; the table; image; κ₁; the fractured borrow; obs; the borrow; κ₂; res; queries' fact; the other locals]: the row is decided
+          calls-at ! (fmOf 𝓤 H (W .laws) 𝓣) (Decides 𝓤 H A at-mem run) known-row (to-row st gs l₈ l₉ l₁₀ l₁₁ α γ vs ms ns ν σ π δ₁ δ₂ δ₃ i)
+          (and-then ! (load ! (from ! (stop !)) (look ! (L 10 1) refl)) (and-then ! (load ! (from ! (stop !)) (look ! (L 13 17) refl)) (and-then ! (load ! (from ! (stop !)) (look ! (L 10 7) refl)) (and-then ! (load ! (from ! (stop !)) (look ! (L 13 20) refl)) (and-then ! (load ! (from ! (stop !)) (look ! (L 13 21) refl)) (and-then ! (load ! (from ! (stop !)) (look ! (L 13 22) refl)) (and-then ! (load ! (from ! (stop !)) (look ! (L 13 23) refl)) (and-then ! (load ! (from ! (stop !)) (look ! (L 10 6) refl)) (and-then ! (load ! (from ! (stop !)) (look ! (L 13 12) refl)) (no-more !)))))))))) (λ u.
+          use1 W (later (some (λ (r : Step). ((‵ (flft κ₀ q₀) ⊛ (‵ (flft (α ∷ []) fullShare) ⊛ (‵ (flft (ν ∷ []) fullShare) ⊛ (‵ (flft (σ ∷ []) fullShare) ⊛ (‵ (flft (π ∷ []) fullShare) ⊛ ‵ ftrue))))) ⊛ ‵ (S.the-row .own r (u ∷ []))) ⊛ raw (ensured 𝓤 H A row.ended (row.clauses 𝓤 H A at-mem run) (κ₀, (α ∷ [], (ν ∷ [], (σ ∷ [], (π ∷ [], tt))))) (Args st gs l₈ l₉ l₁₀ l₁₁ α γ vs ms ns ν σ π δ₁ δ₂ δ₃ i) tt r)))) (id⊢ 𝓤 _) $ await ! tt $ pick ! (λ r.
+          split ! $ move ! (1 ∷ []) $ use1 W (some (λ (ws : Lasts). ‵ (lasts row.ended (κ₀, (α ∷ [], (ν ∷ [], (σ ∷ [], (π ∷ [], tt))))) (Args st gs l₈ l₉ l₁₀ l₁₁ α γ vs ms ns ν σ π δ₁ δ₂ δ₃ i) ws) ⊛ raw (fact 𝓤 (Said i (ws .1 .1 .1 .1 .0) (ws .1 .1 .1 .1 .1 .0) (ws .1 .1 .1 .1 .1 .1 .0) r)))) (id⊢ 𝓤 _) $ pick ! (λ ws.
+          split ! $ move ! (1 ∷ []) $ heard ! (Said i (ws .1 .1 .1 .1 .0) (ws .1 .1 .1 .1 .1 .0) (ws .1 .1 .1 .1 .1 .1 .0) r) (λ e.
+          let vs′ : List ℕ = ws .1 .1 .1 .1 .0 in
+          let ms′ : List Bool = ws .1 .1 .1 .1 .1 .0 in
+          let ns′ : List Bool = ws .1 .1 .1 .1 .1 .1 .0 in
+          fsplit ! $ drop ! $ fsplit ! $ drop ! $ fsplit ! $ drop ! $ fsplit ! $ drop ! $ fsplit ! $ move ! (1 ∷ []) $ fsplit ! $ move ! (1 ∷ []) $ fsplit ! $ move ! (1 ∷ []) $ drop ! $
+          -- [the destination's last; the source's; the verdicts'; the tokens and the result; lent, three times; ..]
+          move ! (3 ∷ []) $ split ! $ move ! (1 ∷ []) $ facts ! S.the-row (Is S.the-row) (shows 𝓤 H A S.the-row) r (u ∷ []) (λ is′.
+          split ! $ move ! (1 ∷ []) $ split ! $ move ! (1 ∷ []) $ split ! $ move ! (1 ∷ []) $ split ! $ move ! (1 ∷ []) $ split ! $ move ! (1 ∷ []) $ drop ! $
           let uv : u ≡ sval (step i) = ap only (SL.tells S.the-type S′.the-laws r (u ∷ []) is′) ∙ ap sval (e .is) in
           let iss = SL.owed S.the-type S′.the-laws (step i) (u ∷ []) (subst (λ (d : Step). Is S.the-row d (u ∷ [])) (e .is) is′) in
-          -- [ν; α; κ₀; the verdicts' last; lent; the table; image; κ₁; the fractured borrow; obs; the borrow; κ₂; res; queries' fact; the locals but _9]
-          land ! (from ! (stop !)) (init ! (L 14 11) refl (SL.lawful S.the-type S′.the-laws 𝓤 H A W .typed r _ is′ .0)) $
-          rewrite ! (L 14 11) (λ (v : Val). ‵ (fat fullShare S′.mir l₁₁ 0 v)) uv refl $
-          -- the verdicts come back
-          lft-end ! tt $ move ! (0 ∷ 4 ∷ 3 ∷ []) $ use3 W (later (‵ (partAt Verdicts fullShare us l₉ 0))) (ref-back 𝓤 H A W Verdicts (ν ∷ []) δ us l₉ 0) $ await ! tt $
-          use1 W (‵ (fat fullShare (tab-ty w8) l₉ 0 (vval us)) ⊛ ‵ (Verdicts .own us (vval us ∷ []))) (lies-back 𝓤 H A W w8 us l₉) $ split ! $ move ! (1 ∷ []) $
-          facts ! Verdicts (Is Verdicts) (shows 𝓤 H A Verdicts) us (vval us ∷ []) (λ isv.
-          move ! (1 ∷ 2 ∷ 3 ∷ 4 ∷ 5 ∷ 6 ∷ 7 ∷ 8 ∷ 9 ∷ 10 ∷ 11 ∷ 12 ∷ 13 ∷ 14 ∷ 15 ∷ 16 ∷ 17 ∷ 18 ∷ 19 ∷ 20 ∷ 21 ∷ 22 ∷ 23 ∷ 24 ∷ 25 ∷ 26 ∷ 27 ∷ 28 ∷ 29 ∷ 30 ∷ 31 ∷ 32 ∷ 33 ∷ 0 ∷ []) $
+          -- [π; σ; ν; α; κ₀; the three lasts; lent, three times; the table; image; κ₁; the fractured borrow; obs; the borrow; κ₂; res; queries' fact; the other locals]
+          land ! (from ! (stop !)) (init ! (L 20 13) refl (SL.lawful S.the-type S′.the-laws 𝓤 H A W .typed r _ is′ .0)) $
+          rewrite ! (L 20 13) (λ (v : Val). ‵ (fat fullShare S′.mir l₁₃ 0 v)) uv refl $
+          -- the destination's marks come back
+          lft-end ! tt $ move ! (0 ∷ 8 ∷ 5 ∷ []) $ use3 W (later (‵ (partAt Marks fullShare ns′ l₁₁ 0))) (ref-back 𝓤 H A W Marks (π ∷ []) δ₃ ns′ l₁₁ 0) $ await ! tt $
+          use1 W (‵ (fat fullShare tyM l₁₁ 0 (mval ns′)) ⊛ ‵ (Marks .own ns′ (mval ns′ ∷ []))) (lies-back 𝓤 H A W bool bool-vals bool-tells 1024 ns′ l₁₁) $ split ! $ move ! (1 ∷ []) $
+          facts ! Marks (Is Marks) (shows 𝓤 H A Marks) ns′ (mval ns′ ∷ []) (λ isd.
+          -- [_11; σ; ν; α; κ₀; two lasts; lent, twice; ..]: then the source's
+          move ! (1 ∷ []) $ lft-end ! tt $ move ! (0 ∷ 7 ∷ 5 ∷ []) $ use3 W (later (‵ (partAt Marks fullShare ms′ l₁₀ 0))) (ref-back 𝓤 H A W Marks (σ ∷ []) δ₂ ms′ l₁₀ 0) $ await ! tt $
+          use1 W (‵ (fat fullShare tyM l₁₀ 0 (mval ms′)) ⊛ ‵ (Marks .own ms′ (mval ms′ ∷ []))) (lies-back 𝓤 H A W bool bool-vals bool-tells 1024 ms′ l₁₀) $ split ! $ move ! (1 ∷ []) $
+          facts ! Marks (Is Marks) (shows 𝓤 H A Marks) ms′ (mval ms′ ∷ []) (λ isc.
+          -- [_10; _11; ν; α; κ₀; a last; lent; ..]: then the verdicts
+          move ! (2 ∷ []) $ lft-end ! tt $ move ! (0 ∷ 6 ∷ 5 ∷ []) $ use3 W (later (‵ (partAt Verdicts fullShare vs′ l₉ 0))) (ref-back 𝓤 H A W Verdicts (ν ∷ []) δ₁ vs′ l₉ 0) $ await ! tt $
+          use1 W (‵ (fat fullShare tyV l₉ 0 (vval vs′)) ⊛ ‵ (Verdicts .own vs′ (vval vs′ ∷ []))) (lies-back 𝓤 H A W u8 (uint-vals w8) (uint-tells w8) 256 vs′ l₉) $ split ! $ move ! (1 ∷ []) $
+          facts ! Verdicts (Is Verdicts) (shows 𝓤 H A Verdicts) vs′ (vval vs′ ∷ []) (λ isv.
+          move ! (3 ∷ 4 ∷ 5 ∷ 6 ∷ 7 ∷ 8 ∷ 9 ∷ 10 ∷ 11 ∷ 12 ∷ 13 ∷ 14 ∷ 15 ∷ 16 ∷ 17 ∷ 18 ∷ 19 ∷ 20 ∷ 21 ∷ 22 ∷ 23 ∷ 24 ∷ 25 ∷ 26 ∷ 27 ∷ 28 ∷ 29 ∷ 30 ∷ 31 ∷ 32 ∷ 33 ∷ 34 ∷ 35 ∷ 36 ∷ 37 ∷ 38 ∷ 39 ∷ 2 ∷ 40 ∷ 1 ∷ 41 ∷ 0 ∷ []) $
           -- [α; κ₀; the table; image; κ₁; the fractured borrow; obs; the borrow; κ₂; res; queries' fact; the locals]
-          assigns ! (bin ! (load ! (from ! (stop !)) (look ! (L 11 10) refl)) (lit ! tt) (record { fits = scaled sizeN i (length ys) ly (g₂ .1) })) (from ! (stop !)) (store ! (L 11 16) refl (tt, record { fits = scaled sizeN i (length ys) ly (g₂ .1) })) $
-          assigns ! (bin ! (load ! (from ! (fld ! refl (stop !))) (look-in ! (L 11 3) (sub ! 0 refl (whole !)))) (load ! (from ! (stop !)) (look ! (L 11 16) refl)) tt) (from ! (stop !)) (init ! (L 11 20) refl (tt, tt)) $
-          rewrite ! (L 11 20) (λ (p : ℕ). ‵ (fat fullShare tyPtr l₂₀ 0 (vptr b₂ p))) (sym (place-is sizeN o₂ i)) refl $
+          assigns ! (bin ! (load ! (from ! (stop !)) (look ! (L 11 12) refl)) (lit ! tt) (record { fits = scaled sizeN i (length ys) ly (g₂ .1) })) (from ! (stop !)) (store ! (L 11 18) refl (tt, record { fits = scaled sizeN i (length ys) ly (g₂ .1) })) $
+          assigns ! (bin ! (load ! (from ! (fld ! refl (stop !))) (look-in ! (L 11 3) (sub ! 0 refl (whole !)))) (load ! (from ! (stop !)) (look ! (L 11 18) refl)) tt) (from ! (stop !)) (init ! (L 11 24) refl (tt, tt)) $
+          rewrite ! (L 11 24) (λ (p : ℕ). ‵ (fat fullShare tyPtr l₂₄ 0 (vptr b₂ p))) (sym (place-is sizeN o₂ i)) refl $
           -- the answer is stored
           move ! (6 ∷ 7 ∷ 8 ∷ []) $ opens-slice ! tt N.the-row (filled i) b₂ o₂ $
           elem-out ! N.the-row (Is N.the-row) (shows 𝓤 H A N.the-row) (EL.vals N.the-type N′.the-laws) (EL.tells N.the-type N′.the-laws) fullShare (filled i) i NotPermitted b₂ o₂ lz (λ _.
           -- [answers[i]; what it owns; the others; the open borrow; obs; auth; α; κ₀; the table; image; κ₁; the fractured borrow; res; queries' fact; the locals]
-          assigns ! (of-opd ! (load ! (from ! (fld ! refl (stop !))) (look-in ! (L 14 11) (sub ! 0 refl (whole !))))) (from ! (hop ! (look ! (L 14 20) refl) (stop !))) (store-raw ! 0 refl (EL.lawful N.the-type N′.the-laws 𝓤 H A W tt .typed (f (elem i)) _ (iss .0) .0)) $
+          assigns ! (of-opd ! (load ! (from ! (fld ! refl (stop !))) (look-in ! (L 14 13) (sub ! 0 refl (whole !))))) (from ! (hop ! (look ! (L 14 24) refl) (stop !))) (store-raw ! 0 refl (EL.lawful N.the-type N′.the-laws 𝓤 H A W tt .typed (f (elem i)) _ (iss .0) .0)) $
           move ! (1 ∷ []) $ drop ! $ owned ! N.the-row (Is N.the-row) (EL.makes N.the-type N′.the-plain 𝓤 H A) (f (elem i)) _ (iss .0) $ move ! (1 ∷ 0 ∷ []) $
           elem-put ! N.the-row fullShare (filled i) i (f (elem i)) (nval (f (elem i)) ∷ []) b₂ o₂ lz $ closes-slice ! tt N.the-row (filled i) (set (filled i) i (f (elem i))) (length-set (filled i) i (f (elem i))) b₂ o₂ $
           rewrite ! 0 (λ (zs : List Answer). ‵ (fobs γ₂ (codedHoleys N.the-row .code (heres N.the-row zs)))) (filled-next i lq ly) refl $
           rewrite ! 1 (λ (zs : List Answer). ‵ (fbor κ₂ (Held N.the-row (length zs) b₂ o₂ γ₂))) (filled-next i lq ly) refl $
           -- [obs; the borrow; κ₂; α; κ₀; the table; image; κ₁; the fractured borrow; res; queries' fact; the locals]
-          assigns ! (of-opd ! (load ! (from ! (fld ! refl (stop !))) (look-in ! (L 11 11) (sub ! 1 refl (whole !))))) (from ! (stop !)) (store ! (L 11 6) refl (EL.lawful O.the-type O′.the-laws 𝓤 H A W tt .typed (step i .run) _ (iss .1 .0) .0)) $
+          assigns ! (of-opd ! (load ! (from ! (fld ! refl (stop !))) (look-in ! (L 11 13) (sub ! 1 refl (whole !))))) (from ! (stop !)) (store ! (L 11 6) refl (EL.lawful O.the-type O′.the-laws 𝓤 H A W tt .typed (step i .run) _ (iss .1 .0) .0)) $
           rewrite ! (L 11 6) (λ (c : Run). ‵ (fat fullShare O′.mir l₆ 0 (oval c))) (out-next img o qs i noQuery lq) refl $
-          assigns-last ! (bin ! (load ! (from ! (stop !)) (look ! (L 11 10) refl)) (lit ! tt) (record { fits = ng })) (from ! (stop !)) (store ! (L 11 10) refl (tt, record { fits = ng })) $
-          rewrite ! (L 11 10) (λ (j : ℕ). ‵ (fat fullShare word l₁₀ 0 (vint w64 j))) (one-more i) refl $
-          forget ! (L 11 20) refl $ forget ! (L 11 19) refl $ forget ! (L 11 18) refl $ forget ! (L 11 17) refl $ forget ! (L 11 16) refl $ forget ! (L 11 15) refl $ forget ! (L 11 14) refl $ forget ! (L 11 11) refl $
+          assigns-last ! (bin ! (load ! (from ! (stop !)) (look ! (L 11 12) refl)) (lit ! tt) (record { fits = ng })) (from ! (stop !)) (store ! (L 11 12) refl (tt, record { fits = ng })) $
+          rewrite ! (L 11 12) (λ (j : ℕ). ‵ (fat fullShare word l₁₂ 0 (vint w64 j))) (one-more i) refl $
+          forget ! (L 11 24) refl $ forget ! (L 11 23) refl $ forget ! (L 11 22) refl $ forget ! (L 11 21) refl $ forget ! (L 11 20) refl $ forget ! (L 11 19) refl $ forget ! (L 11 18) refl $ forget ! (L 11 17) refl $ forget ! (L 11 16) refl $ forget ! (L 11 13) refl $
           move ! (0 ∷ 1 ∷ 2 ∷ 4 ∷ 6 ∷ 7 ∷ 8 ∷ 9 ∷ 10 ∷ 3 ∷ 5 ∷ []) $
-          again ! Less Inv t (record { i = suc i; vs = us; few = omega (arith, l); run-is = subst (λ (c : Run). Is O.the-row c (oval c ∷ [])) (out-next img o qs i noQuery lq) (iss .1 .0); table-is = isv; kept = e .kept }) (fewer rows i l))))))))))))
+          again ! Less Inv t (record { i = suc i; vs = vs′; ms = ms′; ns = ns′; few = omega (arith, l); run-is = subst (λ (c : Run). Is O.the-row c (oval c ∷ [])) (out-next img o qs i noQuery lq) (iss .1 .0); verdicts-are = isv; source-is = isc; dest-is = isd; kept = e .kept }) (fewer rows i l))))))))))))))))))
 
       -- the turn that leaves the loop, and the rest of the body: the table comes back
       ends : (t : At) → ltb (t .i) rows ≡ false → Turn t
@@ -478,17 +542,17 @@ module _ {M : Type 1} (𝓤 : URA M) (H : Heap 𝓤) (A : Atoms 𝓤) (W : Given
           let i = t .i in
           let e : i ≡ rows = omega (arith, t .few, ltb-false i rows fails) in
           let iso = subst (λ (j : ℕ). Is O.the-row (out j) (oval (out j) ∷ [])) e (t .run-is) in
-          assigns ! (bin ! (load ! (from ! (stop !)) (look ! (L 11 10) refl)) (load ! (from ! (stop !)) (look ! (L 11 5) refl)) tt) (from ! (stop !)) (init ! (L 11 14) refl (tt, tt)) $
-          rewrite ! (L 11 14) (λ (y : Bool). ‵ (fat fullShare tyBool l₁₄ 0 (vbool y))) fails refl $
-          leaves-loop ! (load ! (from ! (stop !)) (look ! (L 11 14) refl)) $ exec ! (𝓣 .C) (𝓣 .Λ) En mir.t-11 (atRet En Post) $
+          assigns ! (bin ! (load ! (from ! (stop !)) (look ! (L 11 12) refl)) (load ! (from ! (stop !)) (look ! (L 11 5) refl)) tt) (from ! (stop !)) (init ! (L 11 16) refl (tt, tt)) $
+          rewrite ! (L 11 16) (λ (y : Bool). ‵ (fat fullShare tyBool l₁₆ 0 (vbool y))) fails refl $
+          leaves-loop ! (load ! (from ! (stop !)) (look ! (L 11 16) refl)) $ exec ! (𝓣 .C) (𝓣 .Λ) En mir.t-13 (atRet En Post) $
           rewrite ! 0 (λ (j : ℕ). ‵ (fobs γ₂ (codedHoleys N.the-row .code (heres N.the-row (filled j))))) e refl $ rewrite ! 1 (λ (j : ℕ). ‵ (fbor κ₂ (Held N.the-row (length (filled j)) b₂ o₂ γ₂))) e refl $
           rewrite ! (L 11 6) (λ (j : ℕ). ‵ (fat fullShare O′.mir l₆ 0 (oval (out j)))) e refl $
           move ! (10 ∷ []) $ drop ! $ move ! (9 ∷ []) $ lft-end ! tt $ move ! (0 ∷ L 10 8 ∷ []) $ lent-back ! tt $
-          use1 W (‵ (fat fullShare (tab-ty w16) l₈ 0 (gval gs)) ⊛ ‵ (G .own gs (gval gs ∷ []))) (lies-back 𝓤 H A W w16 gs l₈) $ split ! $ move ! (1 ∷ []) $ drop ! $
+          use1 W (‵ (fat fullShare tyG l₈ 0 (gval gs)) ⊛ ‵ (G .own gs (gval gs ∷ []))) (lies-back 𝓤 H A W u16 (uint-vals w16) (uint-tells w16) 256 gs l₈) $ split ! $ move ! (1 ∷ []) $ drop ! $
           -- [_8; obs; the borrow; κ₂; κ₀; image; κ₁; the fractured borrow; res; queries' fact; the other locals]
           assigns ! (of-opd ! (load ! (from ! (stop !)) (look ! (L 9 6) refl))) (from ! (stop !)) (init ! (L 9 0) refl (EL.lawful O.the-type O′.the-laws 𝓤 H A W tt .typed (out rows) _ iso .0)) $
-          returns ! (look ! (L 9 0) refl) $ forget ! (L 10 14) refl $ forget ! (L 10 10) refl $ forget ! (L 10 9) refl $ forget ! 0 refl $ forget ! (L 9 7) refl $ forget ! (L 9 6) refl $ forget ! (L 9 5) refl $ forget ! (L 9 3) refl $ forget ! (L 9 2) refl $ forget ! (L 9 1) refl $ forget ! (L 9 0) refl $
-          move ! (49 ∷ 50 ∷ []) $ free1 ! $ move ! (47 ∷ 48 ∷ []) $ free1 ! $ move ! (45 ∷ 46 ∷ []) $ free1 ! $ move ! (43 ∷ 44 ∷ []) $ free1 ! $ move ! (41 ∷ 42 ∷ []) $ free1 ! $ move ! (39 ∷ 40 ∷ []) $ free1 ! $ move ! (37 ∷ 38 ∷ []) $ free1 ! $ move ! (35 ∷ 36 ∷ []) $ free1 ! $ move ! (0 ∷ 34 ∷ []) $ free1 ! $ move ! (31 ∷ 32 ∷ []) $ free1 ! $ move ! (29 ∷ 30 ∷ []) $ free1 ! $ move ! (27 ∷ 28 ∷ []) $ free1 ! $ move ! (25 ∷ 26 ∷ []) $ free1 ! $ move ! (23 ∷ 24 ∷ []) $ free1 ! $ move ! (21 ∷ 22 ∷ []) $ free1 ! $ move ! (19 ∷ 20 ∷ []) $ free1 ! $ move ! (17 ∷ 18 ∷ []) $ free1 ! $ move ! (15 ∷ 16 ∷ []) $ free1 ! $ move ! (13 ∷ 14 ∷ []) $ free1 ! $ move ! (11 ∷ 12 ∷ []) $ free1 ! $ move ! (9 ∷ 10 ∷ []) $ free1 ! $ free0 ! $
+          returns ! (look ! (L 9 0) refl) $ forget ! (L 10 16) refl $ forget ! (L 10 12) refl $ forget ! (L 10 11) refl $ forget ! (L 10 10) refl $ forget ! (L 10 9) refl $ forget ! 0 refl $ forget ! (L 9 7) refl $ forget ! (L 9 6) refl $ forget ! (L 9 5) refl $ forget ! (L 9 3) refl $ forget ! (L 9 2) refl $ forget ! (L 9 1) refl $ forget ! (L 9 0) refl $
+          move ! (57 ∷ 58 ∷ []) $ free1 ! $ move ! (55 ∷ 56 ∷ []) $ free1 ! $ move ! (53 ∷ 54 ∷ []) $ free1 ! $ move ! (51 ∷ 52 ∷ []) $ free1 ! $ move ! (49 ∷ 50 ∷ []) $ free1 ! $ move ! (47 ∷ 48 ∷ []) $ free1 ! $ move ! (45 ∷ 46 ∷ []) $ free1 ! $ move ! (43 ∷ 44 ∷ []) $ free1 ! $ move ! (0 ∷ 42 ∷ []) $ free1 ! $ move ! (39 ∷ 40 ∷ []) $ free1 ! $ move ! (37 ∷ 38 ∷ []) $ free1 ! $ move ! (35 ∷ 36 ∷ []) $ free1 ! $ move ! (33 ∷ 34 ∷ []) $ free1 ! $ move ! (31 ∷ 32 ∷ []) $ free1 ! $ move ! (29 ∷ 30 ∷ []) $ free1 ! $ move ! (27 ∷ 28 ∷ []) $ free1 ! $ move ! (25 ∷ 26 ∷ []) $ free1 ! $ move ! (23 ∷ 24 ∷ []) $ free1 ! $ move ! (21 ∷ 22 ∷ []) $ free1 ! $ move ! (19 ∷ 20 ∷ []) $ free1 ! $ move ! (17 ∷ 18 ∷ []) $ free1 ! $ move ! (15 ∷ 16 ∷ []) $ free1 ! $ move ! (13 ∷ 14 ∷ []) $ free1 ! $ move ! (11 ∷ 12 ∷ []) $ free1 ! $ move ! (9 ∷ 10 ∷ []) $ free1 ! $ free0 ! $
           by ! (exits g₂ iso)
 
       turn-at : (t : At) → Turn t
@@ -496,44 +560,56 @@ module _ {M : Type 1} (𝓤 : URA M) (H : Heap 𝓤) (A : Atoms 𝓤) (W : Given
 
     -- from the result of `begin_queries` to the loop
     started : (r : Begun) → Begun-is r → Is B.the-row r (bval r ∷ [])
-        → Sq W (‵ (flft κ₀ q₀) ∷ ‵ Own₀ ∷ Cells (‵ (fat fullShare B′.mir l₄ 0 (bval r))) (‵ (froom word l₅ 0)) (‵ (froom O′.mir l₆ 0)) (‵ (froom X′.mir l₇ 0)) (‵ (froom (tab-ty w16) l₈ 0)) (‵ (froom (tab-ty w8) l₉ 0)) (‵ (froom word l₁₀ 0)) (‵ (fat fullShare word l₁₂ 0 (vint w64 (length qs)))) (‵ (fat fullShare word l₁₃ 0 (vint w64 (length ys)))) (Rest ys))
+        → Sq W (‵ (flft κ₀ q₀) ∷ ‵ Own₀ ∷ Cells (‵ (fat fullShare B′.mir l₄ 0 (bval r))) (‵ (froom word l₅ 0)) (‵ (froom O′.mir l₆ 0)) (‵ (froom X′.mir l₇ 0)) (‵ (froom tyG l₈ 0)) (‵ (froom tyV l₉ 0)) (‵ (froom tyM l₁₀ 0)) (‵ (froom tyM l₁₁ 0)) (‵ (froom word l₁₂ 0)) (‵ (fat fullShare word l₁₄ 0 (vint w64 (length qs)))) (‵ (fat fullShare word l₁₅ 0 (vint w64 (length ys)))) (Rest ys))
         (runs (𝓣 .C) (𝓣 .Λ) En mir.t-4 (atRet En Post))
     started r b is =
         let isb = SL.owed B.the-type B′.the-laws r _ is in
         let gs : List ℕ = map (λ (v : ℕ). v) (r .groups) in
-        let vs : List ℕ = map (λ (v : ℕ). v) (r .verdicts) in
         let surveyed : Surveyed img gs (r .sections) = subst (λ (g : List ℕ). Surveyed img g (r .sections)) (map-same (r .groups)) (b .surveyed) in
-        let kept : KeptVerdicts img vs = subst (KeptVerdicts img) (map-same (r .verdicts)) (b .kept) in
         let e : r .run ≡ out 0 = b .run ∙ out-none img o qs in
         let isx = isb .1 .1 .0 in
         let isg = isb .1 .1 .1 .0 in
-        let isv = isb .1 .1 .1 .1 .0 in
+        let vs : List ℕ = replicate 256 0 in
+        let ms : List Bool = replicate 1024 false in
+        -- what `[0u8; 256]` and `[false; 1024]` own
+        owned ! u8 (Is u8) (uint-makes 𝓤 H A W w8) 0 (vint w8 0 ∷ []) (refl, lit< tt) $ use1 W (‵ (Verdicts .own vs (repeated (vint w8 0) 256 ∷ []))) (array-repeat 𝓤 H A W u8 (uint-copy 𝓤 H A W w8) 256 0 (vint w8 0)) $
+        facts ! Verdicts (Is Verdicts) (shows 𝓤 H A Verdicts) vs (repeated (vint w8 0) 256 ∷ []) (λ isv.
+        owned ! bool (Is bool) (bool-makes 𝓤 H A W) false (vbool false ∷ []) refl $ use1 W (‵ (Marks .own ms (repeated (vbool false) 1024 ∷ []))) (array-repeat 𝓤 H A W bool (bool-copy 𝓤 H A W) 1024 false (vbool false)) $
+        facts ! Marks (Is Marks) (shows 𝓤 H A Marks) ms (repeated (vbool false) 1024 ∷ []) (λ ism.
+        let ve = array-tells u8 (uint-vals w8) (uint-tells w8) 256 vs (repeated (vint w8 0) 256 ∷ []) isv in
+        let me = array-tells bool bool-vals bool-tells 1024 ms (repeated (vbool false) 1024 ∷ []) ism in
+        let marks-are : Is Marks ms (mval ms ∷ []) = subst (Is Marks ms) me ism in
         assigns ! (of-opd ! (load ! (from ! (fld ! refl (stop !))) (look-in ! (L 2 4) (sub ! 0 refl (whole !))))) (from ! (stop !)) (init ! (L 2 5) refl (tt, record { fits = isb .0 .1 })) $
         assigns ! (of-opd ! (load ! (from ! (fld ! refl (stop !))) (look-in ! (L 2 4) (sub ! 1 refl (whole !))))) (from ! (stop !)) (init ! (L 2 6) refl (EL.lawful O.the-type O′.the-laws 𝓤 H A W tt .typed (r .run) _ (isb .1 .0) .0)) $
         assigns ! (of-opd ! (load ! (from ! (fld ! refl (stop !))) (look-in ! (L 2 4) (sub ! 2 refl (whole !))))) (from ! (stop !)) (init ! (L 2 7) refl (EL.lawful X.the-type X′.the-laws 𝓤 H A W tt .typed (r .sections) _ isx .0)) $
         assigns ! (of-opd ! (load ! (from ! (fld ! refl (stop !))) (look-in ! (L 2 4) (sub ! 3 refl (whole !))))) (from ! (stop !)) (init ! (L 2 8) refl (array-lawful 𝓤 H A W u16 (uint-lawful 𝓤 H A W w16) 256 .typed gs _ isg .0)) $
-        assigns ! (of-opd ! (load ! (from ! (fld ! refl (stop !))) (look-in ! (L 2 4) (sub ! 4 refl (whole !))))) (from ! (stop !)) (init ! (L 2 9) refl (array-lawful 𝓤 H A W u8 (uint-lawful 𝓤 H A W w8) 256 .typed vs _ isv .0)) $
-        assigns ! (of-opd ! (lit ! tt)) (from ! (stop !)) (init ! (L 2 10) refl (tt, record { fits = lit< tt })) $
+        assigns ! (rep ! 256 (lit ! tt)) (from ! (stop !)) (init ! (L 2 9) refl (array-lawful 𝓤 H A W u8 (uint-lawful 𝓤 H A W w8) 256 .typed vs _ isv .0)) $
+        assigns ! (rep ! 1024 (false-lit !)) (from ! (stop !)) (init ! (L 2 10) refl (array-lawful 𝓤 H A W bool (bool-lawful 𝓤 H A W) 1024 .typed ms _ ism .0)) $
+        assigns ! (rep ! 1024 (false-lit !)) (from ! (stop !)) (init ! (L 2 11) refl (array-lawful 𝓤 H A W bool (bool-lawful 𝓤 H A W) 1024 .typed ms _ ism .0)) $
+        assigns ! (of-opd ! (lit ! tt)) (from ! (stop !)) (init ! (L 2 12) refl (tt, record { fits = lit< tt })) $
         rewrite ! (L 2 5) (λ (n : ℕ). ‵ (fat fullShare word l₅ 0 (vint w64 n))) (b .rows) refl $
         rewrite ! (L 2 6) (λ (c : Run). ‵ (fat fullShare O′.mir l₆ 0 (oval c))) e refl $
-        forget ! (L 2 4) refl $ forget ! (L 2 12) refl $ forget ! (L 2 13) refl $
+        rewrite ! (L 2 9) (λ (v : List Val). ‵ (fat fullShare tyV l₉ 0 (only v))) ve refl $
+        rewrite ! (L 2 10) (λ (v : List Val). ‵ (fat fullShare tyM l₁₀ 0 (only v))) me refl $
+        rewrite ! (L 2 11) (λ (v : List Val). ‵ (fat fullShare tyM l₁₁ 0 (only v))) me refl $
+        forget ! (L 2 4) refl $ forget ! (L 2 14) refl $ forget ! (L 2 15) refl $
         -- the table of places is lent
-        owned ! G (Is G) (array-makes 𝓤 H A W u16 (uint-makes 𝓤 H A W w16) 256) gs _ isg $ move ! (L 3 8 ∷ 0 ∷ []) $ use2 W (‵ (partAt G fullShare gs l₈ 0)) (lies 𝓤 H A W w16 gs l₈) $
-        lft-new ! tt (λ α. move ! (1 ∷ []) $ use1 W (later (some (λ (γ : GName). ‵ (OwnG (r .sections) gs l₈ l₉ α γ) ⊛ ‵ (flent (α ∷ []) (partAt G fullShare gs l₈ 0))))) (lends-shr 𝓤 H A W G (named 1) (α ∷ []) fullShare gs l₈ 0) $ await ! tt $ pick ! (λ γ. split ! $
+        owned ! G (Is G) (array-makes 𝓤 H A W u16 (uint-makes 𝓤 H A W w16) 256) gs _ isg $ move ! (L 3 8 ∷ 0 ∷ []) $ use2 W (‵ (partAt G fullShare gs l₈ 0)) (lies 𝓤 H A W u16 (uint-vals w16) (uint-tells w16) 256 gs l₈) $
+        lft-new ! tt (λ α. move ! (1 ∷ []) $ use1 W (later (some (λ (γ : GName). ‵ (OwnG (r .sections) gs l₈ l₉ l₁₀ l₁₁ α γ) ⊛ ‵ (flent (α ∷ []) (partAt G fullShare gs l₈ 0))))) (lends-shr 𝓤 H A W G (named 1) (α ∷ []) fullShare gs l₈ 0) $ await ! tt $ pick ! (λ γ. split ! $
         -- [the table; lent; α; κ₀; image; the locals but _8; the rest]
-        first ! $ blocks ! $ move ! (46 ∷ 47 ∷ 48 ∷ 3 ∷ 4 ∷ 49 ∷ 50 ∷ 51 ∷ 52 ∷ 2 ∷ 0 ∷ 5 ∷ 6 ∷ 7 ∷ 8 ∷ 9 ∷ 10 ∷ 11 ∷ 12 ∷ 13 ∷ 14 ∷ 15 ∷ 16 ∷ 17 ∷ 18 ∷ 19 ∷ 20 ∷ 21 ∷ 22 ∷ 23 ∷ 24 ∷ 25 ∷ 26 ∷ 27 ∷ 28 ∷ 1 ∷ []) $
+        first ! $ blocks ! $ move ! (54 ∷ 55 ∷ 56 ∷ 3 ∷ 4 ∷ 57 ∷ 58 ∷ 59 ∷ 60 ∷ 2 ∷ 0 ∷ 5 ∷ 6 ∷ 7 ∷ 8 ∷ 9 ∷ 10 ∷ 11 ∷ 12 ∷ 13 ∷ 14 ∷ 15 ∷ 16 ∷ 17 ∷ 18 ∷ 19 ∷ 20 ∷ 21 ∷ 22 ∷ 23 ∷ 24 ∷ 25 ∷ 26 ∷ 27 ∷ 28 ∷ 29 ∷ 30 ∷ 31 ∷ 32 ∷ 33 ∷ 34 ∷ 35 ∷ 36 ∷ 1 ∷ []) $
         loops ! 𝓣 (Less (r .sections) gs surveyed isx isg α γ) (wf (r .sections) gs surveyed isx isg α γ) (Inv (r .sections) gs surveyed isx isg α γ) (turn-at (r .sections) gs surveyed isx isg α γ)
-        (record { i = 0; vs = vs; few = omega arith; run-is = subst (λ (c : Run). Is O.the-row c (oval c ∷ [])) e (isb .1 .0); table-is = isv; kept = kept })))
+        (record { i = 0; vs = vs; ms = ms; ns = ms; few = omega arith; run-is = subst (λ (c : Run). Is O.the-row c (oval c ∷ [])) e (isb .1 .0); verdicts-are = subst (Is Verdicts vs) ve isv; source-is = marks-are; dest-is = marks-are; kept = record { verdicts = kept-none _ 256; source = refl; dest = refl } })))))
 
     -- the body, up to the result of `begin_queries`
     body : Triple 𝓤 (𝓣 .C #decide·begin) (Begin 𝓤 H A at-mem run)
-        → Sq W (Cells (‵ (froom B′.mir l₄ 0)) (‵ (froom word l₅ 0)) (‵ (froom O′.mir l₆ 0)) (‵ (froom X′.mir l₇ 0)) (‵ (froom (tab-ty w16) l₈ 0)) (‵ (froom (tab-ty w8) l₉ 0)) (‵ (froom word l₁₀ 0)) (‵ (froom word l₁₂ 0)) (‵ (froom word l₁₃ 0)) (Has ys [])) (runs (𝓣 .C) (𝓣 .Λ) En mir.t-1 (atRet En Post))
+        → Sq W (Cells (‵ (froom B′.mir l₄ 0)) (‵ (froom word l₅ 0)) (‵ (froom O′.mir l₆ 0)) (‵ (froom X′.mir l₇ 0)) (‵ (froom tyG l₈ 0)) (‵ (froom tyV l₉ 0)) (‵ (froom tyM l₁₀ 0)) (‵ (froom tyM l₁₁ 0)) (‵ (froom word l₁₂ 0)) (‵ (froom word l₁₄ 0)) (‵ (froom word l₁₅ 0)) (Has ys [])) (runs (𝓣 .C) (𝓣 .Λ) En mir.t-1 (atRet En Post))
     body known-begin =
-        assigns ! (of-opd ! (load ! (from ! (fld ! refl (stop !))) (look-in ! (L 0 2) (sub ! 1 refl (whole !))))) (from ! (stop !)) (init ! (L 0 12) refl (tt, record { fits = g₁ .0 })) $
-        assigns ! (of-opd ! (load ! (from ! (fld ! refl (stop !))) (look-in ! (L 0 3) (sub ! 1 refl (whole !))))) (from ! (stop !)) (init ! (L 0 13) refl (tt, record { fits = g₂ .0 })) $
-        move ! (46 ∷ []) $ use1 W (‵ Own₀ ⊛ ‵ Own₀) (shr-slice-copy 𝓤 H A W (named 0) κ₀ u8 .twice x₀ (s₀ ∷ [])) $ split ! $ move ! (47 ∷ 0 ∷ []) $
+        assigns ! (of-opd ! (load ! (from ! (fld ! refl (stop !))) (look-in ! (L 0 2) (sub ! 1 refl (whole !))))) (from ! (stop !)) (init ! (L 0 14) refl (tt, record { fits = g₁ .0 })) $
+        assigns ! (of-opd ! (load ! (from ! (fld ! refl (stop !))) (look-in ! (L 0 3) (sub ! 1 refl (whole !))))) (from ! (stop !)) (init ! (L 0 15) refl (tt, record { fits = g₂ .0 })) $
+        move ! (54 ∷ []) $ use1 W (‵ Own₀ ⊛ ‵ Own₀) (shr-slice-copy 𝓤 H A W (named 0) κ₀ u8 .twice x₀ (s₀ ∷ [])) $ split ! $ move ! (55 ∷ 0 ∷ []) $
         use2 W (raw (Begin 𝓤 H A at-mem run .pre to-begin)) (ask-begin (g₁ .0) (g₂ .0)) $
-        calls-at ! (fmOf 𝓤 H (W .laws) 𝓣) (Begin 𝓤 H A at-mem run) known-begin to-begin (and-then ! (load ! (from ! (stop !)) (look ! (L 2 1) refl)) (and-then ! (load ! (from ! (stop !)) (look ! (L 2 12) refl)) (and-then ! (load ! (from ! (stop !)) (look ! (L 2 13) refl)) (no-more !)))) (λ u.
+        calls-at ! (fmOf 𝓤 H (W .laws) 𝓣) (Begin 𝓤 H A at-mem run) known-begin to-begin (and-then ! (load ! (from ! (stop !)) (look ! (L 2 1) refl)) (and-then ! (load ! (from ! (stop !)) (look ! (L 2 14) refl)) (and-then ! (load ! (from ! (stop !)) (look ! (L 2 15) refl)) (no-more !)))) (λ u.
         use1 W (later (some (λ (r : Begun). ((‵ (flft κ₀ q₀) ⊛ ‵ ftrue) ⊛ ‵ (B.the-row .own r (u ∷ []))) ⊛ raw (ensured 𝓤 H A begin.ended (begin.clauses 𝓤 H A at-mem run) (κ₀, tt) (x₀, (length qs, (length ys, tt))) tt r)))) (id⊢ 𝓤 _) $ await ! tt $ pick ! (λ r.
         split ! $ move ! (1 ∷ []) $ use1 W (raw (fact 𝓤 (Begun-is r))) (said-begin r) $ heard ! (Begun-is r) (λ b. split ! $ move ! (1 ∷ []) $
         facts ! B.the-row (Is B.the-row) (shows 𝓤 H A B.the-row) r (u ∷ []) (λ is′. split ! $ move ! (1 ∷ []) $ drop ! $
@@ -552,9 +628,9 @@ module _ {M : Type 1} (𝓤 : URA M) (H : Heap 𝓤) (A : Atoms 𝓤) (W : Given
       -- [obs; the borrow; true; res; the fractured borrow; queries' fact; image; κ₂; true; κ₁; κ₀]
       keep ! (0 ∷ 1 ∷ 7 ∷ 10 ∷ 6 ∷ 9 ∷ 4 ∷ 3 ∷ 5 ∷ []) $
       enter ! (𝓣 .C) (𝓣 .Λ) code.function (s₀ ∷ s₁ ∷ s₂ ∷ []) _ $
-      alloc1 ! (λ l₀. alloc1 ! (λ l₁. alloc1 ! (λ l₂. alloc1 ! (λ l₃. alloc1 ! (λ l₄. alloc1 ! (λ l₅. alloc1 ! (λ l₆. alloc1 ! (λ l₇. alloc1 ! (λ l₈. alloc1 ! (λ l₉. alloc1 ! (λ l₁₀. alloc1 ! (λ l₁₁. alloc1 ! (λ l₁₂. alloc1 ! (λ l₁₃. alloc1 ! (λ l₁₄. alloc1 ! (λ l₁₅. alloc1 ! (λ l₁₆. alloc1 ! (λ l₁₇. alloc1 ! (λ l₁₈. alloc1 ! (λ l₁₉. alloc1 ! (λ l₂₀. alloc0 ! $ params1 ! $
+      alloc1 ! (λ l₀. alloc1 ! (λ l₁. alloc1 ! (λ l₂. alloc1 ! (λ l₃. alloc1 ! (λ l₄. alloc1 ! (λ l₅. alloc1 ! (λ l₆. alloc1 ! (λ l₇. alloc1 ! (λ l₈. alloc1 ! (λ l₉. alloc1 ! (λ l₁₀. alloc1 ! (λ l₁₁. alloc1 ! (λ l₁₂. alloc1 ! (λ l₁₃. alloc1 ! (λ l₁₄. alloc1 ! (λ l₁₅. alloc1 ! (λ l₁₆. alloc1 ! (λ l₁₇. alloc1 ! (λ l₁₈. alloc1 ! (λ l₁₉. alloc1 ! (λ l₂₀. alloc1 ! (λ l₂₁. alloc1 ! (λ l₂₂. alloc1 ! (λ l₂₃. alloc1 ! (λ l₂₄. alloc0 ! $ params1 ! $
       pass1 ! (init ! (L 0 1) refl (tt, (tt, (record { fits = g₀ .0 }, tt)))) $ pass1 ! (init ! (L 0 2) refl (tt, (tt, (record { fits = g₁ .0 }, tt)))) $ pass1 ! (init ! (L 0 3) refl (tt, (tt, (record { fits = g₂ .0 }, tt)))) $ pass0 ! $
-      body 𝓣 g₁ g₂ known-row l₀ l₁ l₂ l₃ l₄ l₅ l₆ l₇ l₈ l₉ l₁₀ l₁₁ l₁₂ l₁₃ l₁₄ l₁₅ l₁₆ l₁₇ l₁₈ l₁₉ l₂₀ known-begin)))))))))))))))))))))
+      body 𝓣 g₁ g₂ known-row l₀ l₁ l₂ l₃ l₄ l₅ l₆ l₇ l₈ l₉ l₁₀ l₁₁ l₁₂ l₁₃ l₁₄ l₁₅ l₁₆ l₁₇ l₁₈ l₁₉ l₂₀ l₂₁ l₂₂ l₂₃ l₂₄ known-begin)))))))))))))))))))))))))
 
 module _ {M : Type 1} (𝓤 : URA M) (H : Heap 𝓤) (A : Atoms 𝓤) (W : Given 𝓤 H A) (at-mem : Memory → SProp 𝓤) (run : Routine → Fun 𝓤) (𝓣 : Tables 𝓤 H) (known-begin : Triple 𝓤 (𝓣 .C #decide·begin) (Begin 𝓤 H A at-mem run)) (known-row : Triple 𝓤 (𝓣 .C #decide·decide-row) (Decides 𝓤 H A at-mem run)) where
   all-walks : Walks 𝓤 H A all.ended stayed (WpFn 𝓤 H (𝓣 .C) (𝓣 .Λ) code.function) (all.clauses 𝓤 H A at-mem run)

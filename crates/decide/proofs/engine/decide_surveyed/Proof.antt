@@ -53,14 +53,14 @@ returns-2 c = let k = ready (c .before .before .before .before .before .before .
     record { is = outcome-some _ _ _ (query-dest _ _ (source-yes (c .before .before .before)) (dest-told (c .before) ∙ not-true _ (c .if2 .taken))) ∙ sym (answer-accepted _ _ (k .known .accepted)); kept = c .before .before .before .before .before .before .before .before .before .before .before .pre .1 }
 
 judge-requires : tie.Need-judge-requires
-judge-requires c κs = (ready (c .before .before .before .before .before .before .before .before), (source-yes (c .before .before .before .before), dest-yes (c .before)), c .before .before .before .before .before .before .before .before .before .before .before .before .pre .1)
+judge-requires c κs = (ready (c .before .before .before .before .before .before .before .before .before .before), (source-yes (c .before .before .before .before .before .before), dest-yes (c .before .before .before)), c .before .before .before .before .before .before .before .before .before .before .before .before .before .before .pre .1)
 
 returns-3 : tie.Need-returns-3
 returns-3 c = let p = c .before .before .before .before .pre in record { is = sym (image-refused _ _ _ (outcome-refused _ _ (sym (ap sectionsOutcome (c .before .sections .given .1)) ∙ p .0 .sections))); kept = p .1 }
 
 returns-4 : tie.Need-returns-4
 returns-4 c = let r = c .judge .ensures in
-    record { is = r .is ∙ outcome-none _ _ (query-valid _ _ (source-yes (c .before .before .before .before .before)) (dest-yes (c .before .before))) ∙ sym (answer-accepted _ _ (ready (c .before .before .before .before .before .before .before .before .before) .known .accepted)); kept = r .kept }
+    record { is = r .is ∙ outcome-none _ _ (query-valid _ _ (source-yes (c .before .before .before .before .before .before .before)) (dest-yes (c .before .before .before .before))) ∙ sym (answer-accepted _ _ (ready (c .before .before .before .before .before .before .before .before .before .before .before) .known .accepted)); kept = r .kept }
 
 pub decide-surveyed-spec : {M : Type 1} → statement M
 decide-surveyed-spec =

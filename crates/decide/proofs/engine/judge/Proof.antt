@@ -1,66 +1,58 @@
--- `judge` meets its contract: the lowest covering rule and the lowest failing constraint make the decision. Assumes nothing.
+-- `judge` meets its contract: the marks of the two types are set, asked, and taken off again. Assumes nothing.
 use borrow.Author.Needs.{needs}
-use mathlib.Core.Path.{refl, sym, subst, ap, _∙_}
-use Rattle.format.specs.Answers.{gives}
+use mathlib.Core.Path.{sym, subst}
 use Rattle.format.specs.Claims.{IsType}
 use Rattle.format.proofs.Fields.{type-is}
-use Rattle.decision.specs.Decide.{decisionOf}
-use Rattle.decide.specs.declared.cover.Found.the-variants.{At, Nothing}
-use Rattle.decide.proofs.KeptLaws.{kept-none}
-use Rattle.decide.proofs.EngineLaws.{engine-is, marked-type}
+use Rattle.decide.proofs.TypeLaws.{type-basic}
+use Rattle.decide.proofs.EngineLaws.{marks-after, marked-type}
 use Rattle.decide.proofs.engine.judge.Statement.{statement}
 use Rattle.decide.proofs.engine.judge.Tie as tie
 
 mark-type-requires : tie.Need-mark-type-requires
-mark-type-requires c κs = let p = c .before .before .before .pre in (p .0 .known, subst (IsType _) (sym (c .before .wide-word .ensures)) (type-is _ _ (p .1 .0)))
+mark-type-requires c κs = let p = c .before .before .before .before .pre in (p .0 .known, subst (IsType _) (sym (c .before .before .wide-word .ensures)) (type-is _ _ (p .1 .0)))
 
 mark-type-requires-2 : tie.Need-mark-type-requires-2
-mark-type-requires-2 c κs = let p = c .before .before .before .before .before .before .pre in (p .0 .known, subst (IsType _) (sym (c .before .wide-word2 .ensures)) (type-is _ _ (p .1 .1)))
+mark-type-requires-2 c κs = let p = c .before .before .before .before .before .before .pre in (p .0 .known, subst (IsType _) (sym (c .before .before .before .wide-word2 .ensures)) (type-is _ _ (p .1 .1)))
 
-first-rule-requires : tie.Need-first-rule-requires
-first-rule-requires c κs = let p = c .before .before .before .before .before .before .before .before .before .before .before .pre in
-    let s = c .before .before .before .before .before .before .before .mark-type .ensures in
-    let d = c .before .before .before .before .mark-type2 .ensures in (
+judge-marked-requires : tie.Need-judge-marked-requires
+judge-marked-requires c κs =
+    let p = c .before .before .before .before .before .before .before .before .before .before .pre in
+    let s = c .before .before .before .before .before .mark-type .ensures in
+    let d = c .before .before .before .mark-type2 .ensures in (
       p .0,
-      record {
-        source = record { marked = marked-type _ _ _ _ _ (p .0 .known .accepted) (type-is _ _ (p .1 .0)) (c .before .before .before .before .before .before .before .before .before .wide-word .ensures) (s .0) (s .1); kept = kept-none _ 256 };
-        dest = record { marked = marked-type _ _ _ _ _ (p .0 .known .accepted) (type-is _ _ (p .1 .1)) (c .before .before .before .before .before .before .wide-word2 .ensures) (d .0) (d .1); kept = kept-none _ 256 };
-      },
+      marked-type _ _ _ _ _ (p .0 .known .accepted) (type-is _ _ (p .1 .0)) (c .before .before .before .before .before .before .before .before .wide-word .ensures) (marks-after _ _ _ (s .0) (p .2 .source)) (s .1),
+      marked-type _ _ _ _ _ (p .0 .known .accepted) (type-is _ _ (p .1 .1)) (c .before .before .before .before .before .before .before .wide-word2 .ensures) (marks-after _ _ _ (d .0) (p .2 .dest)) (d .1),
+      p .2 .verdicts,
     )
 
-first-constraint-requires : tie.Need-first-constraint-requires
-first-constraint-requires c κs = let p = c .before .before .before .before .before .before .before .before .before .before .before .before .before .before .before .before .before .before .before .before .pre in (p .0, c .before .before .before .before .before .before .before .before .first-rule .ensures .kept, p .2)
+unmark-type-requires : tie.Need-unmark-type-requires
+unmark-type-requires c κs = type-basic _ _ (subst (IsType _) (sym (c .before .before .before .before .before .before .before .before .before .before .wide-word .ensures)) (type-is _ _ (c .before .before .before .before .before .before .before .before .before .before .before .before .pre .1 .0)))
+
+unmark-type-requires-2 : tie.Need-unmark-type-requires-2
+unmark-type-requires-2 c κs = type-basic _ _ (subst (IsType _) (sym (c .before .before .before .before .before .before .before .before .before .before .before .wide-word2 .ensures)) (type-is _ _ (c .before .before .before .before .before .before .before .before .before .before .before .before .before .before .pre .1 .1)))
 
 returns : tie.Need-returns
-unfolding decisionOf
-returns c = record { is = ap gives (engine-is _ _ Nothing _ (sym (c .enum-told .given .1) ∙ c .before .before .first-rule .ensures .is) refl); kept = c .before .before .before .before .before .before .before .before .before .before .before .before .before .before .pre .2 }
-
-returns-2 : tie.Need-returns-2
-unfolding decisionOf
-returns-2 c = let r = c .before .before .before .before .before .before .before .before .before .before .before .first-rule .ensures in
-    let k = c .before .before .first-constraint .ensures in
-    record { is = ap gives (engine-is _ _ (At _) Nothing (sym (c .before .before .before .before .before .before .before .before .before .r .given .1) ∙ r .is) (sym (c .enum-told2 .given .1) ∙ k .is)); kept = k .kept }
-
-returns-3 : tie.Need-returns-3
-unfolding decisionOf
-returns-3 c = let r = c .before .before .before .before .before .before .before .before .before .before .before .before .first-rule .ensures in
-    let k = c .before .before .before .first-constraint .ensures in
-    record { is = ap gives (engine-is _ _ (At _) (At _) (sym (c .before .before .before .before .before .before .before .before .before .before .r .given .1) ∙ r .is) (sym (c .before .c .given .1) ∙ k .is)); kept = k .kept }
+returns c =
+    let p = c .before .before .before .before .before .before .before .before .before .before .before .before .before .before .before .pre in
+    let r = c .before .before .before .before .judge-marked .ensures in
+    record {
+      is = r .is;
+      kept = record {
+        verdicts = r .kept;
+        source = c .before .before .unmark-type .ensures _ (marks-after _ _ _ (c .before .before .before .before .before .before .before .before .before .before .mark-type .ensures .0) (p .2 .source));
+        dest = c .unmark-type2 .ensures _ (marks-after _ _ _ (c .before .before .before .before .before .before .before .before .mark-type2 .ensures .0) (p .2 .dest));
+      };
+    }
 
 pub judge-spec : {M : Type 1} → statement M
 judge-spec =
     tie.close
     (tie.spec
     (λ c κs. search needs)
-    mark-type-requires
     (λ c κs. search needs)
+    mark-type-requires
     mark-type-requires-2
-    first-rule-requires
-    (λ c. search needs)
-    (λ c. search needs)
-    first-constraint-requires
-    (λ c. search needs)
-    (λ c. search needs)
-    returns
-    returns-2
-    returns-3)
+    judge-marked-requires
+    unmark-type-requires
+    unmark-type-requires-2
+    returns)

@@ -2,32 +2,33 @@
 use native.Mathlib.Omega.{arith}
 use Prim.Native.Nat.{ℕ, _-_, _≤_}
 use mathlib.Core.Path.{_≡_, refl}
+use mathlib.Core.Bool.{Bool}
 use mathlib.Core.List.{List}
 use lib.ListN.{length, length-set}
 use Rattle.image.proofs.SurveyLaws.{survey-placed}
-use Rattle.decide.specs.Inner.Kept.{KeptVerdicts}
+use Rattle.decide.specs.Inner.Kept.{Tables}
 use Rattle.decide.proofs.KeptLaws.{kept-none}
 use Rattle.decide.proofs.RowLaws.{filled, rows-next, rows-end}
 use Rattle.decide.proofs.rows.decide_all.Statement.{statement}
 use Rattle.decide.proofs.rows.decide_all.Tie as tie
 
 -- k slots are filled, of as many as there are
-record Rows (l b slots : List ℕ) (whole slot-end : ℕ) (now verdicts : List ℕ) (k : ℕ) : Type 0 where
+record Rows (l b slots : List ℕ) (whole slot-end : ℕ) (now verdicts : List ℕ) (source dest : List Bool) (k : ℕ) : Type 0 where
   few : k ≤ slot-end
   rows : k ≤ whole
   all : slot-end ≡ length slots
   same : length now ≡ length slots
   are : now ≡ filled l b slots k
-  kept : KeptVerdicts l verdicts
+  kept : Tables l verdicts source dest
 
 abbrev Inv-loop : tie.InvT-loop
-Inv-loop image queries answers₀ rows groups sections verdicts₀ k₀ k-end answers verdicts k = Rows image queries answers₀ rows k-end answers verdicts k
+Inv-loop image queries answers₀ rows groups sections verdicts₀ source₀ dest₀ k₀ k-end answers verdicts source dest k = Rows image queries answers₀ rows k-end answers verdicts source dest k
 
 abbrev μ-loop : tie.MeasureT-loop
-μ-loop image queries answers₀ rows groups sections verdicts₀ k₀ k-end answers verdicts k = k-end - k
+μ-loop image queries answers₀ rows groups sections verdicts₀ source₀ dest₀ k₀ k-end answers verdicts source dest k = k-end - k
 
 loop-holds : tie.Need-loop-holds Inv-loop μ-loop
-loop-holds c = record { few = omega arith; rows = omega arith; all = refl; same = refl; are = refl; kept = kept-none _ 256 }
+loop-holds c = record { few = omega arith; rows = omega arith; all = refl; same = refl; are = refl; kept = record { verdicts = kept-none _ 256; source = refl; dest = refl } }
 
 same-length : tie.Need-same-length Inv-loop μ-loop
 same-length c = c .before .before .loop .inv .same
@@ -36,13 +37,13 @@ returns : tie.Need-returns Inv-loop μ-loop
 returns c = let L = c .before .before .loop in (omega (arith, L .inv .rows, L .inv .few), rows-end _ _ _ (L .answers) (L .k) (omega (arith, L .inv .rows, L .inv .few)) (L .inv .are))
 
 row-requires : tie.Need-row-requires Inv-loop μ-loop
-row-requires c κs = let k = c .before .before .before .before .before .survey .ensures in (record { sections = k .sections; placed = survey-placed _ _ _ _ k }, c .before .before .before .before .loop .inv .kept, omega arith)
+row-requires c κs = let k = c .before .before .before .before .before .before .before .survey .ensures in (record { sections = k .sections; placed = survey-placed _ _ _ _ k }, c .before .before .before .before .before .before .loop .inv .kept, omega arith)
 
 slice-write-answers : tie.Need-slice-write-answers Inv-loop μ-loop
-slice-write-answers c = let L = c .before .before .before .before .before .loop in omega (arith, L .inv .all, L .inv .same)
+slice-write-answers c = let L = c .before .before .before .before .before .before .before .loop in omega (arith, L .inv .all, L .inv .same)
 
 loop-again : tie.Need-loop-again Inv-loop μ-loop
-loop-again c = let L = c .before .before .before .before .before .loop in
+loop-again c = let L = c .before .before .before .before .before .before .before .loop in
     let r = c .row .ensures in
     record {
       few = omega arith;
