@@ -1,8 +1,10 @@
 // The sample sheet of document 01, run through the C interface, and records given as parts of an image, which C does not
 // have: each line is a case and its answer. The file stdout beside src/ has what the document says.
+mod batch; // batch.rt: runs of queries on the sample
 mod images; // images.rt: images that are longer than a line
 mod show; // show.rt: a case's line
 
+use batch::runs;
 use format::Section;
 use images::SIXTY_FIVE;
 use images::many_rules;
@@ -21,6 +23,7 @@ fn main() {
     members();
     rules();
     records();
+    runs();
 }
 
 fn queries() {

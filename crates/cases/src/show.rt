@@ -55,6 +55,28 @@ fn line(label: &[u8], zero: &[u8], answer: u64) {
     io::write_all(STDOUT_FILENO, b"\n");
 }
 
+// What a run comes to.
+pub(crate) fn comes(label: &[u8], answer: u64) {
+    io::write_all(STDOUT_FILENO, label);
+    io::write_all(STDOUT_FILENO, b":");
+    match answer >> 32 {
+        0 => number(b" row", answer),
+        1 => {
+            io::write_all(STDOUT_FILENO, b" fit");
+        }
+        _ => {
+            number(b" R", answer >> 16);
+            number(b"", answer);
+        }
+    }
+    io::write_all(STDOUT_FILENO, b"\n");
+}
+
+// What a run's slot holds.
+pub(crate) fn slot(answer: u64) {
+    line(b"- slot", b" N", answer);
+}
+
 // A letter, and the lowest 16 bits of a number.
 fn number(letter: &[u8], parts: u64) {
     io::write_all(STDOUT_FILENO, letter);
