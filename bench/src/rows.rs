@@ -36,7 +36,7 @@ pub fn print(cases: &[Case], effort: Effort) {
 
 /// A whole run beside one decision, where the constraints of a case apply to each row.
 pub fn print_held(cases: &[Case], effort: Effort) {
-    println!("\n256 constraints that apply and hold: 64 rows beside one decision; 2.0 or less is wanted\n");
+    println!("\n256 constraints that apply and hold: 64 rows beside one decision; 2.0 or less is wanted of those that ask the rules\n");
     println!(
         "{:FIRST$} {:>12} {:>12} {:>7} {:>12} {:>6}",
         "policy", "one decision", "64 rows", "64 to 1", "hand-written", "ratio"

@@ -18,7 +18,7 @@ use Rattle.runs.specs.declared.Run.{Run}
 use Rattle.runs.specs.Runs.{rowsFault, answerOf, rowAnswer}
 use Rattle.runs.specs.Inner.Progress.{openFault, runSaid, nextRun}
 use Rattle.runs.proofs.Holds.{said-answer}
-use Rattle.decide.specs.declared.batch.Step.{Step}
+use Rattle.decide.specs.declared.steps.Step.{Step}
 use Rattle.decide.specs.Inner.Steps.{stepOf}
 
 -- an accepted image: what is left is the run's own refusal

@@ -25,8 +25,8 @@ use Rattle.runs.proofs.Faults.{numbers-fault, same-count, few-numbers}
 use Rattle.runs.proofs.Holds.{answer-code}
 use Rattle.runs.proofs.Numbered.{row-at, rows-many, row-inside}
 use Rattle.runs.proofs.Progress.{outAt, out-next, rows-most, rows-decided}
-use Rattle.decide.specs.declared.batch.Begun.{Begun}
-use Rattle.decide.specs.declared.batch.Step.{Step}
+use Rattle.decide.specs.declared.steps.Begun.{Begun}
+use Rattle.decide.specs.declared.steps.Step.{Step}
 use Rattle.decide.specs.Inner.Steps.{Begins, stepOf}
 
 abbrev noQuery : Query

@@ -13,6 +13,7 @@ mod cover; // cover.rt: the lowest rule that covers a query
 mod constraint; // constraint.rt: whether a constraint fails, and the lowest that does
 mod engine; // engine.rt: the decision on an image and a query
 mod rows; // rows.rt: many queries at once
+mod steps; // steps.rt: what a run begins with, and each of its rows
 mod batch; // batch.rt: a run of queries, and what it comes to
 
 pub use batch::run;

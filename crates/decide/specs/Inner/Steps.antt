@@ -10,8 +10,8 @@ use Rattle.decision.specs.declared.Query.{Query}
 use Rattle.runs.specs.declared.Run.{Run}
 use Rattle.runs.specs.Runs.{rowAnswer}
 use Rattle.runs.specs.Inner.Progress.{runSaid, rowsFor, nextRun}
-use Rattle.decide.specs.declared.batch.Begun.{Begun}
-use Rattle.decide.specs.declared.batch.Step.{Step}
+use Rattle.decide.specs.declared.steps.Begun.{Begun}
+use Rattle.decide.specs.declared.steps.Step.{Step}
 use Rattle.decide.specs.Inner.Parts.{Surveyed}
 
 pub record Begins (l : List ℕ) (n : ℕ) (f : Option Refusal) (b : Begun) : Type 0 where

@@ -78,25 +78,25 @@ use Rattle.runs.proofs.Run.Laws as O′
 use Rattle.runs.proofs.Fill.{fill, length-fill, fill-next}
 use Rattle.runs.proofs.Progress.{outAt, out-none, out-next, rows-most, rows-decided, ran-queries, wrote-queries}
 use Rattle.decide.proofs.LentTables.{tab-ty, tab-val, repeated, map-same, lies, lies-back}
-use Rattle.decide.specs.declared.batch.Begun.{Begun}
-use Rattle.decide.specs.declared.batch.Step.{Step}
+use Rattle.decide.specs.declared.steps.Begun.{Begun}
+use Rattle.decide.specs.declared.steps.Step.{Step}
 use Rattle.decide.specs.Inner.Parts.{Surveyed}
 use Rattle.decide.specs.Inner.Kept as Kept
 use Rattle.decide.specs.Inner.Kept.{Leaves}
 use Rattle.decide.proofs.KeptLaws.{kept-none}
 use Rattle.decide.specs.Inner.Steps.{Begins, stepOf}
-use Rattle.decide.proofs.batch.Begun as B
-use Rattle.decide.proofs.batch.Begun.Laws as B′
-use Rattle.decide.proofs.batch.Step as S
-use Rattle.decide.proofs.batch.Step.Laws as S′
-use Rattle.decide.proofs.batch.begin_queries as begin
-use Rattle.decide.proofs.batch.begin_queries.Symbol as begin-def
-use Rattle.decide.proofs.batch.begin_queries.Symbol.{name as #decide·begin}
-use Rattle.decide.proofs.batch.begin_queries.Met as begin-thm
-use Rattle.decide.proofs.batch.decide_row as row
-use Rattle.decide.proofs.batch.decide_row.Symbol as row-def
-use Rattle.decide.proofs.batch.decide_row.Symbol.{name as #decide·decide-row}
-use Rattle.decide.proofs.batch.decide_row.Met as row-thm
+use Rattle.decide.proofs.steps.Begun as B
+use Rattle.decide.proofs.steps.Begun.Laws as B′
+use Rattle.decide.proofs.steps.Step as S
+use Rattle.decide.proofs.steps.Step.Laws as S′
+use Rattle.decide.proofs.steps.begin_queries as begin
+use Rattle.decide.proofs.steps.begin_queries.Symbol as begin-def
+use Rattle.decide.proofs.steps.begin_queries.Symbol.{name as #decide·begin}
+use Rattle.decide.proofs.steps.begin_queries.Met as begin-thm
+use Rattle.decide.proofs.steps.decide_row as row
+use Rattle.decide.proofs.steps.decide_row.Symbol as row-def
+use Rattle.decide.proofs.steps.decide_row.Symbol.{name as #decide·decide-row}
+use Rattle.decide.proofs.steps.decide_row.Met as row-thm
 use Rattle.decide.proofs.batch.run.Key.{name as #decide·run}
 use Rattle.decide.proofs.batch.run as all
 use Rattle.decide.proofs.batch.run.Statement as stated
@@ -650,5 +650,5 @@ run-spec 𝓤 H 𝓜 𝓖 𝓡 =
     entered 𝓤 H (tripleOf 𝓤 H (𝓖 .A) all.signature (all.spec 𝓤 H (𝓖 .A) (𝓜 .mem) (𝓡 .run)))
     (tables 𝓤 H 𝓜 𝓡 code.env .C) (tables 𝓤 H 𝓜 𝓡 code.env .Λ) #decide·run code.function (code.unfolded 𝓤 H 𝓜 𝓡)
     (all-meets 𝓤 H (𝓖 .A) (givenOf 𝓤 H 𝓜 𝓖) (𝓜 .mem) (𝓡 .run) (tablesOf 𝓤 H 𝓜 (tables 𝓤 H 𝓜 𝓡 code.env))
-    (cited 𝓤 H (Begin 𝓤 H (𝓖 .A) (𝓜 .mem) (𝓡 .run)) 𝓜 𝓡 code.env #decide·begin begin-def.routine code.calls-decide·batch·begin-queries (begin-thm.met 𝓤 H 𝓜 𝓖 𝓡))
-    (cited 𝓤 H (Decides 𝓤 H (𝓖 .A) (𝓜 .mem) (𝓡 .run)) 𝓜 𝓡 code.env #decide·decide-row row-def.routine code.calls-decide·batch·decide-row (row-thm.met 𝓤 H 𝓜 𝓖 𝓡)))
+    (cited 𝓤 H (Begin 𝓤 H (𝓖 .A) (𝓜 .mem) (𝓡 .run)) 𝓜 𝓡 code.env #decide·begin begin-def.routine code.calls-decide·steps·begin-queries (begin-thm.met 𝓤 H 𝓜 𝓖 𝓡))
+    (cited 𝓤 H (Decides 𝓤 H (𝓖 .A) (𝓜 .mem) (𝓡 .run)) 𝓜 𝓡 code.env #decide·decide-row row-def.routine code.calls-decide·steps·decide-row (row-thm.met 𝓤 H 𝓜 𝓖 𝓡)))

@@ -13,7 +13,7 @@ use Rattle.runs.specs.Runs.{runOutcome}
 use Rattle.runs.specs.Numbers.{rowsOf}
 use Rattle.runs.proofs.Fill.{fill, length-fill}
 use Rattle.runs.proofs.Progress.{out-none, ran-numbers, wrote-numbers}
-use Rattle.decide.specs.declared.batch.Begun.{Begun}
+use Rattle.decide.specs.declared.steps.Begun.{Begun}
 use Rattle.decide.specs.Inner.Kept.{Tables}
 use Rattle.decide.specs.Inner.Steps.{Begins, stepOf}
 use Rattle.decide.proofs.KeptLaws.{kept-none}

@@ -4,8 +4,8 @@ use mathlib.Core.Path.{sym, subst}
 use denote.Ref.{now}
 use Rattle.runs.proofs.Faults.{queries-fault}
 use Rattle.decide.specs.Inner.Steps.{Begins}
-use Rattle.decide.proofs.batch.begin_queries.Statement.{statement}
-use Rattle.decide.proofs.batch.begin_queries.Tie as tie
+use Rattle.decide.proofs.steps.begin_queries.Statement.{statement}
+use Rattle.decide.proofs.steps.begin_queries.Tie as tie
 
 returns : tie.Need-returns
 returns c =

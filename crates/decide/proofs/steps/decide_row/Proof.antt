@@ -1,8 +1,8 @@
 -- `decide_row` meets its contract: the single decision, and what the run comes to after it. Assumes nothing.
 use borrow.Author.Needs.{needs}
 use Rattle.decide.proofs.BatchLaws.{step-is}
-use Rattle.decide.proofs.batch.decide_row.Statement.{statement}
-use Rattle.decide.proofs.batch.decide_row.Tie as tie
+use Rattle.decide.proofs.steps.decide_row.Statement.{statement}
+use Rattle.decide.proofs.steps.decide_row.Tie as tie
 
 returns : tie.Need-returns
 returns c =

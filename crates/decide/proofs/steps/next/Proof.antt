@@ -2,8 +2,8 @@
 use borrow.Author.Needs.{needs}
 use mathlib.Core.Path.{refl}
 use Rattle.decide.proofs.BatchLaws.{next-is}
-use Rattle.decide.proofs.batch.next.Statement.{statement}
-use Rattle.decide.proofs.batch.next.Tie as tie
+use Rattle.decide.proofs.steps.next.Statement.{statement}
+use Rattle.decide.proofs.steps.next.Tie as tie
 
 returns : tie.Need-returns
 returns c = next-is _ _ _ _ _ (c .before .before .enum-told .given .1) (c .enum-told2 .given .1)

@@ -8,8 +8,8 @@ use Rattle.image.proofs.SurveyLaws.{survey-placed}
 use Rattle.runs.specs.Runs.{runFault}
 use Rattle.runs.specs.Inner.Progress.{openFault, runSaid, rowsFor}
 use Rattle.runs.proofs.Progress.{open-fault}
-use Rattle.decide.proofs.batch.begin.Statement.{statement}
-use Rattle.decide.proofs.batch.begin.Tie as tie
+use Rattle.decide.proofs.steps.begin.Statement.{statement}
+use Rattle.decide.proofs.steps.begin.Tie as tie
 
 -- what the run comes to before its first row
 run-is : (d : tie.After-opening) → d .opening .result ≡ runSaid (runFault (now (d .before .before .before .before .args .image)) (d .before .before .before .before .args .rows) (d .before .before .before .before .args .fits))

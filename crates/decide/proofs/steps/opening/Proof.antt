@@ -7,8 +7,8 @@ use mathlib.Core.Option.{none, some}
 use Rattle.format.specs.Refusals.{refusal}
 use Rattle.runs.proofs.Faults.{rows-few, rows-many, rows-slots, rows-none}
 use Rattle.decide.proofs.BatchLaws.{opened, opened-refused}
-use Rattle.decide.proofs.batch.opening.Statement.{statement}
-use Rattle.decide.proofs.batch.opening.Tie as tie
+use Rattle.decide.proofs.steps.opening.Statement.{statement}
+use Rattle.decide.proofs.steps.opening.Tie as tie
 
 returns : tie.Need-returns
 returns c = opened _ _ _ _ (some (refusal 16 0)) (sym (c .before .enum-told .given .1)) (rows-few _ _ (c .if1 .taken))
