@@ -1,7 +1,7 @@
 -- What meets the terms of the claims of the program's output and of the C interface, from the statement: no claim's own proof is
 -- cited. Assumes nothing.
 use native.Mathlib.Omega.{arith}
-use Prim.Native.Nat.{ℕ, _*_, _≤_}
+use Prim.Native.Nat.{ℕ, suc, _*_, _≤_}
 use mathlib.Core.Option.{some}
 use mathlib.Core.Path.{_≡_, subst, refl, sym, ap, ap₂, _∙_}
 use mathlib.Core.List.{List, [], _∷_, map}
@@ -20,8 +20,9 @@ use Rattle.decision.specs.Cases.{companion, withSpace, extended}
 use Rattle.decision.proofs.Cases.{Answers, marked-answers}
 use Rattle.decision.specs.Numbers.{OutcomeFits, DecisionFits}
 use Rattle.mungaite.specs.Claims.{FaultFits, ExtentFits, NumberFits, RowFits}
+use Rattle.mungaite.specs.Host.{hostRun}
 use Rattle.runs.specs.Runs.{runOf}
-use Rattle.runs.specs.Numbers.{numbersOf, numbersFault, numbersRun, rowCode}
+use Rattle.runs.specs.Numbers.{numbersOf, numbersFault, numbersRun, rowCode, runCode}
 use Rattle.runs.specs.Cases.{member, transition, offRule}
 use Rattle.claims.specs.Promises.{Promises}
 use Rattle.claims.specs.Terms.{query, PrintingMet, CallingMet}
@@ -98,6 +99,8 @@ module _ (p : Promises) where
         companion-read = c .add-read (withSpace sample companion) companion-space companion ∙ ap₂ outcome companied (p .deciding .marked-adds .numbered);
         no-room-read = c .add-read sample sample-bytes companion ∙ ap (λ f. outcome f (newNumber sample companion)) (p .reading .refusal-cases .no-room);
         row-fits = λ l b ns slots n e. (let h = subst (OutcomeFits RowFits) e (c .run-whole l b ns slots) in omega (arith, h));
+        run-refusal-fits = λ l b ns slots f e. (let h = subst (OutcomeFits RowFits) e (c .run-whole l b ns slots) in (omega (arith, h .0), omega (arith, h .1)));
+        any-run-read = λ l b ns ys o e. subst (λ x. hostRun (runCode x) ≡ x) e (c .run-read l b ns ys .0);
         fit-read = c .run-read sample sample-bytes fitNumbers (7 ∷ 8 ∷ []) .0 ∙ numbers-are (member ∷ transition ∷ []) fitNumbers (run-numbers .fit) ∙ two-fit p;
         unfit-read = c .run-read sample sample-bytes unfitNumbers (7 ∷ 8 ∷ []) .0 ∙ numbers-are (member ∷ offRule ∷ []) unfitNumbers (run-numbers .unfit) ∙ two-unfit p;
         slot-read = c .run-read sample sample-bytes fitNumbers (7 ∷ 8 ∷ []) .1 1 (c .numbers-faults sample .1 passes .3 2 (omega arith) (omega arith)) (omega arith)
@@ -106,6 +109,8 @@ module _ (p : Promises) where
         queries-run = λ l qs ys. c .numbers-run l qs ys .0;
         queries-codes = λ l qs ys e. c .numbers-run l qs ys .1 ∙ unless-accepted (map (rowCode l) qs) ys e;
         four-numbers = λ s d k a. c .numbers-whole (s ∷ d ∷ k ∷ a ∷ []) 1 refl;
+        four-more = λ s d k a ns m e. c .numbers-whole (s ∷ d ∷ k ∷ a ∷ ns) (suc m) (omega (arith, e));
+        any-row = λ l ns ys i y a e k h. c .numbers-answered l ns ys i y (ap (λ n. numbersFault l n (length ys)) e ∙ c .numbers-faults l .1 a .3 (length ys) (omega (arith, h)) k) h;
         second-row = λ l x y z w s d k a u v e. c .numbers-answered l (x ∷ y ∷ z ∷ w ∷ s ∷ d ∷ k ∷ a ∷ []) (u ∷ v ∷ []) 1 0 (c .numbers-faults l .1 e .3 2 (omega arith) (omega arith)) (omega arith);
         image-numbers = λ l ns slots f e. c .numbers-refused l ns slots f .0 (c .numbers-faults l .0 f (length ns) slots e);
         numbers-3 = λ l ns slots e k. refused-16 l ns slots (c .numbers-faults l .1 e .0 (length ns) slots (omega (arith, k)));
@@ -115,6 +120,8 @@ module _ (p : Promises) where
         numbers-260 = λ l ns slots e k. refused-16 l ns slots (c .numbers-faults l .1 e .1 (length ns) slots (omega (arith, k)));
         numbers-256 = λ l ns f e k h. some-not-none
             (sym (c .numbers-refused l ns 64 f .1 h) ∙ (let z : length ns ≡ 4 * 64 = omega (arith, k) in ap (λ n. numbersFault l n 64) z ∙ c .numbers-faults l .1 e .3 64 (omega arith) (omega arith)));
+        numbers-other = λ l ns slots a h k z. refused-17 l ns slots a h k z;
+        left-any = λ l ns ys f. c .numbers-left l ns ys .1 f;
         left-5 = λ l ns y e k. c .numbers-left l ns (y ∷ []) .1 (refusal 17 0) (refused-17 l ns 1 e (omega (arith, k)) (omega (arith, k)) (λ z. absurd (omega (arith, z, k))));
         codes-many = λ l ns ys. c .numbers-left l ns ys .0;
         fit-code = c .parts-whole 1 0 0 (omega arith) (omega arith);

@@ -23,7 +23,7 @@ use Rattle.format.specs.Refusals.{refusal}
 use Rattle.format.specs.Format.{limitOf}
 use Rattle.format.specs.Policy.{Policy, recordsOf, imageOf, policyOf, placeOf}
 use Rattle.format.specs.Check.{check, Accepted, imageIn}
-use Rattle.format.specs.Answers.{refused, gives, outcome, extent}
+use Rattle.format.specs.Answers.{Outcome, refused, gives, outcome, extent}
 use Rattle.format.specs.Give.{giveFault, givenRecord}
 use Rattle.format.specs.Claims.{IsType, typeFields, WellFormed, givenFrom}
 use Rattle.format.specs.Sample.{sample, empty}
@@ -32,6 +32,7 @@ use Rattle.extension.specs.Add.{addFault, newNumber, bufferAfter}
 use Rattle.extension.specs.Claims.{addAll, allRecords}
 use Rattle.decision.specs.declared.Query.{Query}
 use Rattle.decision.specs.declared.Answer.{Answer}
+use Rattle.decision.specs.declared.Answer.the-variants as answers
 use Rattle.decision.specs.Sets.{anyOf, isIn, setOf, within}
 use Rattle.decision.specs.Reading.{Rule, Constraint, Request, requestOf, rulesOf}
 use Rattle.decision.specs.Decide.{covers, Decision, notPermitted, permitted, unknown, judge, decide, answer, answerOutcome}
@@ -40,7 +41,8 @@ use Rattle.decision.specs.Growth.{reordered, DecidedAbove}
 use Rattle.decision.specs.Cases.{g0, allow, companion, oneMember, withSpace, extended, cases}
 use Rattle.decision.specs.Tepla.{Dcs, compareDecisions, forget, evalPolicy}
 use Rattle.io.specs.Digits.{Fewest}
-use Rattle.runs.specs.Runs.{queriesFault, runOf, answersAfter}
+use Rattle.runs.specs.declared.Run.the-variants as runs
+use Rattle.runs.specs.Runs.{queriesFault, runOf, answersAfter, runOutcome}
 use Rattle.runs.specs.Numbers.{rowsOf, numbersOf, numbersRun, rowCode, codesAfter, runCode}
 use Rattle.runs.specs.Claims.{Permits}
 use Rattle.runs.specs.Cases.{member, group, transition, offRule, noSource, runCases, numberCases}
@@ -207,16 +209,21 @@ pub record OrderingMet : Type 0 where
   pub half-reordered : (l : List ℕ) → Bytes l → Accepted l → length (policyOf l .rules) ≤ 512 → Accepted (imageOf (reordered (policyOf l)))
 
 pub record RunningMet : Type 0 where
-  -- FitExactly: the last of any number of rows; 1 to 64 of them; and such a run is not refused
-  pub fit-last :
-      (l : List ℕ) (qs : List Query) (n slots : ℕ) (other : Query) → runOf l qs slots ≡ gives none → length qs ≡ suc n → Permits l (getD qs n other)
+  -- FitExactly: any of the rows; 1 to 64 of them; and such a run is not refused
+  pub fit-any :
+      (l : List ℕ) (qs : List Query) (i slots : ℕ) (other : Query) → runOf l qs slots ≡ gives none → i < length qs
+      → (r : ℕ) × (answer l (getD qs i other) ≡ gives (permitted r))
   pub all-fit :
       (l : List ℕ) (qs : List Query) (q : Query) → Accepted l → 1 ≤ length qs → length qs ≤ 64
       → ((i : ℕ) → i < length qs → Permits l (getD qs i q)) → runOf l qs (length qs) ≡ gives none
   pub fit-counts : (l : List ℕ) (qs : List Query) (slots : ℕ) → runOf l qs slots ≡ gives none → queriesFault l (length qs) slots ≡ none
   -- and on the sample
   pub three-fit : runOf sample (member ∷ group ∷ transition ∷ []) 3 ≡ gives none
-  -- UnfitFirst: row 0, whatever follows; row 1 of the sample's; the row that comes back, the one before it, and that it is one of them
+  -- UnfitFirst: any row, whatever follows; row 0; row 1 of the sample's; the row that comes back, those before it, and that it is one
+  -- of them
+  pub any-unfit :
+      (l : List ℕ) (qs : List Query) (n : ℕ) (q : Query) → Accepted l → length qs ≤ 64 → n < length qs
+      → ((i : ℕ) → i < n → Permits l (getD qs i q)) → (Permits l (getD qs n q) → ⊥) → runOf l qs (length qs) ≡ gives (some n)
   pub first-unfit :
       (l : List ℕ) (q : Query) (qs : List Query) → Accepted l → length qs ≤ 63 → (Permits l q → ⊥)
       → runOf l (q ∷ qs) (suc (length qs)) ≡ gives (some 0)
@@ -226,7 +233,7 @@ pub record RunningMet : Type 0 where
       (l : List ℕ) (qs : List Query) (slots n : ℕ) (other : Query) → runOf l qs slots ≡ gives (some n)
       → (queriesFault l (length qs) slots ≡ none) × (suc n ≤ length qs) × (Permits l (getD qs n other) → ⊥)
   pub unfit-before :
-      (l : List ℕ) (qs : List Query) (slots n : ℕ) (other : Query) → runOf l qs slots ≡ gives (some (suc n)) → Permits l (getD qs n other)
+      (l : List ℕ) (qs : List Query) (slots n i : ℕ) (other : Query) → runOf l qs slots ≡ gives (some n) → i < n → Permits l (getD qs i other)
   -- LastCounts: where it is the only row, and the 64th; of a fit run; and what it is answered
   pub only-unfit : (l : List ℕ) (q : Query) (y : Answer) → Accepted l → (Permits l q → ⊥) → runOf l (q ∷ []) 1 ≡ gives (some 0)
   pub last-unfit :
@@ -236,12 +243,16 @@ pub record RunningMet : Type 0 where
   pub last-said :
       (l : List ℕ) (qs : List Query) (q : Query) (ys : List Answer) (y : Answer) → Accepted l → length qs ≤ 63 → length ys ≡ suc (length qs)
       → answerOutcome (getD (answersAfter l (qs ++ (q ∷ [])) ys) (length qs) y) ≡ answer l q
-  -- RunRefused, RunFaults: an image that is refused; none, 65 rows, a slot too few, one too many; 64 rows; and nothing else
+  -- RunRefused, RunFaults: an image that is refused; none, 65 rows and more, a slot too few, one too many, any other; 64 rows; and nothing
+  -- else
   pub image-first : (l : List ℕ) (qs : List Query) (slots : ℕ) (f : Refusal) → check l ≡ some f → runOf l qs slots ≡ refused f
   pub no-row : (l : List ℕ) (slots : ℕ) → Accepted l → runOf l [] slots ≡ refused (refusal 16 0)
-  pub rows-65 : (l : List ℕ) (qs : List Query) (slots : ℕ) → Accepted l → length qs ≡ 65 → runOf l qs slots ≡ refused (refusal 16 0)
+  pub rows-65 : (l : List ℕ) (qs : List Query) (slots : ℕ) → Accepted l → 65 ≤ length qs → runOf l qs slots ≡ refused (refusal 16 0)
   pub slot-few : (l : List ℕ) (qs : List Query) → Accepted l → length qs ≡ 64 → runOf l qs 63 ≡ refused (refusal 17 0)
   pub slot-many : (l : List ℕ) (q : Query) → Accepted l → runOf l (q ∷ []) 2 ≡ refused (refusal 17 0)
+  pub slots-other :
+      (l : List ℕ) (qs : List Query) (slots : ℕ) → Accepted l → 1 ≤ length qs → length qs ≤ 64 → (slots ≡ length qs → ⊥)
+      → runOf l qs slots ≡ refused (refusal 17 0)
   pub rows-64 : (l : List ℕ) → Accepted l → queriesFault l 64 64 ≡ none
   pub refused-counts :
       (l : List ℕ) (qs : List Query) (slots : ℕ) (f : Refusal) → runOf l qs slots ≡ refused f → queriesFault l (length qs) slots ≡ some f
@@ -256,11 +267,18 @@ pub record RunningMet : Type 0 where
       (l : List ℕ) (qs : List Query) (ys : List Answer) (i : ℕ) (other : Query) (y : Answer)
       → queriesFault l (length qs) (length ys) ≡ none → i < length qs → Accepted l
       → getD (answersAfter l qs ys) i y ≡ getD (answersAfter l (getD qs i other ∷ []) (y ∷ [])) 0 y
-  -- SlotsLeft: on an image that is refused; of 65 rows; no slot is added or lost
+  -- SlotsLeft: whatever is refused: an image, 65 rows, a slot too many; no slot is added or lost
+  pub refused-left :
+      (l : List ℕ) (qs : List Query) (ys : List Answer) (f : Refusal) → runOf l qs (length ys) ≡ refused f → answersAfter l qs ys ≡ ys
+  pub slot-left : (l : List ℕ) (q : Query) (y y′ : Answer) → Accepted l → answersAfter l (q ∷ []) (y ∷ y′ ∷ []) ≡ y ∷ y′ ∷ []
   pub image-left : (l : List ℕ) (qs : List Query) (ys : List Answer) (f : Refusal) → check l ≡ some f → answersAfter l qs ys ≡ ys
   pub slots-65 : (qs : List Query) (ys : List Answer) → length qs ≡ 65 → answersAfter sample qs ys ≡ ys
   pub slots-many : (l : List ℕ) (qs : List Query) (ys : List Answer) → length (answersAfter l qs ys) ≡ length ys
-  -- OneRow: on an accepted image, and on one that is refused
+  -- OneRow: by each answer; on an accepted image, and on one that is refused
+  pub permitted-fit : (l : List ℕ) (q : Query) (r : ℕ) → answer l q ≡ gives (permitted r) → runOf l (q ∷ []) 1 ≡ gives none
+  pub not-permitted-unfit : (l : List ℕ) (q : Query) → Accepted l → answer l q ≡ gives notPermitted → runOf l (q ∷ []) 1 ≡ gives (some 0)
+  pub unknown-unfit : (l : List ℕ) (q : Query) (r c : ℕ) → Accepted l → answer l q ≡ gives (unknown r c) → runOf l (q ∷ []) 1 ≡ gives (some 0)
+  pub refused-row-unfit : (l : List ℕ) (q : Query) (f : Refusal) → Accepted l → answer l q ≡ refused f → runOf l (q ∷ []) 1 ≡ gives (some 0)
   pub one-said : (y : Answer) → map answerOutcome (answersAfter sample (offRule ∷ []) (y ∷ [])) ≡ gives notPermitted ∷ []
   pub one-fit : runOf sample (transition ∷ []) 1 ≡ gives none
   pub one-unfit : runOf sample (offRule ∷ []) 1 ≡ gives (some 0)
@@ -269,6 +287,15 @@ pub record RunningMet : Type 0 where
       → (runOf (take 79 sample) (q ∷ []) 1 ≡ refused (refusal 3 0)) × (answersAfter (take 79 sample) (q ∷ []) (y ∷ []) ≡ y ∷ [])
   -- AnswerSaid: a slot that says the answer is the answer's
   pub said-alike : (a b : Answer) → answerOutcome a ≡ answerOutcome b → a ≡ b
+  -- and what each `Answer` and each `Run` says
+  pub answers-say :
+      (answerOutcome answers.NotPermitted ≡ gives notPermitted)
+      × ((r : ℕ) → answerOutcome (answers.Permitted r) ≡ gives (permitted r))
+      × ((r c : ℕ) → answerOutcome (answers.UnKnown r c) ≡ gives (unknown r c))
+      × ((f : Refusal) → answerOutcome (answers.Refused f) ≡ refused f)
+  pub runs-say :
+      (runOutcome runs.Fit ≡ gives none) × ((n : ℕ) → runOutcome (runs.Unfit n) ≡ gives (some n))
+      × ((f : Refusal) → runOutcome (runs.Refused f) ≡ refused f)
   -- RunCases, NumberCases: all of them
   pub run-cases-all : (length runCases ≡ 25) × (length numberCases ≡ 15)
 
@@ -322,7 +349,11 @@ pub record CallingMet : Type 0 where
   -- AddRead: the companion's number; no room
   pub companion-read : hostAdded (addCode (withSpace sample companion) companion) ≡ gives 2
   pub no-room-read : hostAdded (addCode sample companion) ≡ refused (refusal 13 0)
-  -- RunWhole: a row that a run names; RunRead: one that is fit, one that is not, and a slot
+  -- RunWhole: a row that a run names, and a refusal; RunRead: whatever a run comes to; one that is fit, one that is not, and a slot
+  pub run-refusal-fits :
+      (l : List ℕ) → Bytes l → (ns : List ℕ) (slots : ℕ) (f : Refusal) → numbersRun l ns slots ≡ refused f → (f .number ≤ 65535) × (f .place ≤ 65535)
+  pub any-run-read :
+      (l : List ℕ) → Bytes l → (ns ys : List ℕ) (o : Outcome (Option ℕ)) → numbersRun l ns (length ys) ≡ o → hostRun (runCode o) ≡ o
   pub row-fits : (l : List ℕ) → Bytes l → (ns : List ℕ) (slots n : ℕ) → numbersRun l ns slots ≡ gives (some n) → n ≤ 63
   pub fit-read : hostRun (runCode (numbersRun sample (10 ∷ 21 ∷ 5 ∷ 1 ∷ 12 ∷ 20 ∷ 9 ∷ 9 ∷ []) 2)) ≡ gives none
   pub unfit-read : hostRun (runCode (numbersRun sample (10 ∷ 21 ∷ 5 ∷ 1 ∷ 13 ∷ 21 ∷ 5 ∷ 1 ∷ []) 2)) ≡ gives (some 1)
@@ -333,18 +364,29 @@ pub record CallingMet : Type 0 where
       (l : List ℕ) (qs : List Query) (ys : List ℕ) → queriesFault l (length qs) (length ys) ≡ none
       → codesAfter l (numbersOf qs) ys ≡ map (rowCode l) qs
   pub four-numbers : (s d c a : ℕ) → numbersOf (rowsOf (s ∷ d ∷ c ∷ a ∷ [])) ≡ s ∷ d ∷ c ∷ a ∷ []
-  -- NumbersAnswered: the second row's four numbers
+  pub four-more :
+      (s d c a : ℕ) (ns : List ℕ) (m : ℕ) → length ns ≡ 4 * m → numbersOf (rowsOf (s ∷ d ∷ c ∷ a ∷ ns)) ≡ s ∷ d ∷ c ∷ a ∷ ns
+  -- NumbersAnswered: any row's four numbers, and the second's
+  pub any-row :
+      (l ns ys : List ℕ) (i y : ℕ) → Accepted l → length ns ≡ 4 * length ys → length ys ≤ 64 → i < length ys
+      → getD (codesAfter l ns ys) i y
+      ≡ decisionCode (answer l (query (getD ns (4 * i) 0) (getD ns (4 * i + 1) 0) (getD ns (4 * i + 2) 0) (getD ns (4 * i + 3) 0)))
   pub second-row :
       (l : List ℕ) (x y z w s d c a u v : ℕ) → Accepted l
       → getD (codesAfter l (x ∷ y ∷ z ∷ w ∷ s ∷ d ∷ c ∷ a ∷ []) (u ∷ v ∷ [])) 1 0 ≡ decisionCode (answer l (query s d c a))
-  -- NumbersRefused, NumbersFaults, NumbersLeft: 3, 5, 259 and 260 numbers, a slot too many; 256; a refused image; the slots after them
+  -- NumbersRefused, NumbersFaults, NumbersLeft: up to 3, 5, 259, 260 and more numbers, a slot too many, any other; 256; a refused image;
+  -- the slots after them
   pub image-numbers : (l ns : List ℕ) (slots : ℕ) (f : Refusal) → check l ≡ some f → numbersRun l ns slots ≡ refused f
-  pub numbers-3 : (l ns : List ℕ) (slots : ℕ) → Accepted l → length ns ≡ 3 → numbersRun l ns slots ≡ refused (refusal 16 0)
+  pub numbers-3 : (l ns : List ℕ) (slots : ℕ) → Accepted l → length ns ≤ 3 → numbersRun l ns slots ≡ refused (refusal 16 0)
   pub numbers-5 : (l ns : List ℕ) → Accepted l → length ns ≡ 5 → numbersRun l ns 1 ≡ refused (refusal 17 0)
   pub numbers-4 : (l ns : List ℕ) → Accepted l → length ns ≡ 4 → numbersRun l ns 2 ≡ refused (refusal 17 0)
   pub numbers-259 : (l ns : List ℕ) → Accepted l → length ns ≡ 259 → numbersRun l ns 64 ≡ refused (refusal 17 0)
-  pub numbers-260 : (l ns : List ℕ) (slots : ℕ) → Accepted l → length ns ≡ 260 → numbersRun l ns slots ≡ refused (refusal 16 0)
+  pub numbers-260 : (l ns : List ℕ) (slots : ℕ) → Accepted l → 260 ≤ length ns → numbersRun l ns slots ≡ refused (refusal 16 0)
   pub numbers-256 : (l ns : List ℕ) (f : Refusal) → Accepted l → length ns ≡ 256 → numbersRun l ns 64 ≡ refused f → ⊥
+  pub numbers-other :
+      (l ns : List ℕ) (slots : ℕ) → Accepted l → 4 ≤ length ns → length ns ≤ 259 → (length ns ≡ 4 * slots → ⊥)
+      → numbersRun l ns slots ≡ refused (refusal 17 0)
+  pub left-any : (l ns ys : List ℕ) (f : Refusal) → numbersRun l ns (length ys) ≡ refused f → codesAfter l ns ys ≡ ys
   pub left-5 : (l ns : List ℕ) (y : ℕ) → Accepted l → length ns ≡ 5 → codesAfter l ns (y ∷ []) ≡ y ∷ []
   pub codes-many : (l ns ys : List ℕ) → length (codesAfter l ns ys) ≡ length ys
   -- the numbers that include/mungaite.h gives: MUNGAITE_FIT, and row 0, which is 0
