@@ -64,11 +64,11 @@ uint64_t mungaite_decide(uint16_t source, uint16_t destination, uint16_t class_,
                          const uint8_t *image, size_t length);
 
 /* Checks the image once and decides 1 to 64 rows on it. A row is four numbers: source, destination, class, action;
- * `numbers` counts all of them. Slot k of the answers, of which there are `rows`, gets what mungaite_decide gives for row
- * k, a refusal (8 or 9) included, and all rows are answered. The answer is MUNGAITE_FIT where every row is Permitted, else
- * the number of the first row that is NotPermitted, UnKnown or refused, counted from 0. The call itself is refused where
- * the image is (1 to 7), then where there is no whole row or more than 64 (16), then where `numbers` is not 4 times `rows`
- * (17); no slot is written then. */
+ * `numbers` counts all of them, and `rows` the slots of the answers. Slot k gets what mungaite_decide gives for row k, a
+ * refusal (8 or 9) included, and all rows are answered. The answer is MUNGAITE_FIT where every row is Permitted, else the
+ * number of the first row that is NotPermitted, UnKnown or refused, counted from 0. The call itself is refused where the
+ * image is (1 to 7), then where there is no whole row or more than 64 (16), then where `numbers` is not 4 times `rows`
+ * (17); no slot is written then, so each holds what it held before. */
 uint64_t mungaite_run(const uint16_t *queries, size_t numbers, uint64_t *answers, size_t rows, const uint8_t *image,
                       size_t length);
 

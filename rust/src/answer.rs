@@ -4,6 +4,7 @@ use crate::{Refusal, Run};
 use std::{fmt, ops::Range};
 
 /// What a policy says to a query.
+#[must_use]
 #[derive(Clone, Copy, Debug, PartialEq, Eq, Hash)]
 pub enum Decision {
     /// No rule covers the query.

@@ -7,6 +7,7 @@ use std::fmt;
 pub const MOST_ROWS: usize = 64;
 
 /// What a run says of its rows as a whole.
+#[must_use]
 #[derive(Clone, Copy, Debug, PartialEq, Eq, Hash)]
 pub enum Run {
     /// Every row is Permitted.

@@ -1,6 +1,6 @@
 //! Many queries at once, with the causes 16 and 17: request [1] of document 02.
 
-use super::policy::Set;
+use super::policy::{Request, Set};
 use super::{refusal, Model, Slip};
 use crate::subject::{Answer, Subject};
 use mungaite::{Decision, Query, Refusal, Run};
@@ -18,7 +18,8 @@ impl Model {
             return Err(refused);
         }
         let answered: Vec<Answer> = match self.slip {
-            Some(Slip::SourceKept) => self.with_source_kept(image, queries),
+            Some(Slip::SourceKept) => self.with_types_kept(image, queries, |request| &mut request.source),
+            Some(Slip::DestinationKept) => self.with_types_kept(image, queries, |request| &mut request.destination),
             Some(Slip::FailureKept) => self.with_failure_kept(image, queries),
             _ => queries.iter().map(|&query| self.decide(image, query)).collect(),
         };
@@ -38,13 +39,13 @@ impl Model {
         })
     }
 
-    fn with_source_kept(self, image: &[u8], queries: &[Query]) -> Vec<Answer> {
+    fn with_types_kept(self, image: &[u8], queries: &[Query], side: fn(&mut Request) -> &mut Set) -> Vec<Answer> {
         let mut kept = Set::new();
         let answer = |&query: &Query| {
             let policy = self.accepted(image, query)?;
             let mut request = policy.request(query);
-            kept.append(&mut request.source);
-            request.source = kept.clone();
+            kept.append(side(&mut request));
+            *side(&mut request) = kept.clone();
             Ok(self.judge(&policy, &request))
         };
         queries.iter().map(answer).collect()

@@ -190,6 +190,7 @@ slips! {
     UnKnownRowFits => "an UnKnown row counts as Permitted",
     RefusedRowRefuses => "a refused row refuses the call",
     SourceKept => "a row's source has the basic types of the rows before it too",
+    DestinationKept => "a row's destination has the basic types of the rows before it too",
     FailureKept => "a constraint that fails for a row fails for later rows of that class and action",
     RowLimitReached => "64 rows are refused",
     RowLimitPassed => "65 rows pass",

@@ -6,7 +6,7 @@ use crate::model::{Model, Slip};
 use crate::runner::{run_case, Cases, Finding, Run, Whole, PANIC};
 
 /// Mistakes that the tests of the engine's answers alone must notice, with the mistaken model in the engine's place.
-const PROPERTIES: [(Cases, Slip); 13] = [
+const PROPERTIES: [(Cases, Slip); 14] = [
     (order::PAIRS, Slip::LastRuleSkipped),
     (order::PAIRS, Slip::CoverByTouch),
     (order::PAIRS, Slip::SeparationOfTwoRules),
@@ -15,6 +15,7 @@ const PROPERTIES: [(Cases, Slip); 13] = [
     (rows::AMONG_OTHERS, Slip::StopsAtUnfitRow),
     (rows::AMONG_OTHERS, Slip::RowsFromOne),
     (rows::AMONG_OTHERS, Slip::SourceKept),
+    (rows::AMONG_OTHERS, Slip::DestinationKept),
     (rows::AMONG_OTHERS, Slip::FailureKept),
     (round_trip::MIXED, Slip::AddedAtImageEnd),
     (round_trip::RANDOM, Slip::RestCleared),
