@@ -36,19 +36,20 @@ impl<'a, S: Sets> Against<'a, S> {
 
     #[inline]
     pub fn touched_by(&mut self, field: u16) -> bool {
-        let Against { sets, set, memo } = self;
-        match group_of(field) {
-            None => set.has(field),
-            Some(group) => memo.ask(group, || sets.group_touches(group, set)),
-        }
+        self.ask(field, S::group_touches)
     }
 
     #[inline]
     pub fn holds(&mut self, field: u16) -> bool {
+        self.ask(field, S::group_within)
+    }
+
+    #[inline]
+    fn ask(&mut self, field: u16, of_group: impl Fn(&S, usize, &Set) -> bool) -> bool {
         let Against { sets, set, memo } = self;
         match group_of(field) {
             None => set.has(field),
-            Some(group) => memo.ask(group, || sets.group_within(group, set)),
+            Some(group) => memo.ask(group, || of_group(sets, group, set)),
         }
     }
 }

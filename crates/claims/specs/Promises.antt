@@ -3,8 +3,8 @@
 --
 -- What is not here: that the code answers what the definitions say. That is each function's contract, above its body in src/:
 -- `check`, `record`, `add`, `decide`, `run` and those for C each give, for every input, the answer and the bytes that a definition
--- gives (`check`, `givenRecord`, `bufferAfter`, `answer`, `runOf`, `answersAfter`, `decisionCode`, ..). docs/CLAIMS.md leads from each sentence of the documents to its
--- claim or its contract.
+-- gives (`check`, `givenRecord`, `bufferAfter`, `answer`, `runOf`, `answersAfter`, `decisionCode`, ..). docs/CLAIMS.md leads from each
+-- sentence of the documents to its claim or its contract.
 use Rattle.format.specs.Claims.{AcceptedIsWellFormed, WellFormedIsAccepted, RecordsGiven, AllGiven, NoneGiven, EmptyTells, ReferencesHeld}
 use Rattle.format.specs.Longest.{LongestImage, LongestReached}
 use Rattle.format.specs.Sample.{SampleAccepted}
