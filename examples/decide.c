@@ -1,5 +1,6 @@
 /*
- * A host in C: decides the sample sheet's queries, one by one and as a run, adds one rule and asks again.
+ * A host in C: decides the sample sheet's queries, one by one and as a run, says what stopped a denied one, adds one
+ * rule and asks again.
  *
  *   cc -std=c99 -Wall -Wextra -Werror -pedantic -I include examples/decide.c libmungaite.a -o decide
  */
@@ -23,6 +24,8 @@ static const uint8_t sample[] = {
     0x0B, 0x04, 0x00, 0x05, 0x00, 0x02, 0x00, 0x14, 0x00, 0x1E, 0x01              /* separation of 20, 30 */
 };
 
+static const uint8_t empty[MUNGAITE_EMPTY] = {0x01, 0x00, 0x09};
+
 /* Allow 10 to 30, class 5, action 3, on. */
 static const uint8_t rule[] = {0x0B, 0x02, 0x00, 0x0A, 0x00, 0x1E, 0x00, 0x05, 0x00, 0x03, 0x01};
 
@@ -35,6 +38,14 @@ static const uint16_t rows[] = {
 };
 
 #define ROW 4
+
+static const char *const step_names[] = {
+    [MUNGAITE_STEP_CONDITION] = "condition",
+    [MUNGAITE_STEP_SOURCE] = "source",
+    [MUNGAITE_STEP_DESTINATION] = "destination",
+    [MUNGAITE_STEP_CLASS] = "class",
+    [MUNGAITE_STEP_ACTION] = "action"
+};
 
 static void print_type(uint16_t type)
 {
@@ -52,7 +63,11 @@ static void print_decision(uint64_t answer)
 
     switch (MUNGAITE_KIND(answer)) {
     case MUNGAITE_NOT_PERMITTED:
-        printf("NotPermitted\n");
+        if (answer == MUNGAITE_NO_RULES) {
+            printf("NotPermitted, no rules\n");
+        } else {
+            printf("NotPermitted, nearest rule %u, which stops at the %s\n", fourth, step_names[third]);
+        }
         break;
     case MUNGAITE_PERMITTED:
         printf("Permitted, rule %u\n", fourth);
@@ -99,8 +114,8 @@ static void run(size_t count, const uint8_t *image, size_t length)
 int main(void)
 {
     static const struct query queries[] = {
-        {10, 21, 5, 1}, {10, MUNGAITE_GROUP(0), 5, 1}, {13, 21, 5, 1},   {12, 20, 9, 9},
-        {20, 30, 5, 2}, {1024, 21, 5, 1},              {32769, 21, 5, 1}, {1023, 21, 5, 1}};
+        {10, 21, 5, 1}, {10, MUNGAITE_GROUP(0), 5, 1}, {13, 21, 5, 1},    {12, 20, 9, 9}, {20, 30, 5, 2},
+        {10, 21, 5, 2}, {1024, 21, 5, 1},              {32769, 21, 5, 1}, {1023, 21, 5, 1}};
     static uint8_t buffer[256];
     uint64_t answer;
     size_t length, i;
@@ -108,6 +123,8 @@ int main(void)
     for (i = 0; i < sizeof queries / sizeof queries[0]; i++) {
         ask(queries[i], sample, sizeof sample);
     }
+    printf("without rules: ");
+    ask(queries[0], empty, sizeof empty);
     run(3, sample, sizeof sample);
 
     memcpy(buffer, sample, sizeof sample);

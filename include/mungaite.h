@@ -3,16 +3,20 @@
  *
  * Each function answers with a 64-bit number of four 16-bit parts, the highest first:
  *
- *   0, 0, 0, 0                 NotPermitted; from mungaite_check: accepted
+ *   0, 0, steps, rule          NotPermitted, and the rule that came nearest with the steps that it passed, 0 to 4
+ *   0, 0, 0, 65535             NotPermitted by a policy without rules
  *   0, 1, 0, rule              Permitted
  *   0, 3, rule, constraint     UnKnown
  *   0, 2, number, place        a refusal
+ *   0, 0, 0, 0                 from mungaite_check: accepted
  *   0, 1, place, length        from mungaite_record: where the record stands
  *   0, 1, 0, number            from mungaite_add: the new record's number
  *   0, 1, 0, 0                 from mungaite_run: fit, every row is Permitted
  *   0, 0, 0, row               from mungaite_run: not fit, and the first row that is not Permitted
  *
- * So 0 is no success of mungaite_run: it says that row 0 is not Permitted. Compare its answer with MUNGAITE_FIT.
+ * So 0 is a success of mungaite_check alone. From mungaite_decide it is NotPermitted, with no step and rule 0, and from
+ * mungaite_run it says that row 0 is not Permitted. NotPermitted is many numbers: look at a decision's MUNGAITE_KIND,
+ * and compare a run's answer with MUNGAITE_FIT.
  *
  * A pointer must be valid for the bytes, numbers or slots whose count is given with it. mungaite_add writes to its
  * buffer and mungaite_run to its answers; what they write must not overlap anything else that is lent, and nothing else
@@ -40,6 +44,19 @@ extern "C" {
 #define MUNGAITE_THIRD(answer) ((uint16_t)(((answer) >> 16) & 0xFFFFu))
 #define MUNGAITE_FOURTH(answer) ((uint16_t)((answer) & 0xFFFFu))
 
+/* A rule is put to a query in these steps, in this order; each one's value is how many come before it. So the third
+ * part of NotPermitted, the steps that passed before the first that failed, is the step that failed. The rule named is
+ * the lowest of those that pass the most. A rule that is off passes no step. A transition always passes the first and
+ * has no class and no action step, so it stops at its source or its destination. */
+#define MUNGAITE_STEP_CONDITION 0   /* the rule is on */
+#define MUNGAITE_STEP_SOURCE 1      /* the query's source is within the rule's */
+#define MUNGAITE_STEP_DESTINATION 2 /* the query's destination is within the rule's */
+#define MUNGAITE_STEP_CLASS 3       /* the query's class is the rule's */
+#define MUNGAITE_STEP_ACTION 4      /* the query's action is the rule's; here it is all that is amiss */
+
+/* The whole answer NotPermitted of a policy without rules. Where there are rules and all are off, the answer is 0. */
+#define MUNGAITE_NO_RULES ((uint64_t)0xFFFFu)
+
 /* The whole answer of mungaite_run where every row is Permitted, and the most rows that it takes. */
 #define MUNGAITE_FIT ((uint64_t)MUNGAITE_PERMITTED << 32)
 #define MUNGAITE_MOST_ROWS 64
@@ -59,16 +76,17 @@ extern "C" {
 /* Checks an image: 0 where it is accepted, else the refusal (1 to 7). */
 uint64_t mungaite_check(const uint8_t *image, size_t length);
 
-/* Checks the image and decides a query on it: the decision, or the refusal (1 to 9). */
+/* Checks the image and decides a query on it: the decision, or the refusal (1 to 9). Where it is NotPermitted and not
+ * MUNGAITE_NO_RULES, mungaite_record finds the rule that came nearest. */
 uint64_t mungaite_decide(uint16_t source, uint16_t destination, uint16_t class_, uint16_t action,
                          const uint8_t *image, size_t length);
 
 /* Checks the image once and decides 1 to 64 rows on it. A row is four numbers: source, destination, class, action;
- * `numbers` counts all of them, and `rows` the slots of the answers. Slot k gets what mungaite_decide gives for row k, a
- * refusal (8 or 9) included, and all rows are answered. The answer is MUNGAITE_FIT where every row is Permitted, else the
- * number of the first row that is NotPermitted, UnKnown or refused, counted from 0. The call itself is refused where the
- * image is (1 to 7), then where there is no whole row or more than 64 (16), then where `numbers` is not 4 times `rows`
- * (17); no slot is written then, so each holds what it held before. */
+ * `numbers` counts all of them, and `rows` the slots of the answers. Slot k gets what mungaite_decide gives for row k,
+ * a refusal (8 or 9) included, and all rows are answered. The answer is MUNGAITE_FIT where every row is Permitted, else
+ * the number of the first row that is NotPermitted, UnKnown or refused, counted from 0. The call itself is refused
+ * where the image is (1 to 7), then where there is no whole row or more than 64 (16), then where `numbers` is not 4
+ * times `rows` (17); no slot is written then, so each holds what it held before. */
 uint64_t mungaite_run(const uint16_t *queries, size_t numbers, uint64_t *answers, size_t rows, const uint8_t *image,
                       size_t length);
 

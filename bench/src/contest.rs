@@ -3,7 +3,7 @@
 use crate::measure::{least, Effort};
 use crate::ours;
 use hand_written::{check, decide, decide_checked, Prepared};
-use mungaite::Query;
+use mungaite::{Kind, Query};
 use std::hint::black_box;
 use std::process::exit;
 
@@ -22,6 +22,12 @@ pub struct Figures {
 }
 
 impl Case {
+    /// The queries that get one decision.
+    pub fn only(mut self, kind: Kind) -> Case {
+        self.queries.retain(|query| decide(&self.image, *query).is_ok_and(|decision| decision.kind() == kind));
+        self
+    }
+
     /// Compares the answers to every query, then times; a decision's figure is the mean over the queries.
     pub fn run(&self, effort: Effort) -> [Figures; 3] {
         self.compare();

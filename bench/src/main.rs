@@ -9,8 +9,8 @@ mod rows;
 mod table;
 
 use cases::constraints::{bans, companions, rosters, separations};
-use cases::search::search;
-use cases::sizes::{limit, middle, sample};
+use cases::search::{self, search};
+use cases::sizes::{self, limit, middle, sample};
 use measure::Effort;
 use program::Program;
 use std::env;
@@ -45,6 +45,13 @@ fn main() {
         &[32, 64, 128, 256].map(|groups| search(format!("{groups} groups"), groups, 1024, false)),
         effort,
     );
+    table::print_decisions(
+        "Denied queries, each with its nearest rule: decide; a ratio of 1.0 or less is wanted",
+        sizes::denied().iter().chain(&search::denied()),
+        effort,
+    );
+    table::print_decisions("Permitted queries: decide", &sizes::permitted(), effort);
+    table::print_decisions("UnKnown queries: decide", &sizes::unknown(), effort);
     rows::print(&sizes, effort);
     rows::print_held(&held, effort);
     match Program::find() {

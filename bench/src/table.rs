@@ -20,15 +20,28 @@ pub fn print<'a>(title: &str, cases: impl IntoIterator<Item = &'a Case>, effort:
     }
 }
 
+/// Runs the cases and prints one line for each, of the work "decide".
+pub fn print_decisions<'a>(title: &str, cases: impl IntoIterator<Item = &'a Case>, effort: Effort) {
+    println!("\n{title}\n");
+    println!("{:FIRST$} {:>12} {:>12} {:>6} {:>12}", "policy and queries", "ours", "hand-written", "ratio", "prepared");
+    for case in cases {
+        let [_, _, decide] = case.run(effort);
+        println!("{:FIRST$} {}", case.name, columns(&decide));
+    }
+}
+
 fn print_line(name: &str, figures: &Figures) {
-    println!(
-        "{name:FIRST$} {:14} {:>12} {:>12} {:>6.2} {:>12}",
-        figures.work,
+    println!("{name:FIRST$} {:14} {}", figures.work, columns(figures));
+}
+
+fn columns(figures: &Figures) -> String {
+    format!(
+        "{:>12} {:>12} {:>6.2} {:>12}",
         nanoseconds(figures.ours),
         nanoseconds(figures.hand_written),
         figures.ours / figures.hand_written,
         figures.prepared.map_or(String::new(), nanoseconds)
-    );
+    )
 }
 
 /// Three figures or more, in groups of three.

@@ -1,4 +1,5 @@
-//! Decides some queries on a small policy, one by one and as a run, adds a rule and asks again.
+//! Decides some queries on a small policy, one by one and as a run, looks up the rule nearest to a denied one, adds a
+//! rule and asks again.
 
 use mungaite::{add, decide, group, image, record, run, Decision, Query, Refusal, Section};
 
@@ -25,6 +26,7 @@ fn main() -> Result<(), Refusal> {
     println!("10 to group 0: {}", decide(&SAMPLE, query(10, group(0), 5, 1))?);
     println!("13 to 21: {}", decide(&SAMPLE, query(13, 21, 5, 1))?);
     println!("20 to 30: {}", decide(&SAMPLE, query(20, 30, 5, 2))?);
+    print_denied(&SAMPLE, query(10, 21, 5, 2))?;
     if let Err(refusal) = decide(&SAMPLE, query(1024, 21, 5, 1)) {
         println!("1024 to 21: {refusal}");
     }
@@ -41,9 +43,19 @@ fn main() -> Result<(), Refusal> {
     print_run(grown, rows)
 }
 
+/// Asks a query and, where it is denied, gives the one rule to look at first.
+fn print_denied(image: &[u8], query: Query) -> Result<(), Refusal> {
+    let decision = decide(image, query)?;
+    println!("{} to {}, action {}: {decision}", query.source, query.destination, query.action);
+    if let Decision::NotPermitted { nearest: Some(nearest) } = decision {
+        println!("rule {} is {:?}", nearest.rule, record(image, Section::Rules, nearest.rule)?);
+    }
+    Ok(())
+}
+
 /// Asks the rows at once: what the run says, then each row's own answer.
 fn print_run<const ROWS: usize>(image: &[u8], rows: [Query; ROWS]) -> Result<(), Refusal> {
-    let mut answers = [Ok(Decision::NotPermitted); ROWS];
+    let mut answers = [Ok(Decision::NotPermitted { nearest: None }); ROWS];
     println!("{ROWS} rows: {}", run(image, &rows, &mut answers)?);
     for (row, answer) in answers.iter().enumerate() {
         match answer {

@@ -1,6 +1,6 @@
 //! Decisions, and the answers of the C functions read back.
 
-use crate::{Refusal, Run};
+use crate::{Nearest, Refusal, Run};
 use std::{fmt, ops::Range};
 
 /// What a policy says to a query.
@@ -8,7 +8,10 @@ use std::{fmt, ops::Range};
 #[derive(Clone, Copy, Debug, PartialEq, Eq, Hash)]
 pub enum Decision {
     /// No rule covers the query.
-    NotPermitted,
+    NotPermitted {
+        /// The rule that came nearest to covering it; `None` where the policy has no rules at all.
+        nearest: Option<Nearest>,
+    },
     /// A rule covers the query and no constraint fails.
     Permitted {
         /// The lowest rule that covers the query.
@@ -23,7 +26,7 @@ pub enum Decision {
     },
 }
 
-/// A decision without its rule and constraint.
+/// A decision without the numbers that come with it.
 ///
 /// Kinds are ordered NotPermitted, Permitted, UnKnown. That is the order in which a policy that grows may move an
 /// answer: more rules and constraints never lower it, unless a companion constraint finds its companion. Decisions
@@ -49,7 +52,7 @@ impl Decision {
     /// Which of the three decisions it is.
     pub fn kind(self) -> Kind {
         match self {
-            Decision::NotPermitted => Kind::NotPermitted,
+            Decision::NotPermitted { .. } => Kind::NotPermitted,
             Decision::Permitted { .. } => Kind::Permitted,
             Decision::UnKnown { .. } => Kind::UnKnown,
         }
@@ -64,12 +67,16 @@ impl Decision {
 impl fmt::Display for Decision {
     fn fmt(&self, f: &mut fmt::Formatter<'_>) -> fmt::Result {
         match self {
-            Decision::NotPermitted => write!(f, "NotPermitted"),
+            Decision::NotPermitted { nearest: None } => write!(f, "NotPermitted, no rules"),
+            Decision::NotPermitted { nearest: Some(nearest) } => write!(f, "NotPermitted, nearest {nearest}"),
             Decision::Permitted { rule } => write!(f, "Permitted, rule {rule}"),
             Decision::UnKnown { rule, constraint } => write!(f, "UnKnown, rule {rule}, constraint {constraint}"),
         }
     }
 }
+
+/// The fourth part, where a rule's number stands otherwise, of a denial by a policy without rules.
+const NO_RULES: u16 = u16::MAX;
 
 /// The four parts of an answer, the highest first.
 fn parts(answer: u64) -> [u16; 4] {
@@ -91,7 +98,10 @@ pub(crate) fn checked(answer: u64) -> Result<(), Refusal> {
 
 pub(crate) fn decided(answer: u64) -> Result<Decision, Refusal> {
     match parts(answer) {
-        [0, 0, 0, 0] => Ok(Decision::NotPermitted),
+        [0, 0, 0, NO_RULES] => Ok(Decision::NotPermitted { nearest: None }),
+        [0, 0, steps @ 0..=4, rule] => {
+            Ok(Decision::NotPermitted { nearest: Some(Nearest { steps: steps as u8, rule }) })
+        }
         [0, 1, 0, rule] => Ok(Decision::Permitted { rule }),
         [0, 3, rule, constraint] => Ok(Decision::UnKnown { rule, constraint }),
         [0, 2, number, place] => Err(Refusal { number, place }),

@@ -2,8 +2,8 @@
 //!
 //! A policy is an image, a slice of bytes: groups of types, rules, constraints. [`check`] tells whether an image is
 //! accepted, [`decide`] answers a query, [`run`] answers up to 64 with one check of the image, [`record`] gives one of
-//! the image's records and [`add`] puts one more into a buffer. Nothing is kept between calls and there is no heap: every
-//! call reads the image that it is handed.
+//! the image's records and [`add`] puts one more into a buffer. Nothing is kept between calls and there is no heap:
+//! every call reads the image that it is handed.
 //!
 //! ```
 //! use mungaite::{add, decide, Decision, Query};
@@ -24,12 +24,14 @@
 #![warn(missing_docs)]
 
 mod answer;
+mod nearest;
 mod query;
 pub mod raw;
 mod refusal;
 mod run;
 
 pub use answer::{Decision, Kind};
+pub use nearest::{Nearest, Step};
 pub use query::{group, Query, Section};
 pub use refusal::{Cause, Refusal};
 pub use run::{run, Run, MOST_ROWS};
@@ -57,7 +59,7 @@ pub fn check(image: &[u8]) -> Result<(), Refusal> {
 /// use mungaite::{decide, Decision, Query, EMPTY};
 ///
 /// let query = Query { source: 0, destination: 0, class: 0, action: 0 };
-/// assert_eq!(decide(&EMPTY, query), Ok(Decision::NotPermitted));
+/// assert_eq!(decide(&EMPTY, query), Ok(Decision::NotPermitted { nearest: None }));
 /// assert_eq!(decide(&EMPTY, Query { source: 1024, ..query }).unwrap_err().number, 8);
 /// ```
 pub fn decide(image: &[u8], query: Query) -> Result<Decision, Refusal> {

@@ -1,14 +1,14 @@
 //! The library's C functions, as `mungaite.h` declares them.
 //!
 //! An answer is four 16-bit parts, the highest first. Every pointer must be valid for the count given with it, and what
-//! is written, the buffer of [`mungaite_add`] and the answers of [`mungaite_run`], must not overlap anything else that is
-//! lent.
+//! is written, the buffer of [`mungaite_add`] and the answers of [`mungaite_run`], must not overlap anything else that
+//! is lent.
 
 extern "C" {
     /// 0 where the image is accepted, else the refusal.
     pub fn mungaite_check(image: *const u8, length: usize) -> u64;
 
-    /// The decision, or the refusal.
+    /// The decision, or the refusal. Here 0 is NotPermitted, with no step and rule 0.
     pub fn mungaite_decide(
         source: u16,
         destination: u16,

@@ -40,20 +40,21 @@ const ROOM: usize = MOST_ROWS + 1;
 /// Decides 1 to 64 rows on an image, which is checked once, and says whether every row is Permitted.
 ///
 /// Each row's answer, a refused row's too, is what [`decide`](crate::decide) gives for it, and every row is answered. A
-/// refused call leaves `answers` as it was: the image's causes come first, then a wrong number of rows, then `answers` of
-/// another length than `queries`.
+/// refused call leaves `answers` as it was: the image's causes come first, then a wrong number of rows, then `answers`
+/// of another length than `queries`.
 ///
 /// ```
-/// use mungaite::{run, Decision, Query, Run};
+/// use mungaite::{run, Decision, Nearest, Query, Run};
 ///
 /// // Allow type 10 to type 21, class 5, action 1, on.
 /// let image = [1, 0, 20, 0, 0, 0, 1, 0, 0, 11, 2, 0, 10, 0, 21, 0, 5, 0, 1, 1];
 /// let covered = Query { source: 10, destination: 21, class: 5, action: 1 };
 /// let queries = [covered, Query { source: 11, ..covered }, Query { source: 1024, ..covered }];
 ///
-/// let mut answers = [Ok(Decision::NotPermitted); 3];
+/// let mut answers = [Ok(Decision::NotPermitted { nearest: None }); 3];
 /// assert_eq!(run(&image, &queries, &mut answers), Ok(Run::Unfit { row: 1 }));
-/// assert_eq!(answers[..2], [Ok(Decision::Permitted { rule: 0 }), Ok(Decision::NotPermitted)]);
+/// assert_eq!(answers[0], Ok(Decision::Permitted { rule: 0 }));
+/// assert_eq!(answers[1], Ok(Decision::NotPermitted { nearest: Some(Nearest { steps: 1, rule: 0 }) }));
 /// assert_eq!(answers[2].unwrap_err().number, 8);
 ///
 /// assert_eq!(run(&image, &[], &mut answers).unwrap_err().number, 16);

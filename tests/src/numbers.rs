@@ -2,7 +2,7 @@
 
 use crate::subject::Answer;
 use mungaite::raw::mungaite_run;
-use mungaite::{Decision, Query, Refusal, Run};
+use mungaite::{Decision, Nearest, Query, Refusal, Run};
 
 /// Slots on either side of a list of answers, which no call may touch.
 const GUARD: [u64; 4] = [0xA5A5_A5A5_A5A5_A5A5; 4];
@@ -27,7 +27,8 @@ pub fn of_rows(queries: &[Query]) -> Vec<u16> {
 
 pub fn of_answer(answer: Answer) -> u64 {
     match answer {
-        Ok(Decision::NotPermitted) => parts(0, 0, 0),
+        Ok(Decision::NotPermitted { nearest: Some(Nearest { steps, rule }) }) => parts(0, u16::from(steps), rule),
+        Ok(Decision::NotPermitted { nearest: None }) => parts(0, 0, 65535),
         Ok(Decision::Permitted { rule }) => parts(1, 0, rule),
         Ok(Decision::UnKnown { rule, constraint }) => parts(3, rule, constraint),
         Err(Refusal { number, place }) => parts(2, number, place),

@@ -23,8 +23,9 @@ pub const fn query(source: u16, destination: u16, class: u16, action: u16) -> Qu
     Query { source, destination, class, action }
 }
 
-/// The sample sheet's queries, and two that a query's own causes refuse.
-pub const QUERIES: [Query; 7] = [
+/// The sample sheet's queries, two that a query's own causes refuse, one that is denied for its action alone, and one
+/// that a transition stops at its destination.
+pub const QUERIES: [Query; 9] = [
     query(10, 21, 5, 1),
     query(10, G0, 5, 1),
     query(13, 21, 5, 1),
@@ -32,4 +33,6 @@ pub const QUERIES: [Query; 7] = [
     query(20, 30, 5, 2),
     query(1024, 21, 5, 1),
     query(10, 32769, 5, 1),
+    query(10, 21, 5, 2),
+    query(12, 21, 5, 1),
 ];

@@ -17,13 +17,11 @@ pub fn decide_checked(image: &[u8], query: Query) -> Result<Decision, Refusal> {
     Opened::new(image, &groups).decide(query)
 }
 
-/// From the rule that covers, if one does, and the constraint that then does not hold, if there is one.
+/// Where a rule covers: from that rule and the constraint that does not hold, if there is one.
 #[inline]
-pub fn decision(rule: Option<usize>, broken: impl FnOnce() -> Option<usize>) -> Decision {
-    let Some(rule) = rule.map(|rule| rule as u16) else {
-        return Decision::NotPermitted;
-    };
-    match broken() {
+pub fn covered(rule: usize, broken: Option<usize>) -> Decision {
+    let rule = rule as u16;
+    match broken {
         None => Decision::Permitted { rule },
         Some(constraint) => Decision::UnKnown { rule, constraint: constraint as u16 },
     }

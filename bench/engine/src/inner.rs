@@ -2,6 +2,7 @@
 
 use crate::format::group_of;
 use crate::groups::Groups;
+use crate::nearest::Inside;
 use crate::set::Set;
 use crate::sets::{Memo, Sets};
 
@@ -14,12 +15,22 @@ impl<'a> Inner<'a> {
     pub fn new(groups: &'a Groups<'a>, field: u16) -> Inner<'a> {
         Inner { marked: Marked::new(groups, field), memo: Memo::NEW }
     }
+}
 
+impl Inside for Inner<'_> {
     #[inline]
-    pub fn within(&mut self, outer: u16) -> bool {
+    fn within(&mut self, outer: u16) -> bool {
         match group_of(outer) {
             None => self.marked.is(outer),
             Some(group) => self.memo.ask(group, || self.marked.within_group(group)),
+        }
+    }
+
+    #[inline]
+    fn known_outside(&self, outer: u16) -> bool {
+        match group_of(outer) {
+            None => !self.marked.is(outer),
+            Some(group) => self.memo.says_no(group),
         }
     }
 }

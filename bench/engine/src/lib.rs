@@ -15,6 +15,7 @@ mod give;
 mod groups;
 mod inner;
 mod names;
+mod nearest;
 mod opened;
 mod predicate;
 mod prepared;

@@ -2,11 +2,12 @@
 //! groups' names and what each constraint's predicate says of the live rules.
 
 use crate::constraints::Constraints;
-use crate::decide::decision;
+use crate::decide::covered;
 use crate::format::check_query;
 use crate::groups::Groups;
 use crate::inner::Inner;
 use crate::names::Names;
+use crate::nearest::{nearest, Inside};
 use crate::predicate::{holds, Pair};
 use crate::rules::{key, live, Rules};
 use crate::sets::Memo;
@@ -37,18 +38,18 @@ impl<'a> Opened<'a> {
         let mut within = |outer: Pair| source.within(outer.0) && destination.within(outer.1);
         let mut after = rules.clone();
         let covering = after.position(|rule| rule.may_cover(key) && within(rule.types()));
-        Ok(decision(covering, || {
-            let mut constraints = Constraints { rest: after.skip() }.enumerate();
-            let broken = constraints.find(|(number, constraint)| {
-                constraint.key == key
-                    && within((constraint.first, constraint.second))
-                    && !held.ask(*number, || {
-                        holds(constraint, groups, live(rules.clone()), || {
-                            names.get_or_insert_with(|| Names::find(groups))
-                        })
-                    })
-            });
-            broken.map(|(number, _)| number)
-        }))
+        let Some(rule) = covering else {
+            let nearest = nearest(rules.clone(), key, &mut source, &mut destination);
+            return Ok(Decision::NotPermitted { nearest });
+        };
+        let mut constraints = Constraints { rest: after.skip() }.enumerate();
+        let broken = constraints.find(|(number, constraint)| {
+            constraint.key == key
+                && within((constraint.first, constraint.second))
+                && !held.ask(*number, || {
+                    holds(constraint, groups, live(rules.clone()), || names.get_or_insert_with(|| Names::find(groups)))
+                })
+        });
+        Ok(covered(rule, broken.map(|(number, _)| number)))
     }
 }

@@ -1,10 +1,11 @@
 //! A checked image unpacked once, for many decisions: groups as sets, rules and constraints decoded. It needs a heap.
 
 use crate::constraints::{Constraint, Constraints};
-use crate::decide::decision;
+use crate::decide::covered;
 use crate::format::{check_query, group_of};
 use crate::groups::Groups;
 use crate::names::Names;
+use crate::nearest::{nearest, Inside};
 use crate::predicate::{holds, Pair};
 use crate::rules::{key, live, Rule, Rules};
 use crate::run::{answer_rows, check_counts};
@@ -61,14 +62,17 @@ impl<'a> Prepared<'a> {
         let key = key(query.class, query.action);
         let types = (self.names.of(query.source), self.names.of(query.destination));
         let covers = |rule: &Rule| rule.may_cover(key) && self.within(types, rule.types());
-        Ok(decision(self.rules.iter().position(covers), || {
-            let broken = self.constraints.iter().enumerate().find(|&(number, constraint)| {
-                constraint.key == key
-                    && self.within(types, (constraint.first, constraint.second))
-                    && !holds(number, constraint)
-            });
-            broken.map(|(number, _)| number)
-        }))
+        let Some(rule) = self.rules.iter().position(covers) else {
+            let (mut source, mut destination) = (self.groups.inner(types.0), self.groups.inner(types.1));
+            let nearest = nearest(self.rules.iter().copied(), key, &mut source, &mut destination);
+            return Ok(Decision::NotPermitted { nearest });
+        };
+        let broken = self.constraints.iter().enumerate().find(|&(number, constraint)| {
+            constraint.key == key
+                && self.within(types, (constraint.first, constraint.second))
+                && !holds(number, constraint)
+        });
+        Ok(covered(rule, broken.map(|(number, _)| number)))
     }
 
     #[inline]
@@ -94,6 +98,10 @@ impl Expanded {
         Expanded((0..usize::from(groups.count)).map(set_of).collect())
     }
 
+    fn inner(&self, field: u16) -> Inner<'_> {
+        Inner { groups: self, field }
+    }
+
     /// Of types under their names.
     fn within(&self, inner: u16, outer: u16) -> bool {
         inner == outer
@@ -102,6 +110,22 @@ impl Expanded {
                 (None, Some(outer)) => self.0[outer].has(inner),
                 (Some(inner), Some(outer)) => self.0[inner].within(&self.0[outer]),
             }
+    }
+}
+
+/// A type of the query. A test of two sets is so short that none is kept.
+struct Inner<'a> {
+    groups: &'a Expanded,
+    field: u16,
+}
+
+impl Inside for Inner<'_> {
+    fn within(&mut self, outer: u16) -> bool {
+        self.groups.within(self.field, outer)
+    }
+
+    fn known_outside(&self, _: u16) -> bool {
+        false
     }
 }
 

@@ -3,7 +3,7 @@
 use crate::check::check_front;
 use crate::format::{number, refusal};
 use crate::prepared::Prepared;
-use mungaite::{Decision, Query, Refusal};
+use mungaite::{Decision, Nearest, Query, Refusal};
 use std::fmt::Write;
 
 /// The whole output for an input: an image, which is checked and unpacked once, and queries of eight bytes.
@@ -31,7 +31,8 @@ fn query(bytes: &[u8]) -> Query {
 
 fn put_line(output: &mut String, answer: Result<Decision, Refusal>) {
     let written = match answer {
-        Ok(Decision::NotPermitted) => writeln!(output, "N"),
+        Ok(Decision::NotPermitted { nearest: None }) => writeln!(output, "N -"),
+        Ok(Decision::NotPermitted { nearest: Some(Nearest { steps, rule }) }) => writeln!(output, "N {steps} {rule}"),
         Ok(Decision::Permitted { rule }) => writeln!(output, "P {rule}"),
         Ok(Decision::UnKnown { rule, constraint }) => writeln!(output, "U {rule} {constraint}"),
         Err(Refusal { number, place }) => writeln!(output, "R {number} {place}"),

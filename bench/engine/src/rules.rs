@@ -5,6 +5,7 @@ use crate::groups::Groups;
 use crate::names::Names;
 use crate::record::{ALLOW, TRANSITION};
 
+#[derive(Clone, Copy)]
 pub enum Rule {
     Allow { source: u16, destination: u16, key: u32, on: bool },
     Transition { source: u16, destination: u16 },
@@ -17,6 +18,17 @@ impl Rule {
         match *self {
             Rule::Allow { key, on, .. } => on && key == asked,
             Rule::Transition { .. } => true,
+        }
+    }
+
+    /// The most steps that it may pass if it does not cover the query, as far as can be told without sets.
+    #[inline]
+    pub fn most_steps(&self, asked: u32) -> u8 {
+        match *self {
+            Rule::Allow { on: false, .. } => 0,
+            Rule::Allow { key, .. } if class(key) != class(asked) => 3,
+            Rule::Allow { key, .. } if key != asked => 4,
+            Rule::Allow { .. } | Rule::Transition { .. } => 2,
         }
     }
 
@@ -42,6 +54,11 @@ impl Rule {
 #[inline]
 pub fn key(class: u16, action: u16) -> u32 {
     u32::from(class) << 16 | u32::from(action)
+}
+
+#[inline]
+fn class(key: u32) -> u32 {
+    key >> 16
 }
 
 /// The rules from a place on; when they end, `rest` starts with the constraints.

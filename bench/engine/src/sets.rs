@@ -63,6 +63,14 @@ pub struct Memo {
 impl Memo {
     pub const NEW: Memo = Memo { known: [0; 4], yes: [0; 4] };
 
+    /// Whether a no was found before.
+    #[inline]
+    pub fn says_no(&self, number: usize) -> bool {
+        let word = (number / 64) & 3;
+        let bit = 1 << (number % 64);
+        self.known[word] & !self.yes[word] & bit != 0
+    }
+
     #[inline]
     pub fn ask(&mut self, number: usize, find: impl FnOnce() -> bool) -> bool {
         let word = (number / 64) & 3;

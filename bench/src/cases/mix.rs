@@ -1,16 +1,9 @@
-//! A policy of any size with a fixed mix of queries: covered early, covered late and uncovered, of basic types and of
-//! groups, some of which constraints apply to.
+//! A policy of any size with queries that are made from some of its rules.
 
+use super::asked::{mixed, stopped, Asked, Kind, Pair, Types};
 use crate::contest::Case;
 use mungaite::Query;
 use mungaite_tests::draft::{allow, constraint, transition, Draft, BAN, COMPANION, ROSTER, SEPARATION};
-use mungaite_tests::sample::query;
-
-/// A source and a destination.
-type Pair = (u16, u16);
-
-/// A class and an action.
-type Kind = (u16, u16);
 
 pub struct Size {
     pub groups: u16,
@@ -29,18 +22,28 @@ const PREDICATES: [u8; 4] = [SEPARATION, ROSTER, COMPANION, BAN];
 
 impl Size {
     pub fn case(&self, name: &str) -> Case {
+        self.case_of(name, mixed)
+    }
+
+    /// The same policy and queries, and more that its rules stop at one step or another.
+    pub fn stopped(&self, name: &str) -> Case {
+        self.case_of(name, |rules, types| [mixed(rules, types), stopped(rules, types)].concat())
+    }
+
+    fn case_of(&self, name: &str, queries: fn(&[Asked], &Types) -> Vec<Query>) -> Case {
         let mut policy = Draft::default();
         let types = self.add_groups(&mut policy);
-        let rules: Vec<(Pair, Kind)> =
+        let rules: Vec<Asked> =
             (0..usize::from(self.rules)).map(|rule| (self.rule_types(rule, &types), kind_of(rule))).collect();
         let asked = self.asked_rules();
         add_rules(&mut policy, &rules, &types);
         self.add_constraints(&mut policy, &asked, &rules, &types);
-        Case { name: name.to_string(), image: policy.image(), queries: self.queries(&asked, &rules, &types) }
+        let queries = queries(&asked.map(|rule| rules[rule]), &types);
+        Case { name: name.to_string(), image: policy.image(), queries }
     }
 
     /// One of four is about a rule that queries are made from.
-    fn add_constraints(&self, policy: &mut Draft, asked: &[usize], rules: &[(Pair, Kind)], types: &Types) {
+    fn add_constraints(&self, policy: &mut Draft, asked: &[usize], rules: &[Asked], types: &Types) {
         for number in 0..usize::from(self.constraints) {
             let about = match number % 4 {
                 0 => asked[number / 4 % asked.len()],
@@ -97,26 +100,10 @@ impl Size {
         let middle = last / 2;
         [0, 1, 2, 3, middle, middle + 2, last - 2, last - 1, last]
     }
-
-    fn queries(&self, asked: &[usize], rules: &[(Pair, Kind)], types: &Types) -> Vec<Query> {
-        let mut queries = Vec::new();
-        for &rule in asked {
-            let (pair, kind) = rules[rule];
-            queries.push((pair, kind));
-            queries.push(((types.member(pair.0), types.member(pair.1)), kind));
-        }
-        for &rule in &asked[..3] {
-            let (pair, kind) = rules[rule];
-            queries.push(((pair.1, pair.0), kind));
-            queries.push((pair, (kind.0 + 100, kind.1)));
-        }
-        queries.push(((types.sources[2].1, types.destinations[9].0), (200, 200)));
-        queries.into_iter().map(|(types, kind)| query(types.0, types.1, kind.0, kind.1)).collect()
-    }
 }
 
 /// One of ten is off, one a transition; the last leads back from a destination to a source, for companions.
-fn add_rules(policy: &mut Draft, rules: &[(Pair, Kind)], types: &Types) {
+fn add_rules(policy: &mut Draft, rules: &[Asked], types: &Types) {
     for (number, &(pair, kind)) in rules.iter().enumerate() {
         let rule = |types: Pair, on: u8| allow(types.0, types.1, kind.0, kind.1, on);
         policy.rules.push(match number % 10 {
@@ -131,24 +118,4 @@ fn add_rules(policy: &mut Draft, rules: &[(Pair, Kind)], types: &Types) {
 /// 32 classes with actions, in turn.
 fn kind_of(rule: usize) -> Kind {
     ((rule % 8) as u16, (rule / 8 % 4) as u16)
-}
-
-/// The groups that were added, each with one of its members.
-#[derive(Default)]
-struct Types {
-    sources: Vec<(u16, u16)>,
-    destinations: Vec<(u16, u16)>,
-}
-
-impl Types {
-    /// A list that holds every source.
-    fn list(&self) -> Vec<u16> {
-        self.sources.iter().take(16).map(|group| group.0).collect()
-    }
-
-    /// A basic type of a type.
-    fn member(&self, field: u16) -> u16 {
-        let mut groups = self.sources.iter().chain(&self.destinations);
-        groups.find(|group| group.0 == field).map_or(field, |group| group.1)
-    }
 }

@@ -1,5 +1,6 @@
 //! The policies and queries that the tables are made of.
 
+mod asked;
 pub mod constraints;
 mod mix;
 pub mod search;

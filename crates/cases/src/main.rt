@@ -1,4 +1,4 @@
-// The sample sheet of document 01, run through the C interface, and records given as parts of an image, which C does not
+// The sample sheet of document 01, with request [2]'s steps, run through the C interface, and records given as parts of an image, which C does not
 // have: each line is a case and its answer. The file stdout beside src/ has what the document says.
 mod batch; // batch.rt: runs of queries on the sample
 mod images; // images.rt: images that are longer than a line
@@ -36,6 +36,9 @@ fn queries() {
     ask(b"source 1024", &SAMPLE, 1024, 21, 5, 1);
     ask(b"source 32769", &SAMPLE, 32769, 21, 5, 1);
     ask(b"source 1023", &SAMPLE, 1023, 21, 5, 1);
+    ask(b"10 21 5 2", &SAMPLE, 10, 21, 5, 2);
+    ask(b"20 30 6 2", &SAMPLE, 20, 30, 6, 2);
+    ask(b"12 30 5 1", &SAMPLE, 12, 30, 5, 1);
 }
 
 // The sample, with space for two records.

@@ -1,5 +1,5 @@
-// A case's line: its label and the answer. N, or that an image is accepted; P and the rule; U, the rule and the constraint;
-// R, the number and the place.
+// A case's line: its label and the answer. N, the steps and the rule, or N and a hyphen; P and the rule; U, the rule and the
+// constraint; R, the number and the place; or that an image is accepted.
 use format::Section;
 use libc::STDOUT_FILENO;
 use samples::SAMPLE;
@@ -16,13 +16,18 @@ pub(crate) fn ask(
     let image = image::leading(buffer);
     line(
         label,
-        b" N",
         mungaite::mungaite_decide(source, destination, class, action, image),
     );
 }
 
 pub(crate) fn check(label: &[u8], image: &[u8]) {
-    line(label, b" accepted", mungaite::mungaite_check(image));
+    let answer = mungaite::mungaite_check(image);
+    if answer == 0 {
+        io::write_all(STDOUT_FILENO, label);
+        io::write_all(STDOUT_FILENO, b": accepted\n");
+    } else {
+        line(label, answer);
+    }
 }
 
 // Whether record n of a section of the sample is given as these bytes, and none where there is no such record.
@@ -35,23 +40,23 @@ pub(crate) fn give(label: &[u8], section: Section, n: usize, bytes: &[u8]) {
     }
 }
 
-// An answer of the C interface; `zero` is what it means here where it is 0.
-fn line(label: &[u8], zero: &[u8], answer: u64) {
+// An answer of the C interface.
+fn line(label: &[u8], answer: u64) {
     io::write_all(STDOUT_FILENO, label);
     io::write_all(STDOUT_FILENO, b":");
+    if answer == 0xFFFF {
+        io::write_all(STDOUT_FILENO, b" N -\n");
+        return;
+    }
     match answer >> 32 {
-        0 => {
-            io::write_all(STDOUT_FILENO, zero);
-        }
+        0 => number(b" N", answer >> 16),
         1 => {
             io::write_all(STDOUT_FILENO, b" P");
         }
         2 => number(b" R", answer >> 16),
         _ => number(b" U", answer >> 16),
     }
-    if answer != 0 {
-        number(b"", answer);
-    }
+    number(b"", answer);
     io::write_all(STDOUT_FILENO, b"\n");
 }
 
@@ -74,7 +79,7 @@ pub(crate) fn comes(label: &[u8], answer: u64) {
 
 // What a run's slot holds.
 pub(crate) fn slot(answer: u64) {
-    line(b"- slot", b" N", answer);
+    line(b"- slot", answer);
 }
 
 // A letter, and the lowest 16 bits of a number.

@@ -9,7 +9,7 @@ use lib.ListN.{length, take}
 use Rattle.format.specs.declared.Section.the-variants.{Groups, Rules, Constraints}
 use Rattle.format.specs.Bytes.{Bytes}
 use Rattle.format.specs.Answers.{refused, outcome, extent}
-use Rattle.format.specs.Sample.{sample}
+use Rattle.format.specs.Sample.{sample, empty}
 use Rattle.format.proofs.Chain.{orElse-next, unless-accepted, some-not-none}
 use Rattle.format.specs.Check.{Accepted}
 use Rattle.format.specs.Refusals.{refusal}
@@ -26,7 +26,7 @@ use Rattle.runs.specs.Numbers.{numbersOf, numbersFault, numbersRun, rowCode, ru
 use Rattle.runs.specs.Cases.{member, transition, offRule}
 use Rattle.claims.specs.Promises.{Promises}
 use Rattle.claims.specs.Terms.{query, PrintingMet, CallingMet}
-use Rattle.claims.proofs.Cases.{companion-space, cut-bytes, row-answers, fitNumbers, unfitNumbers, run-numbers, inputs, unknown-line, empty-printed, short-printed, three-printed}
+use Rattle.claims.proofs.Cases.{companion-space, cut-bytes, row-answers, fitNumbers, unfitNumbers, run-numbers, inputs, no-rules-line, unknown-line, empty-printed, short-printed, three-printed}
 use Rattle.claims.proofs.ReadingTerms.{companion-after}
 use Rattle.claims.proofs.RunningTerms.{two-fit, two-unfit}
 
@@ -51,6 +51,7 @@ module _ (p : Promises) where
         header-first = inputs .header;
         lines-all = inputs .lines;
         runs-all = inputs .runs;
+        no-rules-line = no-rules-line (p .printing .worked-lines);
         unknown-line = unknown-line (p .printing .worked-lines);
         three-printed = three;
       }
@@ -79,16 +80,20 @@ module _ (p : Promises) where
       record {
         refusal-fits = λ l b f e. (let h = subst FaultFits e (c .check-whole l b) in (omega (arith, h .0), omega (arith, h .1)));
         rule-fits = λ l b q r e. (let h = subst (OutcomeFits DecisionFits) e (c .decide-whole l b q) in omega (arith, h));
+        near-fits = λ l b q s r e. (let h = subst (OutcomeFits DecisionFits) e (c .decide-whole l b q) in (omega (arith, h .0), omega (arith, h .1)));
         unknown-fits = λ l b q r k e. (let h = subst (OutcomeFits DecisionFits) e (c .decide-whole l b q) in (omega (arith, h .0), omega (arith, h .1)));
         record-fits = λ l b s n e. (let h = subst (λ f. OutcomeFits ExtentFits (outcome f (extent l s n))) e (c .record-whole l b .0 s n) in (omega (arith, h .0), omega (arith, h .1)));
         number-fits = λ b h r e. (let k = subst (λ f. OutcomeFits NumberFits (outcome f (newNumber b r))) e (c .add-whole b h r) in omega (arith, k));
-        not-permitted-code = refl;
+        near-code = λ s r h k. c .parts-whole 0 s r (omega arith) (omega arith) ∙ omega arith;
+        no-rules-code = c .parts-whole 0 0 65535 (omega arith) (omega arith);
         permitted-code = λ r h. c .parts-whole 1 0 r (omega arith) (omega arith) ∙ omega arith;
         unknown-code = λ r k h h′. c .parts-whole 3 r k (omega arith) (omega arith) ∙ omega arith;
         parts-back = c .parts-read 3 65535 65535 (omega arith) (omega arith) (omega arith);
         sample-read = c .check-read sample sample-bytes ∙ passes;
         cut-read = c .check-read (take 79 sample) cut-bytes ∙ p .reading .refusal-cases .cut;
         member-read = c .decide-read sample sample-bytes (query 10 21 5 1) ∙ answers .member;
+        off-read = c .decide-read sample sample-bytes (query 13 21 5 1) ∙ answers .off;
+        no-rules-read = c .decide-read empty (p .reading .sample-accepted .empty-bytes) (query 0 0 0 0) ∙ answers .no-rules;
         transition-read = c .decide-read sample sample-bytes (query 12 20 9 9) ∙ answers .transition;
         unknown-read = c .decide-read (extended sample companion) (companion-after p) (query 10 21 5 1) ∙ answers .companied;
         refused-read = c .decide-read sample sample-bytes (query 32769 21 5 1) ∙ answers .no-group-1;

@@ -15,6 +15,7 @@ use Rattle.format.proofs.Front.{image-in-of}
 use Rattle.extension.specs.Add.{sectionOf}
 use Rattle.extension.proofs.Adds.{section-of}
 use Rattle.format.specs.Answers.{refused, gives}
+use Rattle.decision.specs.declared.Nearest.the-variants.{NoRules, Near}
 use Rattle.decision.specs.Decide.{notPermitted, permitted, unknown, answer}
 use Rattle.decision.specs.Cases.{g0, allow, companion, withSpace}
 use Rattle.decision.specs.Rows.{queryAt}
@@ -97,8 +98,8 @@ pub record Inputs : Type 0 where
   pub none-asked : flatten {A = ℕ} [] ≡ behind empty
   pub short : flatten (drop 9 tooShort ∷ []) ≡ behind tooShort
   pub header : imageSize (take 8 sample) ≡ 9
-  pub lines : length workedLines ≡ 8
-  pub runs : length workedRuns ≡ 15
+  pub lines : length workedLines ≡ 10
+  pub runs : length workedRuns ≡ 16
 
 pub inputs : Inputs
 unfolding flatten wordAt words sample empty asked imageSize workedLines workedRuns
@@ -120,7 +121,7 @@ pub record RowAnswers : Type 0 where
   pub member-is : answer sample member ≡ gives (permitted 0)
   pub group-is : answer sample group ≡ gives (permitted 0)
   pub transition-is : answer sample transition ≡ gives (permitted 2)
-  pub off-is : answer sample offRule ≡ gives notPermitted
+  pub off-is : answer sample offRule ≡ gives (notPermitted (Near 1 0))
   pub no-source-is : answer sample noSource ≡ refused (refusal 8 0)
 
 pub row-answers : Answers → RowAnswers
@@ -137,8 +138,8 @@ pub record RunNumbers : Type 0 where
   pub fit : numbersOf (member ∷ transition ∷ []) ≡ fitNumbers
   pub unfit : numbersOf (member ∷ offRule ∷ []) ≡ unfitNumbers
   pub second : query 12 20 9 9 ≡ transition
-  pub cases : length runCases ≡ 25
-  pub number-cases : length numberCases ≡ 15
+  pub cases : length runCases ≡ 27
+  pub number-cases : length numberCases ≡ 19
 
 pub run-numbers : RunNumbers
 unfolding member transition offRule rowsOf numbersOf runCases numberCases
@@ -147,7 +148,11 @@ run-numbers = record { fit = refl; unfit = refl; second = refl; cases = refl; nu
 module _ (e : WorkedLines) where
   pub unknown-line : line (gives (unknown 1023 255)) ≡ ascii "U 1023 255\n"
   unfolding workedLines lineOf lineSaid
-  unknown-line = ap (λ (xs : List (List ℕ)). getD xs 4 []) e
+  unknown-line = ap (λ (xs : List (List ℕ)). getD xs 6 []) e
+
+  pub no-rules-line : line (gives (notPermitted NoRules)) ≡ ascii "N -\n"
+  unfolding workedLines lineOf lineSaid
+  no-rules-line = ap (λ (xs : List (List ℕ)). getD xs 0 []) e
 
 module _ (e : WorkedRuns) where
   run-row : (n : ℕ) → getD (map runOf workedRuns) n [] ≡ getD (map runSaid workedRuns) n []

@@ -111,8 +111,9 @@ module _ (p : Promises) where
         group-decided = (let v = valid sample (query 10 g0 5 1) (permitted 0) (answers .group) in p .deciding .decided sample (query 10 g0 5 1) (v .0) (v .1));
         types-some = λ l e t h. omega (arith, p .deciding .types-filled l e t h);
         fields-some = λ l e s r m t h. omega (arith, p .deciding .fields-filled l e s r m t h);
-        judge-covers = λ rs cs a e. subst (Names rs cs a) e (p .deciding .lowest-named rs cs a);
-        none-covers = λ rs cs a e. sym (p .deciding .named-alone rs cs a notPermitted e);
+        judge-covers = λ rs cs a x e. subst (Names rs cs a) e (p .deciding .lowest-named rs cs a) .0;
+        none-covers = λ rs cs a x e h. sym (p .deciding .named-alone rs cs a (notPermitted x) (e, h));
+        judge-nearest = λ rs cs a s n e. subst (Names rs cs a) e (p .deciding .lowest-named rs cs a) .1;
         lowest-unknown = λ l q r c e. p .deciding .lowest-answered l q (unknown r c) e .0 .before;
         no-constraints = λ x q e. p .deciding .published-meaning x q;
         unknown-above = unknown-above;

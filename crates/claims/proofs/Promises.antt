@@ -8,6 +8,8 @@ use Rattle.extension.proofs.Adds as adds
 use Rattle.extension.proofs.Trip as trip
 use Rattle.decision.proofs.Filled as filled
 use Rattle.decision.proofs.Lowest as lowest
+use Rattle.decision.proofs.Steps as steps
+use Rattle.decision.proofs.Before as before
 use Rattle.decision.proofs.Tepla as tepla
 use Rattle.decision.proofs.Order as order
 use Rattle.decision.proofs.Growth as growth
@@ -92,6 +94,17 @@ promises =
         one-row = holds.one-row;
         answer-said = holds.answer-said;
         run-cases = runs.run-cases;
+      };
+      nearing = record {
+        steps-in-order = steps.steps-in-order;
+        steps-of-record = steps.steps-of-record;
+        covers-all = steps.covers-all;
+        denied-steps = steps.denied-steps;
+        nearest-passes = steps.nearest-passes;
+        nearest-of-all = steps.nearest-of-all;
+        no-rules-exactly = steps.no-rules-exactly;
+        decisions-stay = before.decisions-stay;
+        step-cases = cases.step-cases;
       };
       printing = record {
         decimal-fewest = numbers.decimal-fewest;

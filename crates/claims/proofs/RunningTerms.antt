@@ -11,8 +11,9 @@ use Rattle.format.specs.Check.{Accepted}
 use Rattle.format.specs.Answers.{Outcome, refused, gives}
 use Rattle.format.specs.Sample.{sample}
 use Rattle.decision.specs.declared.Query.{Query}
+use Rattle.decision.specs.declared.Nearest.{Nearest}
 use Rattle.decision.specs.declared.Answer.{Answer}
-use Rattle.decision.specs.declared.Answer.the-variants.{NotPermitted}
+use Rattle.decision.specs.declared.Answer.the-variants.{Permitted}
 use Rattle.decision.specs.Decide.{Decision, notPermitted, permitted, unknown}
 use Rattle.decision.proofs.Cases.{marked-answers}
 use Rattle.runs.specs.Runs.{queriesFault, runOf, answerOf}
@@ -22,7 +23,7 @@ use Rattle.claims.specs.Promises.{Promises}
 use Rattle.claims.specs.Terms.{RunningMet}
 use Rattle.claims.proofs.Cases.{RowAnswers, row-answers, run-numbers}
 
-not-permitted : {r : ℕ} → _≡_ {A = Outcome Decision} (gives notPermitted) (gives (permitted r)) → ⊥
+not-permitted : {r : ℕ} {x : Nearest} → _≡_ {A = Outcome Decision} (gives (notPermitted x)) (gives (permitted r)) → ⊥
 not-permitted e = (let z : _≡_ {A = ℕ} 0 1 = cc in omega arith)
 
 not-unknown : {r n k : ℕ} → _≡_ {A = Outcome Decision} (gives (unknown n k)) (gives (permitted r)) → ⊥
@@ -30,6 +31,10 @@ not-unknown e = (let z : _≡_ {A = ℕ} 0 1 = cc in omega arith)
 
 not-refused : {r : ℕ} {f : Refusal} → _≡_ {A = Outcome Decision} (refused f) (gives (permitted r)) → ⊥
 not-refused e = (let z : _≡_ {A = ℕ} 0 1 = cc in omega arith)
+
+-- what a slot may hold before
+blank : Answer
+blank = Permitted 0
 
 module _ (p : Promises) where
   rows : RowAnswers
@@ -67,7 +72,7 @@ module _ (p : Promises) where
       both (suc (suc i)) h = absurd (omega arith)
 
   pub two-unfit : runOf sample (member ∷ offRule ∷ []) 2 ≡ gives (some 1)
-  two-unfit = p .running .last-counts sample (member ∷ []) offRule (NotPermitted ∷ NotPermitted ∷ []) NotPermitted .0 (fits 2 (omega arith) (omega arith)) one off
+  two-unfit = p .running .last-counts sample (member ∷ []) offRule (blank ∷ blank ∷ []) blank .0 (fits 2 (omega arith) (omega arith)) one off
     where
       one : AllPermits sample (member ∷ []) offRule 1
       one zero h = (0, rows .member-is)
@@ -98,8 +103,8 @@ module _ (p : Promises) where
         unfit-not = λ l qs slots n other e. (let u = r .unfit-first l qs slots n other .0 e in (u .0, omega (arith, u .1), u .2));
         unfit-before = λ l qs slots n i other e k. r .unfit-first l qs slots n other .0 e .3 i k;
         only-unfit = λ l q y a u. r .last-counts l [] q (y ∷ []) y .0 (counts l a 1 (omega arith) (omega arith)) (λ i j. absurd (omega arith)) u;
-        last-unfit = λ l qs q ys a k e all u. r .last-counts l qs q ys NotPermitted .0 (counts-last l a qs ys k e) all u;
-        last-permits = λ qs ys e. off (r .last-counts sample qs offRule ys NotPermitted .1 e);
+        last-unfit = λ l qs q ys a k e all u. r .last-counts l qs q ys blank .0 (counts-last l a qs ys k e) all u;
+        last-permits = λ qs ys e. off (r .last-counts sample qs offRule ys blank .1 e);
         last-said = λ l qs q ys y a k e. r .last-counts l qs q ys y .2 (counts-last l a qs ys k e);
         image-first = λ l qs slots f e. r .run-refused l qs slots f .0 (r .run-faults l .0 f (length qs) slots e);
         no-row = λ l slots a. r .run-refused l [] slots (refusal 16 0) .0 (r .run-faults l .1 a .0 slots);
@@ -119,16 +124,16 @@ module _ (p : Promises) where
         image-left = λ l qs ys f e. r .slots-left l qs ys .1 f (r .run-refused l qs (length ys) f .0 (r .run-faults l .0 f (length qs) (length ys) e));
         slots-65 = λ qs ys k. r .slots-left sample qs ys .1 (refusal 16 0) (r .run-refused sample qs (length ys) (refusal 16 0) .0 (r .run-faults sample .1 passes .1 (length qs) (length ys) (omega (arith, k))));
         slots-many = λ l qs ys. r .slots-left l qs ys .0;
-        permitted-fit = λ l q n e. r .one-row l q NotPermitted .1 (n, e);
-        not-permitted-unfit = λ l q a e. r .one-row l q NotPermitted .2 a (λ h. not-permitted (sym e ∙ h .1));
-        unknown-unfit = λ l q n k a e. r .one-row l q NotPermitted .2 a (λ h. not-unknown (sym e ∙ h .1));
-        refused-row-unfit = λ l q f a e. r .one-row l q NotPermitted .2 a (λ h. not-refused (sym e ∙ h .1));
+        permitted-fit = λ l q n e. r .one-row l q blank .1 (n, e);
+        not-permitted-unfit = λ l q a x e. r .one-row l q blank .2 a (λ h. not-permitted (sym e ∙ h .1));
+        unknown-unfit = λ l q n k a e. r .one-row l q blank .2 a (λ h. not-unknown (sym e ∙ h .1));
+        refused-row-unfit = λ l q f a e. r .one-row l q blank .2 a (λ h. not-refused (sym e ∙ h .1));
         one-said = λ y. r .one-row sample offRule y .0 passes ∙ ap (λ o. o ∷ []) (rows .off-is);
-        one-fit = r .one-row sample transition NotPermitted .1 (2, rows .transition-is);
-        one-unfit = r .one-row sample offRule NotPermitted .2 passes off;
+        one-fit = r .one-row sample transition blank .1 (2, rows .transition-is);
+        one-unfit = r .one-row sample offRule blank .2 passes off;
         one-refused = λ q y. (let o = r .one-row (take 79 sample) q y .3 (refusal 3 0) (p .reading .refusal-cases .cut) in (o .0, o .2));
         said-alike = λ a b e. sym (r .answer-said .1 a) ∙ ap answerOf e ∙ r .answer-said .1 b;
-        answers-say = (refl, λ n. refl, λ n k. refl, λ f. refl);
+        answers-say = (λ x. refl, λ n. refl, λ n k. refl, λ f. refl);
         runs-say = (refl, λ n. refl, λ f. refl);
         run-cases-all = (run-numbers .cases, run-numbers .number-cases);
       }

@@ -14,6 +14,8 @@ use Rattle.decision.specs.Lowest.{LowestNamed, NamedAlone, LowestAnswered}
 use Rattle.decision.specs.Tepla.{PublishedMeaning, PublishedAnswer, PublishedOrder}
 use Rattle.decision.specs.Order.{Decided, DecidedOnly, OrderRule, QueryOrder, NonDecreasing}
 use Rattle.decision.specs.Growth.{AddedGrows, AddedOrder, SameRules, RulesReordered, MemberOrder}
+use Rattle.decision.specs.Steps.{StepsInOrder, StepsOfRecord, CoversAll, DeniedSteps, NearestPasses, NearestOfAll, NoRulesExactly, StepCases}
+use Rattle.decision.specs.Before.{DecisionsStay}
 use Rattle.decision.specs.Cases.{MarkedCases, MarkedAdds, MarkedOrder}
 use Rattle.decision.specs.Clauses.{ClauseCases, RefusalCases}
 use Rattle.decision.specs.Numbers.{DecideWhole, PartsWhole, PartsRead, DecideRead}
@@ -148,6 +150,27 @@ pub record Running : Type 0 where
   -- runs on the sample, worked out from the documents
   pub run-cases : RunCases
 
+-- Request 2: how near a rule came to a query that none covers.
+pub record Nearing : Type 0 where
+  -- the steps in their order: condition, source, destination, class, action
+  pub steps-in-order : StepsInOrder
+  -- the same by the bytes of a record: an allow rule that is on, one that is off, a transition
+  pub steps-of-record : StepsOfRecord
+  -- a rule covers a query exactly where all five pass
+  pub covers-all : CoversAll
+  -- where no rule covers, each passes at most 4, and a transition 1 or 2
+  pub denied-steps : DeniedSteps
+  -- the rule that the answer names passes so many steps as it says
+  pub nearest-passes : NearestPasses
+  -- no rule passes more, and every lower one fewer
+  pub nearest-of-all : NearestOfAll
+  -- the answer says that there are no rules exactly where there are none
+  pub no-rules-exactly : NoRulesExactly
+  -- the three decisions do not change: with the steps and the nearest rule forgotten, every answer is that of before
+  pub decisions-stay : DecisionsStay
+  -- cases worked out from the request
+  pub step-cases : StepCases
+
 -- The program's output.
 pub record Printing : Type 0 where
   -- a number has the fewest digits that hold it, and they read back as that number
@@ -194,5 +217,6 @@ pub record Promises : Type 0 where
   pub deciding : Deciding
   pub ordering : Ordering
   pub running : Running
+  pub nearing : Nearing
   pub printing : Printing
   pub calling : Calling

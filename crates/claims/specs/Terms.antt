@@ -7,7 +7,7 @@
 --     threeQueries        document 01's first, third and fourth query, and what the program prints for them
 --     twoAndPart          two of them, and 7 bytes
 --     byBytes b           reads that bring one byte each
---     ReadingMet, AddingMet, DecidingMet, OrderingMet, RunningMet, PrintingMet, CallingMet   by the parts of the statement
+--     ReadingMet, AddingMet, DecidingMet, OrderingMet, RunningMet, NearingMet, PrintingMet, CallingMet   by the parts of the statement
 use Prim.Native.Nat.{ℕ, suc, _+_, _*_, _/_, _%_, _<_, _≤_}
 use Prim.Native.String.{String}
 use mathlib.Core.Path.{_≡_}
@@ -31,11 +31,16 @@ use Rattle.format.specs.Longest.{longest}
 use Rattle.extension.specs.Add.{addFault, newNumber, bufferAfter}
 use Rattle.extension.specs.Claims.{addAll, allRecords}
 use Rattle.decision.specs.declared.Query.{Query}
+use Rattle.decision.specs.declared.Nearest.{Nearest}
+use Rattle.decision.specs.declared.Nearest.the-variants.{NoRules, Near}
 use Rattle.decision.specs.declared.Answer.{Answer}
 use Rattle.decision.specs.declared.Answer.the-variants as answers
 use Rattle.decision.specs.Sets.{anyOf, isIn, setOf, within}
-use Rattle.decision.specs.Reading.{Rule, Constraint, Request, requestOf, rulesOf}
-use Rattle.decision.specs.Decide.{covers, Decision, notPermitted, permitted, unknown, judge, decide, answer, answerOutcome}
+use Rattle.decision.specs.Reading.{Rule, Constraint, Request, asks, requestOf, rulesOf}
+use Rattle.decision.specs.Decide.{covers, steps, Decision, notPermitted, permitted, unknown, judge, decide, answer, answerOutcome}
+use Rattle.decision.specs.Lowest.{Most, Nears}
+use Rattle.decision.specs.Steps.{stepsOf, stepsAt, sourceIn, destIn, stepCases}
+use Rattle.decision.specs.Before.{denied, allowed, stopped, answerBefore}
 use Rattle.decision.specs.Order.{height, Keeps, NoCompanion}
 use Rattle.decision.specs.Growth.{reordered, DecidedAbove}
 use Rattle.decision.specs.Cases.{g0, allow, companion, oneMember, withSpace, extended, cases}
@@ -71,7 +76,7 @@ abbrev pub twoAndPart : List ℕ
 twoAndPart = asked 10 21 5 1 ++ (asked 12 20 9 9 ++ replicate 7 0)
 
 abbrev pub threeSaid : String
-threeSaid = "P 0\nN\nP 2\n"
+threeSaid = "P 0\nN 1 0\nP 2\n"
 
 abbrev pub byBytes : List ℕ → List (List ℕ)
 byBytes = map (λ b. b ∷ [])
@@ -134,9 +139,11 @@ pub record DecidingMet : Type 0 where
   pub fields-some :
       (l : List ℕ) → Accepted l → (s : Section) (r : List ℕ) → List·Memᴰ r (recordsOf (policyOf l) s)
       → (t : ℕ) → List·Memᴰ t (typeFields r) → 1 ≤ length (setOf (policyOf l .groups) t)
-  -- LowestNamed, NamedAlone: NotPermitted where no rule covers, and only there
-  pub judge-covers : (rs : List Rule) (cs : List Constraint) (a : Request) → judge rs cs a ≡ notPermitted → anyOf (covers a) rs ≡ false
-  pub none-covers : (rs : List Rule) (cs : List Constraint) (a : Request) → anyOf (covers a) rs ≡ false → judge rs cs a ≡ notPermitted
+  -- LowestNamed, NamedAlone: NotPermitted where no rule covers, and only there, with the nearest rule, and only that
+  pub judge-covers : (rs : List Rule) (cs : List Constraint) (a : Request) (x : Nearest) → judge rs cs a ≡ notPermitted x → anyOf (covers a) rs ≡ false
+  pub none-covers :
+      (rs : List Rule) (cs : List Constraint) (a : Request) (x : Nearest) → anyOf (covers a) rs ≡ false → Nears a rs x → judge rs cs a ≡ notPermitted x
+  pub judge-nearest : (rs : List Rule) (cs : List Constraint) (a : Request) (s n : ℕ) → judge rs cs a ≡ notPermitted (Near s n) → Most (steps a) rs s n
   -- LowestAnswered: of an UnKnown, no rule before the one named covers
   pub lowest-unknown :
       (l : List ℕ) (q : Query) (r c : ℕ) → answer l q ≡ gives (unknown r c)
@@ -276,10 +283,10 @@ pub record RunningMet : Type 0 where
   pub slots-many : (l : List ℕ) (qs : List Query) (ys : List Answer) → length (answersAfter l qs ys) ≡ length ys
   -- OneRow: by each answer; on an accepted image, and on one that is refused
   pub permitted-fit : (l : List ℕ) (q : Query) (r : ℕ) → answer l q ≡ gives (permitted r) → runOf l (q ∷ []) 1 ≡ gives none
-  pub not-permitted-unfit : (l : List ℕ) (q : Query) → Accepted l → answer l q ≡ gives notPermitted → runOf l (q ∷ []) 1 ≡ gives (some 0)
+  pub not-permitted-unfit : (l : List ℕ) (q : Query) → Accepted l → (x : Nearest) → answer l q ≡ gives (notPermitted x) → runOf l (q ∷ []) 1 ≡ gives (some 0)
   pub unknown-unfit : (l : List ℕ) (q : Query) (r c : ℕ) → Accepted l → answer l q ≡ gives (unknown r c) → runOf l (q ∷ []) 1 ≡ gives (some 0)
   pub refused-row-unfit : (l : List ℕ) (q : Query) (f : Refusal) → Accepted l → answer l q ≡ refused f → runOf l (q ∷ []) 1 ≡ gives (some 0)
-  pub one-said : (y : Answer) → map answerOutcome (answersAfter sample (offRule ∷ []) (y ∷ [])) ≡ gives notPermitted ∷ []
+  pub one-said : (y : Answer) → map answerOutcome (answersAfter sample (offRule ∷ []) (y ∷ [])) ≡ gives (notPermitted (Near 1 0)) ∷ []
   pub one-fit : runOf sample (transition ∷ []) 1 ≡ gives none
   pub one-unfit : runOf sample (offRule ∷ []) 1 ≡ gives (some 0)
   pub one-refused :
@@ -289,7 +296,7 @@ pub record RunningMet : Type 0 where
   pub said-alike : (a b : Answer) → answerOutcome a ≡ answerOutcome b → a ≡ b
   -- and what each `Answer` and each `Run` says
   pub answers-say :
-      (answerOutcome answers.NotPermitted ≡ gives notPermitted)
+      ((x : Nearest) → answerOutcome (answers.NotPermitted x) ≡ gives (notPermitted x))
       × ((r : ℕ) → answerOutcome (answers.Permitted r) ≡ gives (permitted r))
       × ((r c : ℕ) → answerOutcome (answers.UnKnown r c) ≡ gives (unknown r c))
       × ((f : Refusal) → answerOutcome (answers.Refused f) ≡ refused f)
@@ -297,7 +304,59 @@ pub record RunningMet : Type 0 where
       (runOutcome runs.Fit ≡ gives none) × ((n : ℕ) → runOutcome (runs.Unfit n) ≡ gives (some n))
       × ((f : Refusal) → runOutcome (runs.Refused f) ≡ refused f)
   -- RunCases, NumberCases: all of them
-  pub run-cases-all : (length runCases ≡ 25) × (length numberCases ≡ 15)
+  pub run-cases-all : (length runCases ≡ 27) × (length numberCases ≡ 19)
+
+pub record NearingMet : Type 0 where
+  -- StepsInOrder: each step by itself, stopped there; and past the last
+  pub off-none : (a : Request) (r : Rule) → r .on ≡ false → steps a r ≡ 0
+  pub source-one : (a : Request) (r : Rule) → r .on ≡ true → within (a .source) (r .source) ≡ false → steps a r ≡ 1
+  pub dest-two :
+      (a : Request) (r : Rule) → r .on ≡ true → within (a .source) (r .source) ≡ true → within (a .dest) (r .dest) ≡ false → steps a r ≡ 2
+  pub class-three :
+      (a : Request) (r : Rule) → r .on ≡ true → within (a .source) (r .source) ≡ true → within (a .dest) (r .dest) ≡ true
+      → asks (r .class) (a .class) ≡ false → steps a r ≡ 3
+  pub action-four :
+      (a : Request) (r : Rule) → r .on ≡ true → within (a .source) (r .source) ≡ true → within (a .dest) (r .dest) ≡ true
+      → asks (r .class) (a .class) ≡ true → asks (r .action) (a .action) ≡ false → steps a r ≡ 4
+  -- CoversAll: both ways
+  pub covered-five : (a : Request) (r : Rule) → covers a r ≡ true → steps a r ≡ 5
+  pub five-covers : (a : Request) (r : Rule) → steps a r ≡ 5 → covers a r ≡ true
+  pub uncovered-four : (a : Request) (r : Rule) → covers a r ≡ false → steps a r ≤ 4
+  -- StepsOfRecord: the sample's rule 3, which is off, of every query; its transition; its rule 0, of another action
+  pub rule-3-none : (q : Query) → stepsAt (policyOf sample) q 3 ≡ 0
+  pub rule-2-one : (q : Query) → sourceIn (policyOf sample) q (getD (policyOf sample .rules) 2 []) ≡ false → stepsAt (policyOf sample) q 2 ≡ 1
+  pub rule-0-four :
+      (q : Query) → sourceIn (policyOf sample) q (getD (policyOf sample .rules) 0 []) ≡ true
+      → destIn (policyOf sample) q (getD (policyOf sample .rules) 0 []) ≡ true → q .class ≡ 5 → (q .action ≡ 1 → ⊥)
+      → stepsAt (policyOf sample) q 0 ≡ 4
+  -- DeniedSteps: the sample's transition, rule 2, of every query that is denied; the first rule of any policy
+  pub rule-2-few :
+      (q : Query) (x : Nearest) → answer sample q ≡ gives (notPermitted x)
+      → (1 ≤ stepsAt (policyOf sample) q 2) × (stepsAt (policyOf sample) q 2 ≤ 2)
+  pub first-few :
+      (l : List ℕ) (q : Query) (x : Nearest) (r : List ℕ) (rs : List (List ℕ)) → answer l q ≡ gives (notPermitted x) → policyOf l .rules ≡ r ∷ rs
+      → stepsOf (policyOf l) q r ≤ 4
+  -- NearestPasses: rule 0 of the sample, where rule 3 is off; the rule named is one of the policy's, the last at most
+  pub rule-0-one : stepsAt (policyOf sample) (query 13 21 5 1) 0 ≡ 1
+  pub named-last :
+      (l : List ℕ) (q : Query) (s n k : ℕ) → answer l q ≡ gives (notPermitted (Near s n)) → length (policyOf l .rules) ≡ suc k → n ≤ k
+  pub named-few : (l : List ℕ) (q : Query) (s n : ℕ) → answer l q ≡ gives (notPermitted (Near s n)) → stepsAt (policyOf l) q n ≤ 4
+  -- NearestOfAll: the last rule passes no more, and the rule before the one named fewer
+  pub last-no-more :
+      (l : List ℕ) (q : Query) (s n k : ℕ) → answer l q ≡ gives (notPermitted (Near s n)) → length (policyOf l .rules) ≡ suc k
+      → stepsAt (policyOf l) q k ≤ s
+  pub before-fewer : (l : List ℕ) (q : Query) (s n : ℕ) → answer l q ≡ gives (notPermitted (Near s (suc n))) → stepsAt (policyOf l) q n < s
+  -- NoRulesExactly: the empty policy, of every query of basic types; the sample never says so
+  pub empty-no-rules : (q : Query) → q .source < 1024 → q .dest < 1024 → answer empty q ≡ gives (notPermitted NoRules)
+  pub sample-has-rules : (q : Query) → answer sample q ≡ gives (notPermitted NoRules) → ⊥
+  -- DecisionsStay: of each kind
+  pub member-before : answerBefore sample (query 10 21 5 1) ≡ gives (allowed 0)
+  pub off-before : answerBefore sample (query 13 21 5 1) ≡ gives denied
+  pub unknown-before : answerBefore (sampleAnd companion) (query 10 21 5 1) ≡ gives (stopped 0 2)
+  pub refused-before : answerBefore sample (query 1024 21 5 1) ≡ refused (refusal 8 0)
+  -- StepCases: all of them; the one of the last rule
+  pub step-cases-all : length stepCases ≡ 23
+  pub last-rule-near : answer (sampleAnd (allow 14 21 5 7)) (query 14 21 5 8) ≡ gives (notPermitted (Near 4 4))
 
 pub record PrintingMet : Type 0 where
   -- DecimalFewest, DecimalRead: the largest usize
@@ -312,8 +371,9 @@ pub record PrintingMet : Type 0 where
   -- the header is read first: 9 bytes, as long as there are fewer
   pub header-first : imageSize (take 8 sample) ≡ 9
   -- WorkedLines, WorkedRuns: all of them, and some by themselves
-  pub lines-all : length workedLines ≡ 8
-  pub runs-all : length workedRuns ≡ 15
+  pub lines-all : length workedLines ≡ 10
+  pub runs-all : length workedRuns ≡ 16
+  pub no-rules-line : line (gives (notPermitted NoRules)) ≡ ascii "N -\n"
   pub unknown-line : line (gives (unknown 1023 255)) ≡ ascii "U 1023 255\n"
   pub three-printed : printed (sample ++ threeQueries) ≡ ascii threeSaid
 
@@ -321,12 +381,14 @@ pub record CallingMet : Type 0 where
   -- CheckWhole, DecideWhole, RecordWhole, AddWhole: the limits of what is answered
   pub refusal-fits : (l : List ℕ) → Bytes l → (f : Refusal) → check l ≡ some f → (f .number ≤ 65535) × (f .place ≤ 65535)
   pub rule-fits : (l : List ℕ) → Bytes l → (q : Query) (r : ℕ) → answer l q ≡ gives (permitted r) → r ≤ 1023
+  pub near-fits : (l : List ℕ) → Bytes l → (q : Query) (s r : ℕ) → answer l q ≡ gives (notPermitted (Near s r)) → (s ≤ 4) × (r ≤ 1023)
   pub unknown-fits : (l : List ℕ) → Bytes l → (q : Query) (r c : ℕ) → answer l q ≡ gives (unknown r c) → (r ≤ 1023) × (c ≤ 255)
   pub record-fits :
       (l : List ℕ) → Bytes l → (s : Section) (n : ℕ) → giveFault l s n ≡ none → (placeOf l s n ≤ 65535) × (length (givenRecord l s n) ≤ 130)
   pub number-fits : (b : List ℕ) → Bytes b → (r : List ℕ) → addFault b r ≡ none → newNumber b r ≤ 1023
   -- PartsWhole: the numbers that include/mungaite.h gives
-  pub not-permitted-code : decisionCode (gives notPermitted) ≡ 0
+  pub near-code : (s r : ℕ) → s ≤ 65535 → r ≤ 65535 → decisionCode (gives (notPermitted (Near s r))) ≡ s * 65536 + r
+  pub no-rules-code : decisionCode (gives (notPermitted NoRules)) ≡ 65535
   pub permitted-code : (r : ℕ) → r ≤ 65535 → decisionCode (gives (permitted r)) ≡ 1 * 4294967296 + r
   pub unknown-code : (r c : ℕ) → r ≤ 65535 → c ≤ 65535 → decisionCode (gives (unknown r c)) ≡ 3 * 4294967296 + r * 65536 + c
   -- PartsRead: the largest parts
@@ -337,6 +399,8 @@ pub record CallingMet : Type 0 where
   pub cut-read : hostChecked (faultCode (check (take 79 sample))) ≡ some (refusal 3 0)
   -- DecideRead: of each kind
   pub member-read : hostDecision (decisionCode (answer sample (query 10 21 5 1))) ≡ gives (permitted 0)
+  pub off-read : hostDecision (decisionCode (answer sample (query 13 21 5 1))) ≡ gives (notPermitted (Near 1 0))
+  pub no-rules-read : hostDecision (decisionCode (answer empty (query 0 0 0 0))) ≡ gives (notPermitted NoRules)
   pub transition-read : hostDecision (decisionCode (answer sample (query 12 20 9 9))) ≡ gives (permitted 2)
   pub unknown-read : hostDecision (decisionCode (answer (sampleAnd companion) (query 10 21 5 1))) ≡ gives (unknown 0 2)
   pub refused-read : hostDecision (decisionCode (answer sample (query 32769 21 5 1))) ≡ refused (refusal 8 0)
@@ -399,5 +463,6 @@ pub record TermsMet : Type 0 where
   pub deciding : DecidingMet
   pub ordering : OrderingMet
   pub running : RunningMet
+  pub nearing : NearingMet
   pub printing : PrintingMet
   pub calling : CallingMet

@@ -16,12 +16,14 @@ use Rattle.format.specs.Answers.{refused, gives, outcome}
 use Rattle.decision.specs.declared.Query.{Query}
 use Rattle.decision.specs.Reading.{constraintsOf}
 use Rattle.decision.specs.Decide as deciding
-use Rattle.decision.specs.Decide.{firstAt, covers, fails}
+use Rattle.decision.specs.Decide.{firstAt, covers, fails, nearest}
 use Rattle.decide.specs.declared.cover.Found.{Found}
 use Rattle.decide.specs.declared.cover.Found.the-variants.{At, Nothing}
 use Rattle.decide.specs.Inner.Parts.{rulesIn, requestIn, setIn}
 use Rattle.decide.specs.Inner.Marks.{noMarks, markAll, Marked}
 use Rattle.decide.specs.Inner.Rules.{foundOf, firstRule, firstConstraint}
+use Rattle.decide.specs.Inner.Nearer.{Uncovered}
+use Rattle.decision.proofs.Search.{firstAt-none}
 use Rattle.format.proofs.Chain.{orElse-next, orElse-first, need-none, need-some}
 use Rattle.decide.proofs.TypeLaws.{set-rising}
 use Rattle.decide.proofs.MarkedLaws.{marked-of}
@@ -35,11 +37,18 @@ unfolding foundOf
 found-back none = refl
 found-back (some n) = refl
 
--- the decision is that of the lowest covering rule and the lowest failing constraint
+-- the decision is that of the lowest covering rule and the lowest failing constraint, and of the nearest rule
 module _ (l : List ℕ) (q : Query) where
-  pub engine-is : (a b : Found) → a ≡ firstRule l q → b ≡ firstConstraint l q → deciding.decisionOf (optionOf a) (optionOf b) ≡ deciding.decide (policyOf l) q
+  pub engine-is :
+      (a b : Found) → a ≡ firstRule l q → b ≡ firstConstraint l q
+      → deciding.decisionOf (nearest (requestIn l q) (rulesIn l)) (optionOf a) (optionOf b) ≡ deciding.decide (policyOf l) q
   unfolding deciding.decide deciding.judge firstRule firstConstraint
   engine-is a b e f = rw (e, f, found-back (firstAt (covers (requestIn l q)) 0 (rulesIn l)), found-back (firstAt (fails (rulesIn l) (requestIn l q)) 0 (constraintsOf (policyOf l))))
+
+  -- no rule was found, so none covers
+  pub found-none : Nothing ≡ firstRule l q → Uncovered l q
+  unfolding firstRule
+  found-none e = firstAt-none (covers (requestIn l q)) 0 (rulesIn l) (sym (found-back _) ∙ ap optionOf (sym e))
 
   -- ---- the answer
 

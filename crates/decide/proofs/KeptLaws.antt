@@ -1,21 +1,23 @@
 -- Laws of what is kept in tables. Assumes nothing.
 use Prim.Native.Nat.{ℕ, _+_, _-_, _≤_, _<_}
-use mathlib.Core.Path.{_≡_, refl, sym, ap, _∙_}
-use mathlib.Core.Bool.{Bool, true, false, cond}
+use mathlib.Core.Path.{_≡_, refl, sym, subst, ap, _∙_}
+use mathlib.Core.Bool.{Bool, true, false, not, cond}
 use mathlib.Core.List.{List}
 use native.Mathlib.Omega.{arith}
 use lib.ListN.{getD, set, replicate}
 use lib.Dec.{eqb, ltb}
-use borrow.Author.Tests.{lt-ltb, le-ltb, ltb-false, eqb-true}
-use Rattle.format.proofs.Tests.{false-not-true}
+use borrow.Author.Tests.{lt-ltb, le-ltb, ltb-true, ltb-false, eqb-true, ne-eqb, not-true}
 use Rattle.format.specs.Check.{Accepted}
+use Rattle.format.specs.Claims.{IsType}
+use Rattle.format.proofs.Images.{group-count}
+use Rattle.decision.proofs.Filled.{types-filled}
 use Rattle.decision.specs.declared.Query.{Query}
 use Rattle.decision.specs.Sets.{within}
 use Rattle.decide.specs.Inner.Parts.{setIn, setAt, groupSet, TypeAt}
-use Rattle.decide.specs.Inner.Marks.{fullyMarked}
+use Rattle.decide.specs.Inner.Marks.{tallied, fullyMarked}
 use Rattle.decide.specs.Inner.Kept.{bit, Kept, KeptTest, outsideIn, keepOutside, Side, Sides}
 use Rattle.decide.proofs.ArrayLaws.{blank, by-set}
-use Rattle.decide.proofs.TypeLaws.{set-rising}
+use Rattle.decide.proofs.TypeLaws.{set-basic, set-rising}
 use Rattle.decide.proofs.SetLaws.{full-within}
 
 -- nothing is kept at first
@@ -48,15 +50,16 @@ module _ (f : ℕ → Bool) (table : List ℕ) (k : Kept (λ n. bit (f n)) table
 
 -- ---- a type that a set is known not to be within
 
-module _ (kept : List ℕ) (t : ℕ) where
-  pub outside-basic : t < 32768 → outsideIn kept t ≡ false
+module _ (ms : List Bool) (kept : List ℕ) (t : ℕ) where
+  pub outside-basic : t < 32768 → outsideIn ms kept t ≡ not (getD ms t false)
   unfolding outsideIn
   outside-basic h = simp (lt-ltb t 32768 h)
 
-  pub outside-group : 32768 ≤ t → outsideIn kept t ≡ eqb (getD kept (t - 32768) 0) 1
+  pub outside-group : 32768 ≤ t → outsideIn ms kept t ≡ eqb (getD kept (t - 32768) 0) 1
   unfolding outsideIn
   outside-group h = simp (le-ltb t 32768 h)
 
+module _ (kept : List ℕ) (t : ℕ) where
   pub keep-basic : t < 32768 → keepOutside kept t ≡ kept
   unfolding keepOutside
   keep-basic h = simp (lt-ltb t 32768 h)
@@ -69,15 +72,10 @@ module _ (f : List ℕ → Bool) (l kept : List ℕ) (k : KeptTest f l kept) (t 
   same-set : 32768 ≤ t → groupSet l (t - 32768) ≡ setIn l w
   same-set h = let r : 32768 + (t - 32768) ≡ w = omega arith in ap (setIn l) r
 
-  pub outside-tells : outsideIn kept t ≡ true → f (setIn l w) ≡ false
-  unfolding outsideIn
-  outside-tells e = go (ltb t 32768) refl e
-    where
-      go : (b : Bool) → ltb t 32768 ≡ b → cond b false (eqb (getD kept (t - 32768) 0) 1) ≡ true → f (setIn l w) ≡ false
-      go true h e = false-not-true e
-      go false h e =
-          let one : getD kept (t - 32768) 0 ≡ 1 = eqb-true (getD kept (t - 32768) 0) 1 e in
-          ap f (sym (same-set (ltb-false t 32768 h))) ∙ bit-one (f (groupSet l (t - 32768))) (sym one ∙ k .is (t - 32768) (omega (arith, one)))
+  kept-tells : 32768 ≤ t → eqb (getD kept (t - 32768) 0) 1 ≡ true → f (setIn l w) ≡ false
+  kept-tells h e =
+      let one : getD kept (t - 32768) 0 ≡ 1 = eqb-true (getD kept (t - 32768) 0) 1 e in
+      ap f (sym (same-set h)) ∙ bit-one (f (groupSet l (t - 32768))) (sym one ∙ k .is (t - 32768) (omega (arith, one)))
 
   pub outside-kept : f (setIn l w) ≡ false → KeptTest f l (keepOutside kept t)
   unfolding keepOutside bit
@@ -91,10 +89,29 @@ module _ (f : List ℕ → Bool) (l kept : List ℕ) (k : KeptTest f l kept) (t 
 
 module _ {l : List ℕ} {q : Query} {ms ns : List Bool} {m n : ℕ} {ks kd : List ℕ} (a : Sides l q ms m ns n ks kd) where
   pub with-source : {k : List ℕ} → KeptTest (fullyMarked ms m) l k → Sides l q ms m ns n k kd
-  with-source k = record { source = record { marked = a .source .marked; kept = k }; dest = a .dest }
+  with-source k = record { source = record { type = a .source .type; marked = a .source .marked; kept = k }; dest = a .dest }
 
   pub with-dest : {k : List ℕ} → KeptTest (fullyMarked ns n) l k → Sides l q ms m ns n ks k
-  with-dest k = record { source = a .source; dest = record { marked = a .dest .marked; kept = k } }
+  with-dest k = record { source = a .source; dest = record { type = a .dest .type; marked = a .dest .marked; kept = k } }
+
+-- a basic type without a mark holds no set of some size
+unmarked-tells : (l : List ℕ) (ms : List Bool) (size w : ℕ) → 0 < size → w < 32768 → getD ms w false ≡ false → fullyMarked ms size (setIn l w) ≡ false
+unfolding fullyMarked tallied
+unmarked-tells l ms size w some h e = rw (set-basic l w h) (simp e (ne-eqb 0 size (omega arith)))
+
+-- what is known of a side
+pub outside-tells :
+    {l : List ℕ} {t : ℕ} {ms : List Bool} {size : ℕ} {kept : List ℕ} (d : Side l t ms size kept) → Accepted l → (x w : ℕ) → x ≡ w
+    → outsideIn ms kept x ≡ true → fullyMarked ms size (setIn l w) ≡ false
+unfolding outsideIn
+outside-tells {l} {t} {ms} {size} {kept} d c x w is e = go (ltb x 32768) refl e
+  where
+    filled : 0 < size
+    filled = omega (arith, d .marked .many, types-filled l c t (subst (λ (n : ℕ). IsType n t) (sym (group-count l)) (d .type)))
+
+    go : (b : Bool) → ltb x 32768 ≡ b → cond b (not (getD ms x false)) (eqb (getD kept (x - 32768) 0) 1) ≡ true → fullyMarked ms size (setIn l w) ≡ false
+    go true h e = unmarked-tells l ms size w filled (omega (arith, ltb-true x 32768 h)) (ap (λ (n : ℕ). getD ms n false) (sym is) ∙ not-true (getD ms x false) e)
+    go false h e = kept-tells (fullyMarked ms size) l kept (d .kept) x w is (ltb-false x 32768 h) e
 
 -- a test of a side by its marks, of the type in the field at a place
 pub side-within :

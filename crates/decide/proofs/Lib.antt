@@ -4,10 +4,13 @@ pub mod PartLaws
 pub mod MarkLaws
 pub mod TypeLaws
 pub mod SetLaws
+pub mod HalfLaws
+pub mod WithinLaws
 pub mod MarkedLaws
 pub mod WalkLaws
 pub mod RuleLaws
 pub mod CoverLaws
+pub mod NearerLaws
 pub mod CompareLaws
 pub mod NameLaws
 pub mod TableLaws

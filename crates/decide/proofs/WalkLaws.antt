@@ -1,6 +1,4 @@
--- Laws of a walk over the records of a section: one invariant, and what each way that a turn goes does to it. Assumes nothing.
---     Walk s read l whole rest count n at   where a walk over count records stands: at record n, which stands at a place; what is
---                                           made of the records from it on, as they are read, is what is made of all
+-- Laws of a walk over the records of a section: what each way that a turn goes does to its one invariant. Assumes nothing.
 --     walk-start, walk-next, walk-hit, walk-end   its laws
 --     walk-rule, walk-constraint            what stands at the running place
 --     FirstOf, AnyOf                        a walk for the first record that passes a test, and for any
@@ -26,15 +24,10 @@ use Rattle.decision.specs.Decide.{firstAt}
 use Rattle.decide.specs.declared.cover.Found.{Found}
 use Rattle.decide.specs.declared.cover.Found.the-variants.{At, Nothing}
 use Rattle.decide.specs.Inner.Parts.{rulesIn, RuleHere, NthConstraint}
+use Rattle.decide.specs.Inner.Walks.{Walk}
 use Rattle.decide.specs.Inner.Rules.{foundOf}
 
 module _ {A R : Type 0} where
-  pub record Walk (s : Section) (read : List ℕ → R) (l : List ℕ) (whole : A) (rest : ℕ → List R → A) (count n at : ℕ) : Type 0 where
-    pub few : n ≤ count
-    pub all : count ≡ countOf l s
-    pub place : at ≡ placeOf l s n
-    pub same : whole ≡ rest n (map read (recordsAt l at (count - n)))
-
   module _ (s : Section) (read : List ℕ → R) (l : List ℕ) (whole : A) (rest : ℕ → List R → A) where
     pub walk-start :
         (from count : ℕ) → from ≡ startOf l s → count ≡ countOf l s → whole ≡ rest 0 (map read (recordsAt l (startOf l s) (countOf l s)))

@@ -2,6 +2,8 @@
 pub mod Parts
 pub mod Marks
 pub mod Kept
+pub mod Walks
 pub mod Rules
+pub mod Nearer
 pub mod Names
 pub mod Steps

@@ -114,10 +114,10 @@ fn constraint_fails(
     if word_in(image, at + 4) != wide_word(q.action) {
         return false;
     }
-    if !inside(image, groups, at + 6, source, sources, ksource) {
+    if !inside(image, groups, at + 6, q.source, source, sources, ksource) {
         return false;
     }
-    if !inside(image, groups, at + 8, dest, dests, kdest) {
+    if !inside(image, groups, at + 8, q.dest, dest, dests, kdest) {
         return false;
     }
     let k = verdicts[n];

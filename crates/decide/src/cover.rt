@@ -1,7 +1,7 @@
 // The lowest rule that covers a query.
 use crate::kept::inside;
 use crate::kept::keep_outside;
-use crate::kept::kept_outside;
+use crate::kept::known_outside;
 use crate::rules::past;
 use crate::types::members;
 use crate::word::wide_word;
@@ -37,8 +37,8 @@ fn may(image: &[u8], at: usize, q: Query) -> bool
 }
 
 // The lowest rule that covers the query, whose source and destination are marked, with their sizes. Condition, class and
-// action are tested first, then the destination, then the source, with what is found of their groups kept. A rule that they do
-// not let through is an allow rule.
+// action are tested first, then the source, then the destination, with what is found of their groups kept: where no rule covers
+// the query, its steps ask for the sources first. A rule that is not let through is an allow rule.
 pub(crate) fn first_rule(
     image: &[u8],
     groups: &[u16; 256],
@@ -64,27 +64,27 @@ pub(crate) fn first_rule(
         }
         let lets = may(image, at, q);
         if lets {
-            if inside(image, groups, at + 4, dest, dests, kdest) {
-                let t = word_in(image, at + 2);
-                if !kept_outside(t, ksource) {
-                    let span = members(image, groups, at + 2);
+            if inside(image, groups, at + 2, q.source, source, sources, ksource) {
+                let t = word_in(image, at + 4);
+                if !known_outside(t, dest, kdest) {
+                    let span = members(image, groups, at + 4);
                     let mut m = span.from;
                     let mut left = span.count;
                     let mut hits: usize = 0;
                     'members: loop {
-                        if hits == sources {
-                            break 'rules n;
-                        }
                         if left == 0 {
+                            if hits == dests {
+                                break 'rules n;
+                            }
                             break 'members;
                         }
-                        if source[word_in(image, m)] {
+                        if dest[word_in(image, m)] {
                             hits += 1;
                         }
                         m += 2;
                         left -= 1;
                     }
-                    keep_outside(t, ksource);
+                    keep_outside(t, kdest);
                 }
             }
         }

@@ -2,6 +2,7 @@
 use crate::constraint::first_constraint;
 use crate::cover::Found;
 use crate::cover::first_rule;
+use crate::nearest::nearest_rule;
 use crate::sets::mark_type;
 use crate::sets::unmark_type;
 use crate::word::wide_word;
@@ -22,7 +23,8 @@ ghost use Rattle.decide.specs.Inner.Parts.{Ready, Surveyed, setIn};
 ghost use Rattle.decide.specs.Inner.Marks.{Marked};
 ghost use Rattle.decide.specs.Inner.Kept.{KeptVerdicts, Tables, Leaves};
 
-// The decision of an accepted policy on a query whose source and destination are marked, with their sizes.
+// The decision of an accepted policy on a query whose source and destination are marked, with their sizes. Where no rule covers
+// the query, a second walk over the rules finds the nearest.
 fn judge_marked(
     image: &[u8],
     groups: &[u16; 256],
@@ -34,7 +36,7 @@ fn judge_marked(
     dests: usize,
     verdicts: &mut [u8; 256],
 ) -> Answer
-    requires { ⌜ Ready (now image) (now groups) s × Marked (setIn (now image) (q .source)) (now source) sources
+    requires { ⌜ Ready (now image) (now groups) s × deciding.Valid (now image) q × Marked (setIn (now image) (q .source)) (now source) sources
         × Marked (setIn (now image) (q .dest)) (now dest) dests × KeptVerdicts (now image) (now verdicts) ⌝ }
     ensures { λ r. ⌜ Leaves (gives (deciding.decide (policyOf (now (image .entry))) q))
         (KeptVerdicts (now (image .entry)) (now (verdicts .exit))) (deciding.answerOutcome r) ⌝ }
@@ -53,7 +55,18 @@ fn judge_marked(
         &mut ksource,
         &mut kdest,
     ) {
-        Found::Nothing => Answer::NotPermitted,
+        Found::Nothing => Answer::NotPermitted(nearest_rule(
+            image,
+            groups,
+            s,
+            q,
+            source,
+            sources,
+            dest,
+            dests,
+            &mut ksource,
+            &mut kdest,
+        )),
         Found::At(r) => match first_constraint(
             image,
             groups,

@@ -2,13 +2,16 @@
 use crate::marks::any_is;
 use crate::marks::fully_marked;
 use crate::types::group_span;
+use crate::within::is_within;
 use crate::word::word_in;
 ghost use mathlib.Core.Path.{_≡_};
 ghost use Prim.Native.Nat.{_+_, _<_};
 ghost use lib.ListN.{set};
-ghost use Rattle.decide.specs.Inner.Parts.{Known, TypeAt, setAt};
-ghost use Rattle.decide.specs.Inner.Marks.{anyIs, fullyMarked};
-ghost use Rattle.decide.specs.Inner.Kept.{bit, KeptTest, Leaves, outsideIn, keepOutside};
+ghost use Rattle.format.specs.declared.Section.the-variants.{Groups};
+ghost use Rattle.format.specs.Format.{countOf};
+ghost use Rattle.decide.specs.Inner.Parts.{Known, TypeAt, setAt, groupSet};
+ghost use Rattle.decide.specs.Inner.Marks.{Basic, anyIs, fullyMarked};
+ghost use Rattle.decide.specs.Inner.Kept.{bit, KeptTest, Side, Leaves, outsideIn, keepOutside};
 
 // Keeps what was found of a number, 1 for no and 2 for yes, and answers it.
 pub(crate) fn keep(kept: &mut [u8; 256], n: usize, found: bool) -> bool
@@ -23,13 +26,13 @@ pub(crate) fn keep(kept: &mut [u8; 256], n: usize, found: bool) -> bool
     false
 }
 
-// Whether a type is a group that is known not to hold what is asked.
-pub(crate) fn kept_outside(t: usize, kept: &[u8; 256]) -> bool
-    requires { ⌜ t < 33024 ⌝ }
-    ensures { λ r. ⌜ r ≡ outsideIn (now (kept .entry)) t ⌝ }
+// Whether a type is known not to hold what is marked: a basic type without a mark, or a group of which that is kept.
+pub(crate) fn known_outside(t: usize, marks: &[bool; 1024], kept: &[u8; 256]) -> bool
+    requires { ⌜ Basic t × (t < 33024) ⌝ }
+    ensures { λ r. ⌜ r ≡ outsideIn (now (marks .entry)) (now (kept .entry)) t ⌝ }
 {
     if t < 32768 {
-        return false;
+        return !marks[t];
     }
     kept[t - 32768] == 1
 }
@@ -45,31 +48,49 @@ pub(crate) fn keep_outside(t: usize, kept: &mut [u8; 256])
     kept[t - 32768] = 1;
 }
 
-// Whether the marked set, of a size, is within the type in the field at a place.
-pub(crate) fn inside(
+// Whether a type of the query, marked and of a size, is within a group, of which nothing is kept yet.
+fn find_inside(
     image: &[u8],
     groups: &[u16; 256],
-    at: usize,
+    g: usize,
+    t: u16,
     marks: &[bool; 1024],
     size: usize,
     kept: &mut [u8; 256],
 ) -> bool
-    requires { ⌜ Known (now image) (now groups) × TypeAt (now image) at × KeptTest (fullyMarked (now marks) size) (now image) (now kept) ⌝ }
+    requires { ⌜ Known (now image) (now groups) × (g < countOf (now image) Groups) × Side (now image) t (now marks) size (now kept) ⌝ }
+    ensures { λ r. ⌜ Leaves (fullyMarked (now (marks .entry)) size (groupSet (now (image .entry)) g))
+        (KeptTest (fullyMarked (now (marks .entry)) size) (now (image .entry)) (now (kept .exit))) r ⌝ }
+{
+    let s = group_span(image, groups, g);
+    let found = is_within(image, groups, s, t, marks, size);
+    keep(kept, g, found)
+}
+
+// The same of the type in the field at a place.
+pub(crate) fn inside(
+    image: &[u8],
+    groups: &[u16; 256],
+    at: usize,
+    t: u16,
+    marks: &[bool; 1024],
+    size: usize,
+    kept: &mut [u8; 256],
+) -> bool
+    requires { ⌜ Known (now image) (now groups) × TypeAt (now image) at × Side (now image) t (now marks) size (now kept) ⌝ }
     ensures { λ r. ⌜ Leaves (fullyMarked (now (marks .entry)) size (setAt (now (image .entry)) at))
         (KeptTest (fullyMarked (now (marks .entry)) size) (now (image .entry)) (now (kept .exit))) r ⌝ }
 {
-    let t = word_in(image, at);
-    if t < 32768 {
+    let outer = word_in(image, at);
+    if outer < 32768 {
         return fully_marked(image, at, 1, marks, size);
     }
-    let g = t - 32768;
+    let g = outer - 32768;
     let k = kept[g];
     if 0 < k {
         return k == 2;
     }
-    let s = group_span(image, groups, g);
-    let found = fully_marked(image, s.from, s.count, marks, size);
-    keep(kept, g, found)
+    find_inside(image, groups, g, t, marks, size, kept)
 }
 
 // Whether the type in the field at a place has a member with a mark of a value.

@@ -2,6 +2,8 @@
 mod word; // word.rt: numbers in bytes
 mod types; // types.rt: where the members of a type lie in the image
 mod marks; // marks.rt: sets as 1,024 marks, and the members of a type against them
+mod halves; // halves.rt: whether a number is among members that rise
+mod within; // within.rt: whether a type of the query is within the members of a group
 mod kept; // kept.rt: the same for the type in a field, with what is found of a group kept
 mod sets; // sets.rt: the sets of types, as marks
 mod rules; // rules.rt: the rule at a place
@@ -10,6 +12,7 @@ mod names; // names.rt: names of sets, the same for types that stand for the sam
 mod predicates; // predicates.rt: what a roster and a companion ask of the rules
 mod separation; // separation.rt: what a separation asks of the rules
 mod cover; // cover.rt: the lowest rule that covers a query
+mod nearest; // nearest.rt: the rule that came nearest to a query that none covers
 mod constraint; // constraint.rt: whether a constraint fails, and the lowest that does
 mod engine; // engine.rt: the decision on an image and a query
 mod rows; // rows.rt: many queries at once

@@ -98,7 +98,7 @@ fn next(run: Run, i: usize, a: Answer) -> Run
 {
     match run {
         Run::Fit => match a {
-            Answer::NotPermitted => Run::Unfit(i),
+            Answer::NotPermitted(_) => Run::Unfit(i),
             Answer::Permitted(_) => Run::Fit,
             Answer::UnKnown(_, _) => Run::Unfit(i),
             Answer::Refused(_) => Run::Unfit(i),

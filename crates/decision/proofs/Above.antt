@@ -13,9 +13,10 @@ use mathlib.Core.List.{List, List·Memᴰ}
 use lib.Dec.{eqb}
 use borrow.Author.Tests.{eqb-false}
 use Rattle.format.proofs.Tests.{false-not-true}
+use Rattle.decision.specs.declared.Nearest.{Nearest}
 use Rattle.decision.specs.Sets.{anyOf, allOf, within}
 use Rattle.decision.specs.Reading.{Rule, Constraint, Request, asks}
-use Rattle.decision.specs.Decide.{tests, covers, reaches, separationBroken, rosterBroken, companionBroken, broken, applies, inside, fails, firstAt, Decision, notPermitted, permitted, unknown, decisionOf, judge}
+use Rattle.decision.specs.Decide.{tests, covers, reaches, separationBroken, rosterBroken, companionBroken, broken, applies, inside, fails, firstAt, nearest, Decision, notPermitted, permitted, unknown, decisionOf, judge}
 use Rattle.decision.specs.Order.{height}
 use Rattle.decision.proofs.Search.{isFound, firstAt-any}
 use Rattle.decision.proofs.Implies.{_⟹_, id⟹, eq⟹, and⟹, not⟹, cond⟹, anyOf⟹, within⟹}
@@ -31,24 +32,24 @@ unfolding height
 height-unknown r c = refl
 
 module _ {C : Type 0} (says : Decision → C) (n p u : C)
-    (none-is : says notPermitted ≡ n) (permitted-is : (r : ℕ) → says (permitted r) ≡ p) (unknown-is : (r c : ℕ) → says (unknown r c) ≡ u) where
-  found-says : (a b : Option ℕ) → says (decisionOf a b) ≡ cond (isFound a) (cond (isFound b) u p) n
+    (none-is : (x : Nearest) → says (notPermitted x) ≡ n) (permitted-is : (r : ℕ) → says (permitted r) ≡ p) (unknown-is : (r c : ℕ) → says (unknown r c) ≡ u) where
+  found-says : (x : Nearest) (a b : Option ℕ) → says (decisionOf x a b) ≡ cond (isFound a) (cond (isFound b) u p) n
   unfolding decisionOf isFound
-  found-says none b = none-is
-  found-says (some r) none = permitted-is r
-  found-says (some r) (some c) = unknown-is r c
+  found-says x none b = none-is x
+  found-says x (some r) none = permitted-is r
+  found-says x (some r) (some c) = unknown-is r c
 
   pub judge-says : (rs : List Rule) (cs : List Constraint) (a : Request) → says (judge rs cs a) ≡ cond (anyOf (covers a) rs) (cond (anyOf (fails rs a) cs) u p) n
   unfolding judge
   judge-says rs cs a =
-      rw (found-says (firstAt (covers a) 0 rs) (firstAt (fails rs a) 0 cs), firstAt-any (covers a) 0 rs, firstAt-any (fails rs a) 0 cs)
+      rw (found-says (nearest a rs) (firstAt (covers a) 0 rs) (firstAt (fails rs a) 0 cs), firstAt-any (covers a) 0 rs, firstAt-any (fails rs a) 0 cs)
 
 abbrev heightBy : Bool → Bool → ℕ
 heightBy a b = cond a (cond b 2 1) 0
 
 judge-height : (rs : List Rule) (cs : List Constraint) (a : Request) → height (judge rs cs a) ≡ heightBy (anyOf (covers a) rs) (anyOf (fails rs a) cs)
 unfolding height
-judge-height = judge-says height 0 1 2 refl (λ r. refl) (λ r c. refl)
+judge-height = judge-says height 0 1 2 (λ x. refl) (λ r. refl) (λ r c. refl)
 
 heightBy-le : (a b a′ b′ : Bool) → a ⟹ a′ → b ⟹ b′ → heightBy a b ≤ heightBy a′ b′
 heightBy-le false b a′ b′ f g = omega arith

@@ -1,8 +1,8 @@
 -- What an answer can hold, for the layers above. Assumes nothing.
 --     answer-refused       a refusal is the check's, or 8 or 9 with the place 0
 --     image-refused        and the check's is every query's
---     permitted-inside, unknown-inside   the numbers that a decision names are below the sections' counts
-use Prim.Native.Nat.{ℕ, _<_}
+--     denied-inside, permitted-inside, unknown-inside   the numbers that a decision names are below the sections' counts, and steps are at most 4
+use Prim.Native.Nat.{ℕ, _≤_, _<_}
 use mathlib.Core.Path.{_≡_, refl, sym, ap, _∙_}
 use mathlib.Core.Logic.{_⊎_, inl, inr}
 use mathlib.Core.Bool.{Bool}
@@ -21,11 +21,13 @@ use Rattle.format.proofs.Chain.{orElse-first, orElse-refuses, need-refuses, out
 use Rattle.format.proofs.ByCase.{records-of-rules, records-of-constraints}
 use Rattle.format.proofs.Accepted.{records-count}
 use Rattle.decision.specs.declared.Query.{Query}
+use Rattle.decision.specs.declared.Nearest.the-variants.{Near}
 use Rattle.decision.specs.Reading.{rulesOf, constraintsOf}
-use Rattle.decision.specs.Decide.{decide, permitted, unknown, queryFault, answerFault, answer}
+use Rattle.decision.specs.Decide.{decide, notPermitted, permitted, unknown, queryFault, answerFault, answer}
 use Rattle.decision.specs.Lowest.{Lowest}
 use Rattle.decision.proofs.Search.{lowest-inside}
 use Rattle.decision.proofs.Lowest.{lowest-answered}
+use Rattle.decision.proofs.Steps.{nearest-passes}
 
 module _ (l : List ℕ) (q : Query) where
   abbrev Named : Refusal → Type 0
@@ -60,6 +62,11 @@ module _ (l : List ℕ) where
   constraints-are = ap length (sym (records-of-constraints (policyOf l))) ∙ records-count l Constraints
 
   module _ (q : Query) where
+    pub denied-inside : (s n : ℕ) → answer l q ≡ gives (notPermitted (Near s n)) → (s ≤ 4) × (n < countOf l Rules)
+    denied-inside s n e =
+        let f = nearest-passes l q s n e in
+        (f .2, omega (arith, f .0, rules-are))
+
     pub permitted-inside : (r : ℕ) → answer l q ≡ gives (permitted r) → r < countOf l Rules
     unfolding rulesOf
     permitted-inside r e = inside _ _ (policyOf l .rules) r (countOf l Rules) rules-are (lowest-answered l q (permitted r) e .0)

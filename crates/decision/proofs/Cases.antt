@@ -1,4 +1,4 @@
--- The marked cases and the clauses' cases, by computation: claims MarkedCases, MarkedAdds, MarkedOrder, ClauseCases, RefusalCases.
+-- The tables of cases, by computation: claims MarkedCases, MarkedAdds, MarkedOrder, ClauseCases, RefusalCases, StepCases.
 -- Assumes nothing.
 use Prim.Native.Nat.{ℕ, zero, suc, _<_}
 use native.Mathlib.Omega.{arith}
@@ -15,19 +15,21 @@ use Rattle.format.specs.Answers.{Outcome, refused, gives}
 use Rattle.format.specs.Sample.{sample, empty}
 use Rattle.extension.specs.Add.{sectionOf, withRecord, fieldFault, newNumber, ownFault, addFault, newImage, overwrite, bufferAfter}
 use Rattle.decision.specs.declared.Query.{Query}
+use Rattle.decision.specs.declared.Nearest.the-variants.{NoRules, Near}
 use Rattle.decision.specs.Sets.{anyOf, allOf, isIn, setOf, unionOf, within, touches, sameSet}
 use Rattle.decision.specs.Reading.{asks, live, ruleOf, constraintOf, requestOf, rulesOf, constraintsOf}
-use Rattle.decision.specs.Decide.{tests, covers, reaches, separationBroken, rosterBroken, companionBroken, broken, applies, inside, fails, firstAt, Decision, notPermitted, permitted, unknown, decisionOf, judge, decide, queryFault, answerFault, answer}
+use Rattle.decision.specs.Decide.{tests, covers, passes, steps, nearestOf, greatest, nearestBy, nearest, reaches, separationBroken, rosterBroken, companionBroken, broken, applies, inside, fails, firstAt, Decision, notPermitted, permitted, unknown, decisionOf, judge, decide, queryFault, answerFault, answer}
 use Rattle.decision.specs.Order.{NoCompanion}
 use Rattle.decision.specs.Cases.{withSpace, extended, g0, allow, companion, oneMember, banned, ask, cases, given, expectedOf, MarkedCases, MarkedAdds, MarkedOrder}
 use Rattle.decision.specs.Clauses.{separation, allowGroup, companionOfGroup, rosterOfGroup, backTransition, longRoster, clauseCases, ClauseCases, RefusalCases}
+use Rattle.decision.specs.Steps.{off, stepCases, StepCases}
 use Rattle.decision.specs.Growth.{reordered}
 
 -- a predicate that is no companion
 other : (n : ℕ) → n ≡ 3 → n < 3 → ⊥
 other n e h = omega arith
 
-computed : MarkedCases × MarkedAdds × MarkedOrder × ClauseCases × RefusalCases
+computed : MarkedCases × MarkedAdds × MarkedOrder × ClauseCases × RefusalCases × StepCases
 unfolding
     flatten wordAt words putWord need _orElse_ unlessRefused
     knownVersion limitOf countPlace countOf kindIn lengthOk isType isCondition listOk firstRecord shapeOk badMember badType badGroup badAllow badTransition badConstraint badField
@@ -36,9 +38,9 @@ unfolding
     sample empty sectionOf withRecord fieldFault newNumber ownFault addFault newImage overwrite bufferAfter
     anyOf allOf isIn setOf unionOf within touches sameSet
     asks live ruleOf constraintOf requestOf rulesOf constraintsOf
-    tests covers reaches separationBroken rosterBroken companionBroken broken applies inside fails firstAt decisionOf judge decide queryFault answerFault answer
-    withSpace extended g0 allow companion oneMember banned separation allowGroup backTransition longRoster companionOfGroup rosterOfGroup ask cases clauseCases given expectedOf reordered
-computed = (refl, adds, order, refl, refusals)
+    tests covers passes steps nearestOf greatest nearestBy nearest reaches separationBroken rosterBroken companionBroken broken applies inside fails firstAt decisionOf judge decide queryFault answerFault answer
+    withSpace extended g0 allow companion oneMember banned separation allowGroup backTransition longRoster companionOfGroup rosterOfGroup ask cases clauseCases off stepCases given expectedOf reordered
+computed = (refl, adds, order, refl, refusals, refl)
   where
     adds : MarkedAdds
     adds = record { separated = refl; rostered = refl; companied = refl; helped = refl; numbered = refl; rules-stay = refl }
@@ -117,6 +119,9 @@ clause-cases = computed .3
 pub refusal-cases : RefusalCases
 refusal-cases = computed .4
 
+pub step-cases : StepCases
+step-cases = computed .5
+
 -- some of the table's answers, each by itself
 abbrev asked : ℕ → ℕ → ℕ → ℕ → Query
 asked s d c a = record { source = s; dest = d; class = c; action = a }
@@ -124,7 +129,8 @@ asked s d c a = record { source = s; dest = d; class = c; action = a }
 pub record Answers : Type 0 where
   pub member : answer sample (asked 10 21 5 1) ≡ gives (permitted 0)
   pub group : answer sample (asked 10 g0 5 1) ≡ gives (permitted 0)
-  pub off : answer sample (asked 13 21 5 1) ≡ gives notPermitted
+  pub off : answer sample (asked 13 21 5 1) ≡ gives (notPermitted (Near 1 0))
+  pub no-rules : answer empty (asked 0 0 0 0) ≡ gives (notPermitted NoRules)
   pub transition : answer sample (asked 12 20 9 9) ≡ gives (permitted 2)
   pub rostered : answer (extended sample (allow 14 g0 7 7)) (asked 10 21 5 1) ≡ gives (unknown 0 0)
   pub companied : answer (extended sample companion) (asked 10 21 5 1) ≡ gives (unknown 0 2)
@@ -133,11 +139,36 @@ pub record Answers : Type 0 where
 
 pub marked-answers : MarkedCases → Answers
 unfolding cases given expectedOf ask
-marked-answers e = record { member = row 0; group = row 1; off = row 2; transition = row 3; rostered = row 6; companied = row 8; no-source = row 11; no-group-1 = row 12 }
+marked-answers e = record { member = row 0; group = row 1; off = row 2; no-rules = row 10; transition = row 3; rostered = row 6; companied = row 8; no-source = row 11; no-group-1 = row 12 }
   where
-    row : (n : ℕ) → getD (map given cases) n (gives notPermitted) ≡ getD (map expectedOf cases) n (gives notPermitted)
-    row n = ap (λ (xs : List (Outcome Decision)). getD xs n (gives notPermitted)) e
+    row : (n : ℕ) → getD (map given cases) n (gives (notPermitted NoRules)) ≡ getD (map expectedOf cases) n (gives (notPermitted NoRules))
+    row n = ap (λ (xs : List (Outcome Decision)). getD xs n (gives (notPermitted NoRules))) e
 
 pub cases-many : length cases ≡ 14
 unfolding cases
 cases-many = refl
+
+-- the rows of the steps' table: how many, and the one of the last rule
+pub steps-many : length stepCases ≡ 23
+unfolding stepCases
+steps-many = refl
+
+pub last-rule-near : StepCases → answer (extended sample (allow 14 21 5 7)) (asked 14 21 5 8) ≡ gives (notPermitted (Near 4 4))
+unfolding stepCases given expectedOf ask
+last-rule-near e = ap (λ (xs : List (Outcome Decision)). getD xs 17 (gives (notPermitted NoRules))) e
+
+-- the sample's rules: rule 0, of class 5 and action 1; rule 2, a transition; rule 3, which is off; and the empty policy's
+pub record SampleRules : Type 0 where
+  pub many : length (policyOf sample .rules) ≡ 4
+  pub first : getD (getD (policyOf sample .rules) 0 []) 1 0 ≡ 2
+  pub on : getD (getD (policyOf sample .rules) 0 []) 10 0 ≡ 1
+  pub class : wordAt (getD (policyOf sample .rules) 0 []) 6 ≡ 5
+  pub action : wordAt (getD (policyOf sample .rules) 0 []) 8 ≡ 1
+  pub transition : getD (getD (policyOf sample .rules) 2 []) 1 0 ≡ 3
+  pub allow : getD (getD (policyOf sample .rules) 3 []) 1 0 ≡ 2
+  pub off : getD (getD (policyOf sample .rules) 3 []) 10 0 ≡ 0
+  pub none : policyOf empty .rules ≡ []
+
+pub sample-rules : SampleRules
+unfolding flatten wordAt words countPlace countOf firstRecord recordAt placeAfter recordsAt startOf placeOf endOf policyOf sample empty
+sample-rules = record { many = refl; first = refl; on = refl; class = refl; action = refl; transition = refl; allow = refl; off = refl; none = refl }

@@ -1,12 +1,15 @@
 pub mod Search
+pub mod Nearness
 pub mod Implies
 pub mod Above
 pub mod Kept
 pub mod Order
 pub mod Lowest
+pub mod Steps
 pub mod Growth
 pub mod Filled
 pub mod Tepla
+pub mod Before
 pub mod Answers
 pub mod Cases
 pub mod Numbers

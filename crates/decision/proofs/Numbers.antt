@@ -2,7 +2,7 @@
 --     check-fits      the check's refusal fits, by the law that says how large one is
 --     known-fits      so does a refusal that is known
 --     refused-kind, refused-back   what a host reads from the number of a refusal that fits
---     host-permitted, host-refused, host-unknown, host-none   what a host reads, by the kind
+--     host-permitted, host-refused, host-unknown, host-none   what a host reads, by the kind; host-no-rules, host-near: of the nearest
 --     accepted-read   what a host reads from the number of an answer on an accepted image is the answer
 use Prim.Native.Nat.{ℕ, _≤_, _<_}
 use mathlib.Core.Path.{_≡_, refl, sym, subst, _∙_}
@@ -23,10 +23,11 @@ use Rattle.format.proofs.ByCase.{limit-rules, limit-constraints}
 use Rattle.format.proofs.Accepted.{accepted-header}
 use Rattle.format.proofs.Bounds.{check-small}
 use Rattle.decision.specs.declared.Query.{Query}
+use Rattle.decision.specs.declared.Nearest.the-variants.{NoRules, Near}
 use Rattle.decision.specs.Decide.{Decision, notPermitted, permitted, unknown, answer}
-use Rattle.decision.specs.Numbers.{partsOf, refusalCode, decisionCode, kindPart, thirdPart, fourthPart, hostRefusal, hostDecision, RefusalFits, OutcomeFits, DecisionFits, DecideWhole, PartsWhole, PartsRead, DecideRead}
+use Rattle.decision.specs.Numbers.{partsOf, refusalCode, decisionCode, kindPart, thirdPart, fourthPart, hostRefusal, hostNearest, hostDecision, RefusalFits, OutcomeFits, DecisionFits, DecideWhole, PartsWhole, PartsRead, DecideRead}
 use Rattle.decision.proofs.Order.{answer-accepted}
-use Rattle.decision.proofs.Answers.{answer-refused, permitted-inside, unknown-inside}
+use Rattle.decision.proofs.Answers.{answer-refused, denied-inside, permitted-inside, unknown-inside}
 
 -- ---- the parts
 
@@ -73,7 +74,10 @@ decide-fits l q fits = go (answer l q) refl
         ⊎-elim (fits f)
         (⊎-elim (λ z. known-fits 8 0 f (sym z) (omega arith) (omega arith)) (λ z. known-fits 9 0 f (sym z) (omega arith) (omega arith)))
         (answer-refused l q f e)
-    go (gives notPermitted) e = tt
+    go (gives (notPermitted NoRules)) e = tt
+    go (gives (notPermitted (Near s n))) e =
+        let h = denied-inside l q s n e in
+        (h .0, omega (arith, h .1, few-rules l (answer-accepted l q (notPermitted (Near s n)) e .0)))
     go (gives (permitted r)) e = omega (arith, permitted-inside l q r e, few-rules l (answer-accepted l q (permitted r) e .0))
     go (gives (unknown r c)) e =
         let a = answer-accepted l q (unknown r c) e .0 in
@@ -86,9 +90,12 @@ decide-whole l b q = decide-fits l q (check-fits l b)
 -- ---- what a host reads
 
 decision-back : (o : Outcome Decision) → OutcomeFits DecisionFits o → hostDecision (decisionCode o) ≡ o
-unfolding hostDecision
+unfolding hostDecision hostNearest partsOf
 decision-back (refused f) h = simp (refused-kind f h, refused-back f h)
-decision-back (gives notPermitted) h = refl
+decision-back (gives (notPermitted NoRules)) h = refl
+decision-back (gives (notPermitted (Near s r))) h =
+    let p = parts-read 0 s r (omega arith) (omega (arith, h .0)) (omega (arith, h .1)) in
+    simp (p .0, p .1, p .2, ne-eqb r 65535 (omega (arith, h .1)))
 decision-back (gives (permitted r)) h =
     let p = parts-read 1 0 r (omega arith) (omega arith) (omega arith) in
     simp (p .0, p .2)
@@ -113,9 +120,19 @@ module _ (n : ℕ) where
   unfolding hostDecision
   host-unknown e = rw e refl
 
-  pub host-none : (kindPart n ≡ 1 → ⊥) → (kindPart n ≡ 2 → ⊥) → (kindPart n ≡ 3 → ⊥) → hostDecision n ≡ gives notPermitted
+  pub host-none : (kindPart n ≡ 1 → ⊥) → (kindPart n ≡ 2 → ⊥) → (kindPart n ≡ 3 → ⊥) → hostDecision n ≡ gives (notPermitted (hostNearest (thirdPart n) (fourthPart n)))
   unfolding hostDecision
   host-none a b c = simp (ne-eqb (kindPart n) 2 b, ne-eqb (kindPart n) 1 a, ne-eqb (kindPart n) 3 c)
+
+-- and of the nearest
+module _ (s r : ℕ) where
+  pub host-no-rules : r ≡ 65535 → hostNearest s r ≡ NoRules
+  unfolding hostNearest
+  host-no-rules e = rw e refl
+
+  pub host-near : (r ≡ 65535 → ⊥) → hostNearest s r ≡ Near s r
+  unfolding hostNearest
+  host-near e = simp (ne-eqb r 65535 e)
 
 pub accepted-read : (l : List ℕ) → Accepted l → (q : Query) → hostDecision (decisionCode (answer l q)) ≡ answer l q
 accepted-read l a q = decision-back (answer l q) (decide-fits l q (λ f e. some-not-none (sym e ∙ a)))

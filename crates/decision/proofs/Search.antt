@@ -1,5 +1,6 @@
 -- Laws of searching a list: whether some element passes a test, whether each does, which is the first. Assumes nothing.
 --     anyOf-intro, anyOf-elim     some element passes: both ways
+--     anyOf-none, anyOf-none-intro   none passes: both ways
 --     allOf-intro, allOf-elim     each passes: both ways
 --     firstAt-some, firstAt-some-intro   the first is the lowest: both ways
 --     lowest-inside, lowest-at, lowest-intro   the lowest is one of the list, and passes: by its place, both ways
@@ -9,7 +10,9 @@
 --     firstAt-any                 there is a first where some element passes
 --     firstAt-none, firstAt-none-intro   there is no first: both ways
 --     anyOf-map, firstAt-map      over a map
---     anyOf-same                  two tests that agree on the list
+--     anyOf-same, firstAt-same    two tests that agree
+--     by-test                     by what a test says
+--     member-at                   element n is one of the list
 use Prim.Native.Nat.{ℕ, zero, suc, _+_, _<_}
 use native.Mathlib.Omega.{arith}
 use mathlib.Core.Path.{_≡_, refl, sym, subst, ap, _∙_}
@@ -28,6 +31,15 @@ unfoldable pub isFound : Option ℕ → Bool
 isFound none = false
 isFound (some n) = true
 
+pub by-test : {C : Type 0} (b : Bool) → (b ≡ true → C) → (b ≡ false → C) → C
+by-test true f g = f refl
+by-test false f g = g refl
+
+pub member-at : {A : Type 0} (xs : List A) (n : ℕ) (d : A) → n < length xs → List·Memᴰ (getD xs n d) xs
+member-at [] n d h = absurd (not-suc-le-zero h)
+member-at (x ∷ xs) zero d h = List·Memᴰ·head refl
+member-at (x ∷ xs) (suc n) d h = List·Memᴰ·tail (member-at xs n d (le-of-suc-le-suc h))
+
 abbrev pub orNow : Option ℕ → ℕ → Bool → Option ℕ
 orNow none i b = cond b (some i) none
 orNow (some n) i b = some n
@@ -45,6 +57,16 @@ module _ {A : Type 0} (f : A → Bool) where
       either (f x) (anyOf f xs) t
       (λ u. (x, List·Memᴰ·head refl, u))
       (λ u. let r = anyOf-elim xs u in (r .0, List·Memᴰ·tail (r .1), r .2))
+
+  pub anyOf-none : {x : A} {xs : List A} → anyOf f xs ≡ false → List·Memᴰ x xs → f x ≡ false
+  unfolding anyOf
+  anyOf-none t (List·Memᴰ·head {x = y} {xs = ys} e) = subst (λ z. f z ≡ false) (sym e) (neither (f y) (anyOf f ys) t .0)
+  anyOf-none t (List·Memᴰ·tail {x = y} {xs = ys} m) = anyOf-none (neither (f y) (anyOf f ys) t .1) m
+
+  pub anyOf-none-intro : (xs : List A) → ((x : A) → List·Memᴰ x xs → f x ≡ false) → anyOf f xs ≡ false
+  unfolding anyOf
+  anyOf-none-intro [] h = refl
+  anyOf-none-intro (x ∷ xs) h = rw (h x (List·Memᴰ·head refl), anyOf-none-intro xs (λ z m. h z (List·Memᴰ·tail m))) refl
 
   pub allOf-elim : {x : A} {xs : List A} → allOf f xs ≡ true → List·Memᴰ x xs → f x ≡ true
   unfolding allOf
@@ -165,6 +187,11 @@ module _ {A : Type 0} (f : A → Bool) where
   unfolding firstAt
   firstAt-map g n [] = refl
   firstAt-map g n (x ∷ xs) = ap (λ (o : Option ℕ). cond (f (g x)) (some n) o) (firstAt-map g (suc n) xs)
+
+  pub firstAt-same : (g : A → Bool) (n : ℕ) (xs : List A) → ((x : A) → f x ≡ g x) → firstAt f n xs ≡ firstAt g n xs
+  unfolding firstAt
+  firstAt-same g n [] h = refl
+  firstAt-same g n (x ∷ xs) h = rw (h x, firstAt-same g (suc n) xs h)
 
   pub anyOf-same : (g : A → Bool) (xs : List A) → ((x : A) → List·Memᴰ x xs → f x ≡ g x) → anyOf f xs ≡ anyOf g xs
   unfolding anyOf

@@ -12,7 +12,7 @@ use Rattle.decision.specs.declared.Query.{Query}
 use Rattle.decision.specs.Sets.{anyOf, allOf, setOf, within}
 use Rattle.decision.specs.Reading.{Rule, Constraint, Request, asks, ruleOf, requestOf, rulesOf, constraintsOf}
 use Rattle.decision.specs.Decide.{tests, covers, broken, applies, inside, fails, notPermitted, permitted, unknown, judge, decide}
-use Rattle.decision.specs.Tepla.{Dcs, NotPermitted, Permitted, UnKnown, compareDecisions, maximalDcs, maximum, typesWithin, allows, evalRule, prdct, evalConstraint, maximalPolicy, evalPolicy, forget, PublishedMeaning, PublishedAnswer, PublishedOrder}
+use Rattle.decision.specs.Tepla.{Dcs, NotPermitted, Permitted, UnKnown, compareDecisions, maximalDcs, maximum, typesWithin, allows, permits, evalRule, prdct, evalConstraint, maximalPolicy, evalPolicy, forget, PublishedMeaning, PublishedAnswer, PublishedOrder}
 use Rattle.decision.specs.Order.{height}
 use Rattle.decision.proofs.Above.{judge-says}
 use Rattle.decision.proofs.Order.{answer-accepted, decided}
@@ -35,13 +35,16 @@ unfolding allOf asks
 rule-tests true on s d c k e n = ap (λ (x : Bool). s && x) (sym (and-true d))
 rule-tests false on s d c k e n = allow-tests on s d (eqb c k) (eqb e n)
 
-rule-covers : (p : Policy) (q : Query) (r : List ℕ) → evalRule p q r ≡ cond (covers (requestOf p q) (ruleOf p r)) Permitted NotPermitted
-unfolding evalRule typesWithin allows covers tests ruleOf requestOf
-rule-covers p q r =
-    ap (λ (x : Bool). cond x Permitted NotPermitted)
-    (rule-tests (eqb (getD r 1 0) 3) (eqb (getD r 1 0) 2 && eqb (getD r 10 0) 1)
+pub permits-covers : (p : Policy) (q : Query) (r : List ℕ) → permits p q r ≡ covers (requestOf p q) (ruleOf p r)
+unfolding permits typesWithin allows covers tests ruleOf requestOf
+permits-covers p q r =
+    rule-tests (eqb (getD r 1 0) 3) (eqb (getD r 1 0) 2 && eqb (getD r 10 0) 1)
     (within (setOf (p .groups) (q .source)) (setOf (p .groups) (wordAt r 2))) (within (setOf (p .groups) (q .dest)) (setOf (p .groups) (wordAt r 4)))
-    (wordAt r 6) (q .class) (wordAt r 8) (q .action))
+    (wordAt r 6) (q .class) (wordAt r 8) (q .action)
+
+rule-covers : (p : Policy) (q : Query) (r : List ℕ) → evalRule p q r ≡ cond (covers (requestOf p q) (ruleOf p r)) Permitted NotPermitted
+unfolding evalRule
+rule-covers p q r = ap (λ (x : Bool). cond x Permitted NotPermitted) (permits-covers p q r)
 
 permitted-or : (x y : Bool) → maximalDcs (cond x Permitted NotPermitted) (cond y Permitted NotPermitted) ≡ cond (x || y) Permitted NotPermitted
 unfolding maximalDcs compareDecisions
@@ -109,7 +112,7 @@ combine false y d e = refl
 
 forget-judge : (rs : List Rule) (cs : List Constraint) (a : Request) → forget (judge rs cs a) ≡ cond (anyOf (covers a) rs) (cond (anyOf (fails rs a) cs) UnKnown Permitted) NotPermitted
 unfolding forget
-forget-judge = judge-says forget NotPermitted Permitted UnKnown refl (λ r. refl) (λ r c. refl)
+forget-judge = judge-says forget NotPermitted Permitted UnKnown (λ x. refl) (λ r. refl) (λ r c. refl)
 
 pub published-meaning : PublishedMeaning
 unfolding evalPolicy decide rulesOf
@@ -128,11 +131,11 @@ published-answer l q e v =
 
 pub published-order : PublishedOrder
 unfolding height forget compareDecisions
-published-order notPermitted e = leb·zero (height e)
-published-order (permitted r) notPermitted = refl
+published-order (notPermitted x) e = leb·zero (height e)
+published-order (permitted r) (notPermitted x) = refl
 published-order (permitted r) (permitted s) = refl
 published-order (permitted r) (unknown s c) = refl
-published-order (unknown r c) notPermitted = refl
+published-order (unknown r c) (notPermitted x) = refl
 published-order (unknown r c) (permitted s) = refl
 published-order (unknown r c) (unknown s d) = refl
 

@@ -1,10 +1,10 @@
--- The marked cases of the sample sheet (document 01), as one table with one claim. The images with records added are those
--- that adding gives, in a buffer that has just the space.
+-- The marked cases of the sample sheet (document 01), as one table with one claim; a denied one has request [2]'s steps and rule. The
+-- images with records added are those that adding gives, in a buffer that has just the space.
 --     g0                the type field of group 0
 --     allow, companion, oneMember, banned   records
 --     withSpace l r     the image l in a buffer that has just the space for the record r as well
 --     extended l r      the buffer after adding r to it
---     Case, ask         a row: image, query, and the answer that document 01 gives
+--     Case, ask         a row: image, query, and the answer that the documents give
 --     cases             the table
 --     given, expectedOf what the definitions give, and the row's answer
 --     MarkedCases       the definitions give these answers
@@ -26,6 +26,7 @@ use Rattle.format.specs.Answers.{Outcome, refused, gives}
 use Rattle.format.specs.Sample.{sample, empty}
 use Rattle.extension.specs.Add.{addFault, newNumber, bufferAfter}
 use Rattle.decision.specs.declared.Query.{Query}
+use Rattle.decision.specs.declared.Nearest.the-variants.{NoRules, Near}
 use Rattle.decision.specs.Sets.{isIn, setOf}
 use Rattle.decision.specs.Decide.{Decision, notPermitted, permitted, unknown, decide, answer}
 use Rattle.decision.specs.Order.{NoCompanion, Extends}
@@ -67,7 +68,7 @@ unfoldable pub cases : List Case
 cases =
     ask sample 10 21 5 1 (gives (permitted 0))
     ∷ ask sample 10 g0 5 1 (gives (permitted 0))
-    ∷ ask sample 13 21 5 1 (gives notPermitted)
+    ∷ ask sample 13 21 5 1 (gives (notPermitted (Near 1 0)))
     ∷ ask sample 12 20 9 9 (gives (permitted 2))
     ∷ ask sample 20 30 5 2 (gives (permitted 1))
     ∷ ask (extended sample (allow 10 30 5 3)) 20 30 5 2 (gives (unknown 1 1))
@@ -75,10 +76,10 @@ cases =
     ∷ ask (extended sample (allow 14 g0 7 7)) 10 g0 5 1 (gives (permitted 0))
     ∷ ask (extended sample companion) 10 21 5 1 (gives (unknown 0 2))
     ∷ ask (extended (extended sample companion) (allow 21 10 5 9)) 10 21 5 1 (gives (permitted 0))
-    ∷ ask empty 0 0 0 0 (gives notPermitted)
+    ∷ ask empty 0 0 0 0 (gives (notPermitted NoRules))
     ∷ ask sample 1024 21 5 1 (refused (refusal 8 0))
     ∷ ask sample 32769 21 5 1 (refused (refusal 8 0))
-    ∷ ask sample 1023 21 5 1 (gives notPermitted)
+    ∷ ask sample 1023 21 5 1 (gives (notPermitted (Near 1 0)))
     ∷ []
 
 unfoldable pub given : Case → Outcome Decision

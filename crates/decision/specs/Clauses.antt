@@ -17,6 +17,7 @@ use Rattle.format.specs.Check.{check}
 use Rattle.format.specs.Answers.{refused, gives}
 use Rattle.format.specs.Sample.{sample}
 use Rattle.extension.specs.Add.{addFault}
+use Rattle.decision.specs.declared.Nearest.the-variants.{Near}
 use Rattle.decision.specs.Decide.{notPermitted, permitted, unknown}
 use Rattle.decision.specs.Cases.{g0, allow, companion, oneMember, banned, extended, Case, ask, given, expectedOf}
 
@@ -66,8 +67,8 @@ clauseCases =
     ∷ ask (extended (extended sample (allow 21 20 7 7)) (longRoster 128 0)) 12 20 5 1 (gives (permitted 2))
     ∷ ask (extended (extended sample companion) (allow 21 30 5 9)) 10 21 5 1 (gives (unknown 0 2))
     ∷ ask (extended (extended sample oneMember) (allow 14 0x8001 7 7)) 10 21 5 1 (gives (unknown 0 0))
-    ∷ ask sample 10 21 6 1 (gives notPermitted)
-    ∷ ask sample 10 21 5 2 (gives notPermitted)
+    ∷ ask sample 10 21 6 1 (gives (notPermitted (Near 3 0)))
+    ∷ ask sample 10 21 5 2 (gives (notPermitted (Near 4 0)))
     ∷ ask (extended (extended sample banned) (allow 10 21 6 1)) 10 21 6 1 (gives (permitted 4))
     ∷ ask (extended (extended sample banned) (allow 10 21 5 2)) 10 21 5 2 (gives (permitted 4))
     ∷ []

@@ -6,7 +6,10 @@ pub mod Order
 pub mod Growth
 pub mod Filled
 pub mod Tepla
+pub mod Before
 pub mod Cases
 pub mod Clauses
+pub mod Steps
 pub mod Numbers
 pub mod Rows
+pub mod Inner

@@ -26,7 +26,7 @@ use Rattle.decision.specs.Sets.{setOf, within}
 use Rattle.decision.specs.Decide.{Decision, notPermitted, permitted, unknown, answer, Valid}
 
 unfoldable pub height : Decision → ℕ
-height notPermitted = 0
+height (notPermitted x) = 0
 height (permitted r) = 1
 height (unknown r c) = 2
 

@@ -3,6 +3,7 @@
 -- documents' texts are cited as 000:149.
 --     Dcs, compareDecisions, maximalDcs, maximum   decisions without numbers, their order, the greater, the greatest
 --     typesWithin, allows      what a rule's record asks of a query: a transition's the first, an allow rule's the second
+--     permits p q r            what the record asks, by its kind
 --     evalRule p q r           a query against a rule's record: R_EvalTE
 --     prdct rs a c             a constraint's predicate: true where it is satisfied
 --     evalConstraint rs a c    a query against a constraint: CSTE_EvalTE
@@ -69,8 +70,11 @@ allows p q r =
     (eqb (getD r 1 0) 2 && eqb (getD r 10 0) 1) && typesWithin p q r && eqb (wordAt r 6) (q .class) && eqb (wordAt r 8) (q .action)
 
 -- 000:155 of a transition "only the types of the subject and object need to be checked"
+unfoldable pub permits : Policy → Query → List ℕ → Bool
+permits p q r = cond (eqb (getD r 1 0) 3) (typesWithin p q r) (allows p q r)
+
 unfoldable pub evalRule : Policy → Query → List ℕ → Dcs
-evalRule p q r = cond (cond (eqb (getD r 1 0) 3) (typesWithin p q r) (allows p q r)) Permitted NotPermitted
+evalRule p q r = cond (permits p q r) Permitted NotPermitted
 
 -- true where the query's types are not within the arguments, else what the predicate says: algorithm 1 (000:114-119) has it
 -- for separation of duty, and document 01 ("A predicate is true where ...") for all four
@@ -94,7 +98,7 @@ evalPolicy p q =
     (maximum (map (evalConstraint (rulesOf p) (requestOf p q)) (constraintsOf p)))
 
 unfoldable pub forget : Decision → Dcs
-forget Decision.notPermitted = NotPermitted
+forget (Decision.notPermitted x) = NotPermitted
 forget (Decision.permitted r) = Permitted
 forget (Decision.unknown r c) = UnKnown
 

@@ -9,9 +9,15 @@ pub struct Query {
     pub action: u16,
 }
 
-// What a query is answered: the decision with its rule and its constraint, or the refusal.
+// How near a rule came to a query that none covers: the steps that it passes, and its number; or there are no rules.
+pub enum Nearest {
+    NoRules,
+    Near(usize, usize),
+}
+
+// What a query is answered: the decision with its rule and its constraint, or how near a rule came; or the refusal.
 pub enum Answer {
-    NotPermitted,
+    NotPermitted(Nearest),
     Permitted(usize),
     UnKnown(usize, usize),
     Refused(Refusal),

@@ -8,7 +8,7 @@ use Rattle.format.specs.Check.{readFields, readOf, readFault, sectionFault, cou
 use Rattle.format.specs.Sample.{sample, empty}
 use Rattle.decision.specs.Sets.{anyOf, allOf, isIn, setOf, unionOf, within, touches, sameSet}
 use Rattle.decision.specs.Reading.{asks, live, ruleOf, constraintOf, requestOf, rulesOf, constraintsOf}
-use Rattle.decision.specs.Decide.{tests, covers, reaches, separationBroken, rosterBroken, companionBroken, broken, applies, inside, fails, firstAt, decisionOf, judge, decide, queryFault, answerFault, answer}
+use Rattle.decision.specs.Decide.{tests, covers, passes, steps, nearestOf, greatest, nearestBy, nearest, reaches, separationBroken, rosterBroken, companionBroken, broken, applies, inside, fails, firstAt, decisionOf, judge, decide, queryFault, answerFault, answer}
 use Rattle.lines.specs.Lines.{widthFrom, width, linesFrom, lines}
 use Rattle.lines.specs.Output.{ending, printed}
 use Rattle.lines.specs.Worked.{ascii, workedLines, lineOf, lineSaid, WorkedLines, asked, workedRuns, runOf, runSaid, WorkedRuns}
@@ -25,7 +25,7 @@ unfolding
     readFields readOf readFault sectionFault countFault headerFault bodyFault check imageIn checkFront
     sample empty
     anyOf allOf isIn setOf unionOf within touches sameSet
-    asks live ruleOf constraintOf requestOf rulesOf constraintsOf tests covers reaches separationBroken rosterBroken companionBroken broken applies inside fails firstAt decisionOf judge decide queryFault answerFault answer
+    asks live ruleOf constraintOf requestOf rulesOf constraintsOf tests covers passes steps nearestOf greatest nearestBy nearest reaches separationBroken rosterBroken companionBroken broken applies inside fails firstAt decisionOf judge decide queryFault answerFault answer
     widthFrom width linesFrom lines ending printed
     ascii asked workedRuns runOf runSaid
 worked-runs = refl

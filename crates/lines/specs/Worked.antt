@@ -1,4 +1,4 @@
--- Lines and whole outputs, written out from document 01.
+-- Lines and whole outputs, written out from document 01 and from request [2].
 --     ascii s        the bytes of a text
 --     WorkedLines    the lines of some outcomes, a place of 5 digits among them
 --     WorkedRuns     the outputs of some inputs
@@ -11,6 +11,7 @@ use lib.ListN.{take, replicate}
 use Rattle.format.specs.Refusals.{refusal}
 use Rattle.format.specs.Answers.{Outcome, refused, gives}
 use Rattle.format.specs.Sample.{sample, empty}
+use Rattle.decision.specs.declared.Nearest.the-variants.{NoRules, Near}
 use Rattle.decision.specs.Decide.{Decision, notPermitted, permitted, unknown}
 use Rattle.lines.specs.Lines.{line}
 use Rattle.lines.specs.Output.{printed}
@@ -25,7 +26,9 @@ pub record WorkedLine : Type 0 where
 
 unfoldable pub workedLines : List WorkedLine
 workedLines =
-    record { outcome = gives notPermitted; says = "N\n" }
+    record { outcome = gives (notPermitted NoRules); says = "N -\n" }
+    ∷ record { outcome = gives (notPermitted (Near 0 0)); says = "N 0 0\n" }
+    ∷ record { outcome = gives (notPermitted (Near 4 1023)); says = "N 4 1023\n" }
     ∷ record { outcome = gives (permitted 0); says = "P 0\n" }
     ∷ record { outcome = gives (permitted 9); says = "P 9\n" }
     ∷ record { outcome = gives (permitted 10); says = "P 10\n" }
@@ -64,11 +67,12 @@ workedRuns =
     ∷ record { input = empty ++ replicate 5 0; says = "R 15 0\n" }
     ∷ record { input = empty ++ replicate 6 0; says = "R 15 0\n" }
     ∷ record { input = empty ++ replicate 7 0; says = "R 15 0\n" }
-    ∷ record { input = empty ++ replicate 8 0; says = "N\n" }
-    ∷ record { input = empty ++ replicate 9 0; says = "N\nR 15 0\n" }
+    ∷ record { input = empty ++ replicate 8 0; says = "N -\n" }
+    ∷ record { input = empty ++ replicate 9 0; says = "N -\nR 15 0\n" }
     ∷ record { input = 1 ∷ 0 ∷ 8 ∷ replicate 20 0; says = "R 3 0\n" }
     ∷ record { input = take 79 sample; says = "R 3 0\n" }
-    ∷ record { input = sample ++ (asked 10 21 5 1 ++ (asked 13 21 5 1 ++ asked 12 20 9 9)); says = "P 0\nN\nP 2\n" }
+    ∷ record { input = sample ++ (asked 10 21 5 1 ++ (asked 13 21 5 1 ++ asked 12 20 9 9)); says = "P 0\nN 1 0\nP 2\n" }
+    ∷ record { input = sample ++ (asked 10 21 5 2 ++ asked 12 30 5 1); says = "N 4 0\nN 2 2\n" }
     ∷ []
 
 unfoldable pub runOf : WorkedRun → List ℕ

@@ -4,8 +4,8 @@ ghost use mathlib.Core.Path.{_≡_};
 ghost use mathlib.Core.List.{[], _∷_, _++_};
 ghost use Prim.Native.Nat.{_+_, _≤_, _<_};
 ghost use lib.ListN.{length};
-ghost use Rattle.decision.specs.Numbers.{hostDecision};
-ghost use Rattle.lines.specs.Lines.{decimal, field, pairLine, line};
+ghost use Rattle.decision.specs.Numbers.{hostNearest, hostDecision};
+ghost use Rattle.lines.specs.Lines.{decimal, field, pairLine, nearestLine, line};
 ghost use Rattle.permit.specs.Inner.Put.{Put};
 
 fn put_byte(byte: u8, output: &mut [u8], at: usize) -> usize
@@ -59,13 +59,26 @@ fn put_permitted(rule: usize, output: &mut [u8], at: usize) -> usize
     put_byte(b'\n', output, end)
 }
 
-// N alone.
-fn put_not_permitted(output: &mut [u8], at: usize) -> usize
+// N and a hyphen.
+fn put_no_rules(output: &mut [u8], at: usize) -> usize
     requires { ⌜ at + 44 ≤ length (now output) ⌝ }
-    ensures { λ r. ⌜ Put (now (output .entry)) (now (output .exit)) at r (78 ∷ 10 ∷ []) × (r ≤ at + 44) ⌝ }
+    ensures { λ r. ⌜ Put (now (output .entry)) (now (output .exit)) at r (78 ∷ 32 ∷ 45 ∷ 10 ∷ []) × (r ≤ at + 44) ⌝ }
 {
-    let end = put_byte(b'N', output, at);
+    let first = put_byte(b'N', output, at);
+    let second = put_byte(b' ', output, first);
+    let end = put_byte(b'-', output, second);
     put_byte(b'\n', output, end)
+}
+
+// N, the steps and the rule; or N and a hyphen, where the rule's number says that there are no rules.
+fn put_not_permitted(steps: usize, rule: usize, output: &mut [u8], at: usize) -> usize
+    requires { ⌜ at + 44 ≤ length (now output) ⌝ }
+    ensures { λ r. ⌜ Put (now (output .entry)) (now (output .exit)) at r (nearestLine (hostNearest steps rule)) × (r ≤ at + 44) ⌝ }
+{
+    if rule == 65535 {
+        return put_no_rules(output, at);
+    }
+    put_pair(b'N', steps, rule, output, at)
 }
 
 // The line of an answer, from its number: the kind, and the two lowest parts. It has at most 44 bytes: a letter, two numbers
@@ -81,6 +94,6 @@ pub(crate) fn put_line(number: u64, output: &mut [u8], at: usize) -> usize
         1 => put_permitted(fourth, output, at),
         2 => put_pair(b'R', third, fourth, output, at),
         3 => put_pair(b'U', third, fourth, output, at),
-        _ => put_not_permitted(output, at),
+        _ => put_not_permitted(third, fourth, output, at),
     }
 }

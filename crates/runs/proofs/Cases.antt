@@ -6,16 +6,17 @@ use Rattle.format.specs.Refusals.{need, _orElse_, unlessRefused}
 use Rattle.format.specs.Format.{knownVersion, limitOf, countPlace, countOf, kindIn, lengthOk, isType, isCondition, listOk, firstRecord, shapeOk, badMember, badType, badGroup, badAllow, badTransition, badConstraint, badField}
 use Rattle.format.specs.Policy.{bodyOf, imageOf, recordAt, placeAfter, recordsAt, startOf, placeOf, endOf, policyOf}
 use Rattle.format.specs.Check.{readFields, readOf, readFault, sectionFault, countFault, headerFault, bodyFault, check, imageIn, checkFront}
-use Rattle.format.specs.Sample.{sample}
+use Rattle.format.specs.Sample.{sample, empty}
 use Rattle.extension.specs.Add.{sectionOf, withRecord, fieldFault, newNumber, ownFault, addFault, newImage, overwrite, bufferAfter}
 use Rattle.decision.specs.Sets.{anyOf, allOf, isIn, setOf, unionOf, within, touches, sameSet}
 use Rattle.decision.specs.Reading.{asks, live, ruleOf, constraintOf, requestOf, rulesOf, constraintsOf}
-use Rattle.decision.specs.Decide.{tests, covers, reaches, separationBroken, rosterBroken, companionBroken, broken, applies, inside, fails, firstAt, decisionOf, judge, decide, queryFault, answerFault, answer}
+use Rattle.decision.specs.Decide.{tests, covers, passes, steps, nearestOf, greatest, nearestBy, nearest, reaches, separationBroken, rosterBroken, companionBroken, broken, applies, inside, fails, firstAt, decisionOf, judge, decide, queryFault, answerFault, answer}
 use Rattle.decision.specs.Cases.{withSpace, extended, g0, allow}
+use Rattle.decision.specs.Steps.{off}
 use Rattle.runs.specs.Runs.{rowsFault, runFault, queriesFault, unfit, firstUnfit, runOf, rowAnswer, answersAfter}
 use Rattle.decision.specs.Numbers.{partsOf, refusalCode}
 use Rattle.runs.specs.Numbers.{rowsOf, numbersFault, numbersRun, rowCode, codesAfter}
-use Rattle.runs.specs.Cases.{member, group, transition, separated, offRule, noSource, noDest, comesOf, saysOf, runCases, RunCases, calls, numberCases, numberOf, codesOf, NumberCases}
+use Rattle.runs.specs.Cases.{member, group, transition, separated, offRule, otherAction, noSource, noDest, comesOf, saysOf, runCases, RunCases, calls, numberCases, numberOf, codesOf, NumberCases}
 use Rattle.runs.specs.Cases as table
 
 computed : RunCases × NumberCases
@@ -24,13 +25,13 @@ unfolding
     knownVersion limitOf countPlace countOf kindIn lengthOk isType isCondition listOk firstRecord shapeOk badMember badType badGroup badAllow badTransition badConstraint badField
     bodyOf imageOf recordAt placeAfter recordsAt startOf placeOf endOf policyOf
     readFields readOf readFault sectionFault countFault headerFault bodyFault check imageIn checkFront
-    sample sectionOf withRecord fieldFault newNumber ownFault addFault newImage overwrite bufferAfter
+    sample empty sectionOf withRecord fieldFault newNumber ownFault addFault newImage overwrite bufferAfter
     anyOf allOf isIn setOf unionOf within touches sameSet
     asks live ruleOf constraintOf requestOf rulesOf constraintsOf
-    tests covers reaches separationBroken rosterBroken companionBroken broken applies inside fails firstAt decisionOf judge decide queryFault answerFault answer
-    withSpace extended g0 allow
+    tests covers passes steps nearestOf greatest nearestBy nearest reaches separationBroken rosterBroken companionBroken broken applies inside fails firstAt decisionOf judge decide queryFault answerFault answer
+    withSpace extended g0 allow off
     rowsFault runFault queriesFault unfit firstUnfit runOf rowAnswer answersAfter
-    member group transition separated offRule noSource noDest comesOf saysOf runCases table.asks
+    member group transition separated offRule otherAction noSource noDest comesOf saysOf runCases table.asks
     partsOf refusalCode rowsOf numbersFault numbersRun rowCode codesAfter calls numberCases numberOf codesOf
 computed = (record { come = refl; say = refl }, record { come = refl; say = refl })
 

@@ -33,7 +33,7 @@ use Rattle.runs.proofs.Faults.{run-faults, same-lengths}
 -- ---- a row
 
 permitted-permits : (o : Outcome Decision) → isPermitted o ≡ true → (r : ℕ) × (o ≡ gives (permitted r))
-permitted-permits (gives notPermitted) e = false-not-true e
+permitted-permits (gives (notPermitted x)) e = false-not-true e
 permitted-permits (gives (permitted r)) e = (r, refl)
 permitted-permits (gives (unknown r c)) e = false-not-true e
 permitted-permits (refused f) e = false-not-true e
@@ -119,13 +119,13 @@ run-refused l qs slots f = (
 -- ---- the slots
 
 outcome-said : (o : Outcome Decision) → answerOutcome (answerOf o) ≡ o
-outcome-said (gives notPermitted) = refl
+outcome-said (gives (notPermitted x)) = refl
 outcome-said (gives (permitted r)) = refl
 outcome-said (gives (unknown r c)) = refl
 outcome-said (refused f) = refl
 
 said-outcome : (a : Answer) → answerOf (answerOutcome a) ≡ a
-said-outcome answers.NotPermitted = refl
+said-outcome (answers.NotPermitted x) = refl
 said-outcome (answers.Permitted r) = refl
 said-outcome (answers.UnKnown r c) = refl
 said-outcome (answers.Refused f) = refl

@@ -55,7 +55,7 @@ result-said none (some n) = refl
 result-said (some f) n = refl
 
 next-result : (f : Option Refusal) (o : Option ℕ) (i : ℕ) (x : Outcome Decision) → nextRun (resultOf f o) i (answerOf x) ≡ resultOf f (orNow o i (not (isPermitted x)))
-next-result none none i (gives notPermitted) = refl
+next-result none none i (gives (notPermitted x)) = refl
 next-result none none i (gives (permitted r)) = refl
 next-result none none i (gives (unknown r c)) = refl
 next-result none none i (refused f) = refl

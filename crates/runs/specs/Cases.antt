@@ -1,6 +1,7 @@
--- Runs on the sample sheet, worked out by hand from document 01's cases and from document 02, request 1.
---     member, group, transition, separated, offRule, noSource, noDest   rows: document 01's marked queries, and two of a type that is none
---     P r, N, R8, R9      what a row is answered: Permitted by rule r, NotPermitted, refused with 8 and with 9
+-- Runs on the sample sheet, worked out by hand from document 01's cases and from document 02, requests 1 and 2.
+--     member, group, transition, separated, offRule, otherAction, noSource, noDest   rows: document 01's marked queries, one of an
+--                         action that no rule has, and two of a type that is none
+--     P r, N s r, R8, R9  what a row is answered: Permitted by rule r, NotPermitted with s steps at rule r, refused with 8 and with 9
 --     blank n             n slots before the run
 --     RunCase, asks       the image, the rows, the slots before; what the run comes to, and what the slots say afterwards
 --     runCases            fit runs of three rows, of one, of 64; the first, a middle and the last row not Permitted, of one row and of 64;
@@ -8,7 +9,7 @@
 --                         image, before 16 and before 17
 --     comesOf, saysOf     what the definitions give
 --     RunCases            that, for each
---     NumberCase, calls, numberCases, numberOf, codesOf, NumberCases   the same over numbers, as C calls it: a number each
+--     NumberCase, calls, numberCases, numberOf, codesOf, NumberCases   over numbers, as C calls it: a number each; all rules off is 0, no rules 65535
 use Prim.Native.Nat.{ℕ}
 use mathlib.Core.Path.{_≡_}
 use mathlib.Core.Option.{Option, none, some}
@@ -16,14 +17,16 @@ use mathlib.Core.List.{List, [], _∷_, _++_, map}
 use lib.ListN.{length, take, set, replicate}
 use Rattle.format.specs.Refusals.{refusal}
 use Rattle.format.specs.Answers.{Outcome, refused, gives}
-use Rattle.format.specs.Sample.{sample}
+use Rattle.format.specs.Sample.{sample, empty}
 use Rattle.decision.specs.declared.Query.{Query}
+use Rattle.decision.specs.declared.Nearest.the-variants.{NoRules, Near}
 use Rattle.decision.specs.Decide.{Decision, notPermitted, permitted, unknown, answerOutcome, queryOf}
 use Rattle.decision.specs.Cases.{g0, allow, extended}
+use Rattle.decision.specs.Steps.{off}
 use Rattle.runs.specs.Runs.{runOf, answerOf, answersAfter}
 use Rattle.runs.specs.Numbers.{numbersRun, codesAfter, runCode}
 
--- Permitted by rules 0, 0, 2 and 1; NotPermitted; refused with 8, and with 9
+-- Permitted by rules 0, 0, 2 and 1; NotPermitted, with 1 step and with 4; refused with 8, and with 9
 unfoldable pub member : Query
 member = queryOf 10 21 5 1
 
@@ -39,6 +42,9 @@ separated = queryOf 20 30 5 2
 unfoldable pub offRule : Query
 offRule = queryOf 13 21 5 1
 
+unfoldable pub otherAction : Query
+otherAction = queryOf 10 21 5 9
+
 unfoldable pub noSource : Query
 noSource = queryOf 1024 21 5 1
 
@@ -51,8 +57,8 @@ Said = Outcome Decision
 abbrev pub P : ℕ → Said
 P r = gives (permitted r)
 
-abbrev pub N : Said
-N = gives notPermitted
+abbrev pub N : ℕ → ℕ → Said
+N s r = gives (notPermitted (Near s r))
 
 abbrev pub R8 : Said
 R8 = refused (refusal 8 0)
@@ -78,16 +84,18 @@ unfoldable pub runCases : List RunCase
 runCases =
     asks sample (member ∷ group ∷ transition ∷ []) 3 (gives none) (P 0 ∷ P 0 ∷ P 2 ∷ [])
     ∷ asks sample (separated ∷ []) 1 (gives none) (P 1 ∷ [])
-    ∷ asks sample (offRule ∷ []) 1 (gives (some 0)) (N ∷ [])
-    ∷ asks sample (offRule ∷ member ∷ offRule ∷ []) 3 (gives (some 0)) (N ∷ P 0 ∷ N ∷ [])
-    ∷ asks sample (member ∷ offRule ∷ transition ∷ []) 3 (gives (some 1)) (P 0 ∷ N ∷ P 2 ∷ [])
-    ∷ asks sample (member ∷ transition ∷ offRule ∷ []) 3 (gives (some 2)) (P 0 ∷ P 2 ∷ N ∷ [])
-    ∷ asks sample (member ∷ noSource ∷ transition ∷ offRule ∷ []) 4 (gives (some 1)) (P 0 ∷ R8 ∷ P 2 ∷ N ∷ [])
+    ∷ asks sample (offRule ∷ []) 1 (gives (some 0)) (N 1 0 ∷ [])
+    ∷ asks sample (offRule ∷ member ∷ offRule ∷ []) 3 (gives (some 0)) (N 1 0 ∷ P 0 ∷ N 1 0 ∷ [])
+    ∷ asks sample (member ∷ offRule ∷ transition ∷ []) 3 (gives (some 1)) (P 0 ∷ N 1 0 ∷ P 2 ∷ [])
+    ∷ asks sample (member ∷ transition ∷ offRule ∷ []) 3 (gives (some 2)) (P 0 ∷ P 2 ∷ N 1 0 ∷ [])
+    ∷ asks sample (member ∷ noSource ∷ transition ∷ offRule ∷ []) 4 (gives (some 1)) (P 0 ∷ R8 ∷ P 2 ∷ N 1 0 ∷ [])
+    ∷ asks sample (otherAction ∷ offRule ∷ member ∷ otherAction ∷ []) 4 (gives (some 0)) (N 4 0 ∷ N 1 0 ∷ P 0 ∷ N 4 0 ∷ [])
+    ∷ asks empty (member ∷ []) 1 (gives (some 0)) (gives (notPermitted NoRules) ∷ [])
     ∷ asks sample (member ∷ group ∷ noSource ∷ []) 3 (gives (some 2)) (P 0 ∷ P 0 ∷ R8 ∷ [])
     ∷ asks sample (noDest ∷ []) 1 (gives (some 0)) (R9 ∷ [])
     ∷ asks (extended sample (allow 10 30 5 3)) (member ∷ separated ∷ transition ∷ []) 3 (gives (some 1)) (P 0 ∷ gives (unknown 1 1) ∷ P 2 ∷ [])
     ∷ asks sample (replicate 64 transition) 64 (gives none) (replicate 64 (P 2))
-    ∷ asks sample (replicate 63 transition ++ (offRule ∷ [])) 64 (gives (some 63)) (replicate 63 (P 2) ++ (N ∷ []))
+    ∷ asks sample (replicate 63 transition ++ (offRule ∷ [])) 64 (gives (some 63)) (replicate 63 (P 2) ++ (N 1 0 ∷ []))
     ∷ asks sample (replicate 65 transition) 65 (refused (refusal 16 0)) (blank 65)
     ∷ asks sample [] 0 (refused (refusal 16 0)) []
     ∷ asks sample [] 2 (refused (refusal 16 0)) (blank 2)
@@ -127,12 +135,16 @@ calls l ns m n s = record { image = l; numbers = ns; slots = m; comes = n; says 
 unfoldable pub numberCases : List NumberCase
 numberCases =
     calls sample (10 ∷ 21 ∷ 5 ∷ 1 ∷ 12 ∷ 20 ∷ 9 ∷ 9 ∷ []) 2 0x100000000 (0x100000000 ∷ 0x100000002 ∷ [])
-    ∷ calls sample (20 ∷ 30 ∷ 5 ∷ 2 ∷ 13 ∷ 21 ∷ 5 ∷ 1 ∷ []) 2 1 (0x100000001 ∷ 0 ∷ [])
-    ∷ calls sample (13 ∷ 21 ∷ 5 ∷ 1 ∷ []) 1 0 (0 ∷ [])
+    ∷ calls sample (20 ∷ 30 ∷ 5 ∷ 2 ∷ 13 ∷ 21 ∷ 5 ∷ 1 ∷ []) 2 1 (0x100000001 ∷ 0x10000 ∷ [])
+    ∷ calls sample (13 ∷ 21 ∷ 5 ∷ 1 ∷ []) 1 0 (0x10000 ∷ [])
+    ∷ calls sample (10 ∷ 21 ∷ 5 ∷ 9 ∷ []) 1 0 (0x40000 ∷ [])
+    ∷ calls sample (20 ∷ 30 ∷ 6 ∷ 2 ∷ []) 1 0 (0x30001 ∷ [])
+    ∷ calls empty (13 ∷ 21 ∷ 5 ∷ 1 ∷ []) 1 0 (0xFFFF ∷ [])
+    ∷ calls (extended empty (off (allow 10 21 5 1))) (10 ∷ 21 ∷ 5 ∷ 1 ∷ []) 1 0 (0 ∷ [])
     ∷ calls sample (10 ∷ 21 ∷ 5 ∷ 1 ∷ 1024 ∷ 21 ∷ 5 ∷ 1 ∷ []) 2 1 (0x100000000 ∷ 0x200080000 ∷ [])
     ∷ calls sample (10 ∷ 32769 ∷ 5 ∷ 1 ∷ []) 1 0 (0x200090000 ∷ [])
     ∷ calls (extended sample (allow 10 30 5 3)) (20 ∷ 30 ∷ 5 ∷ 2 ∷ []) 1 0 (0x300010001 ∷ [])
-    ∷ calls sample (replicate 256 0) 64 0 (replicate 64 0)
+    ∷ calls sample (replicate 256 0) 64 0 (replicate 64 0x10000)
     ∷ calls sample [] 0 0x200100000 []
     ∷ calls sample (12 ∷ 20 ∷ 9 ∷ []) 1 0x200100000 (7 ∷ [])
     ∷ calls sample (12 ∷ 20 ∷ 9 ∷ 9 ∷ 12 ∷ []) 1 0x200110000 (7 ∷ [])

@@ -37,7 +37,7 @@ unfoldable pub queriesFault : List ℕ → ℕ → ℕ → Option Refusal
 queriesFault l rows slots = runFault l rows (eqb slots rows)
 
 abbrev pub isPermitted : Outcome Decision → Bool
-isPermitted (gives notPermitted) = false
+isPermitted (gives (notPermitted x)) = false
 isPermitted (gives (permitted r)) = true
 isPermitted (gives (unknown r c)) = false
 isPermitted (refused f) = false
@@ -52,7 +52,7 @@ unfoldable pub runOf : List ℕ → List Query → ℕ → Outcome (Option ℕ)
 runOf l qs slots = outcome (queriesFault l (length qs) slots) (firstUnfit l qs)
 
 abbrev pub answerOf : Outcome Decision → Answer
-answerOf (gives notPermitted) = answers.NotPermitted
+answerOf (gives (notPermitted x)) = answers.NotPermitted x
 answerOf (gives (permitted r)) = answers.Permitted r
 answerOf (gives (unknown r c)) = answers.UnKnown r c
 answerOf (refused f) = answers.Refused f

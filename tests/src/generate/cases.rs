@@ -38,12 +38,15 @@ pub fn record_case(seed: u64) -> (Vec<u8>, Section, u16) {
     (image(random, &draft, 20), section, n as u16)
 }
 
+/// An accepted policy and some queries.
+pub fn draft_case(seed: u64) -> (Draft, Vec<Query>) {
+    policy_and_queries(&mut Random::new(seed))
+}
+
 /// An image, seldom damaged, and some queries.
 pub fn decide_case(seed: u64) -> (Vec<u8>, Vec<Query>) {
     let random = &mut Random::new(seed);
-    let alphabet = Alphabet::new(random);
-    let draft = policy(random, &alphabet);
-    let queries = (0..6).map(|_| query(random, &alphabet, &draft)).collect();
+    let (draft, queries) = policy_and_queries(random);
     (image(random, &draft, 10), queries)
 }
 
@@ -114,6 +117,13 @@ pub fn permit_case(seed: u64) -> Vec<u8> {
         input.extend(random.bytes(left));
     }
     input
+}
+
+fn policy_and_queries(random: &mut Random) -> (Draft, Vec<Query>) {
+    let alphabet = Alphabet::new(random);
+    let draft = policy(random, &alphabet);
+    let queries = (0..6).map(|_| query(random, &alphabet, &draft)).collect();
+    (draft, queries)
 }
 
 fn image(random: &mut Random, draft: &Draft, damaged_percent: usize) -> Vec<u8> {

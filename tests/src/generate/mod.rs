@@ -14,5 +14,5 @@ mod pairs;
 mod policy;
 mod query;
 
-pub use cases::{add_case, check_case, decide_case, permit_case, policy_case, record_case, run_case};
+pub use cases::{add_case, check_case, decide_case, draft_case, permit_case, policy_case, record_case, run_case};
 pub use pairs::{pair_case, HeldPair};

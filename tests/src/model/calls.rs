@@ -5,7 +5,7 @@ use super::decide::Verdict;
 use super::policy::Policy;
 use super::{refusal, Model, Slip};
 use crate::subject::{Answer, Subject};
-use mungaite::{Decision, Query, Refusal, Run, Section};
+use mungaite::{Decision, Nearest, Query, Refusal, Run, Section};
 use std::ops::Range;
 
 impl Subject for Model {
@@ -115,7 +115,15 @@ impl Model {
     /// The program's line for an answer.
     fn line(self, answer: Answer) -> String {
         match answer {
-            Ok(Decision::NotPermitted) => "N\n".to_string(),
+            Ok(Decision::NotPermitted { .. }) if self.slips(Slip::DenialAlone) => "N\n".to_string(),
+            Ok(Decision::NotPermitted { nearest: Some(Nearest { steps, rule }) }) => match self.slip {
+                Some(Slip::RuleBeforeSteps) => format!("N {rule} {steps}\n"),
+                _ => format!("N {steps} {rule}\n"),
+            },
+            Ok(Decision::NotPermitted { nearest: None }) => match self.slip {
+                Some(Slip::NoRulesAsNumbers) => "N 0 65535\n".to_string(),
+                _ => "N -\n".to_string(),
+            },
             Ok(Decision::Permitted { rule }) => format!("P {rule}\n"),
             Ok(Decision::UnKnown { rule, constraint }) if self.slips(Slip::ConstraintBeforeRule) => {
                 format!("U {constraint} {rule}\n")

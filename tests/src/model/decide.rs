@@ -21,7 +21,7 @@ impl Model {
             (None, Some(c)) if self.slips(Slip::FailureLiftsUncovered) => {
                 Decision::UnKnown { rule: 0, constraint: c as u16 }
             }
-            (None, _) => Decision::NotPermitted,
+            (None, _) => Decision::NotPermitted { nearest: self.nearest(policy, query) },
             (Some(&r), None) => Decision::Permitted { rule: r as u16 },
             (Some(&r), Some(c)) => Decision::UnKnown { rule: r as u16, constraint: c as u16 },
         }

@@ -1,5 +1,5 @@
-//! A model of document 01, with request [1] of document 02, written without a look at the engine's code: sets of
-//! numbers, plain structs, nothing made fast.
+//! A model of document 01, with requests [1] and [2] of document 02, written without a look at the engine's code: sets
+//! of numbers, plain structs, nothing made fast.
 //!
 //! - `bytes`: numbers in bytes; an image as three lists of records
 //! - `check`: which images are accepted, and the first cause where one is not
@@ -7,6 +7,7 @@
 //! - `policy`: an accepted image with every type as its set
 //! - `predicate`: the four predicates
 //! - `decide`: cover, and the decision
+//! - `nearest`: how near a denied query came
 //! - `rows`: many queries at once
 //! - `adding`: one more record in a buffer
 //! - `calls`: the engine's calls and the program
@@ -18,6 +19,7 @@ mod calls;
 mod check;
 mod decide;
 mod fields;
+mod nearest;
 mod policy;
 mod predicate;
 mod rows;
@@ -27,14 +29,14 @@ pub use slip::Slip;
 
 use mungaite::Refusal;
 
-/// Document 01, or document 01 with one mistake.
+/// The documents, or the documents with one mistake.
 #[derive(Clone, Copy)]
 pub struct Model {
     slip: Option<Slip>,
 }
 
 impl Model {
-    /// Document 01 as it is written.
+    /// The documents as they are written.
     pub const RIGHT: Model = Model { slip: None };
 
     /// The model that makes one mistake.

@@ -3,7 +3,7 @@
 use super::policy::{Request, Set};
 use super::{refusal, Model, Slip};
 use crate::subject::{Answer, Subject};
-use mungaite::{Decision, Query, Refusal, Run};
+use mungaite::{Decision, Nearest, Query, Refusal, Run};
 use std::collections::BTreeMap;
 
 impl Model {
@@ -21,6 +21,7 @@ impl Model {
             Some(Slip::SourceKept) => self.with_types_kept(image, queries, |request| &mut request.source),
             Some(Slip::DestinationKept) => self.with_types_kept(image, queries, |request| &mut request.destination),
             Some(Slip::FailureKept) => self.with_failure_kept(image, queries),
+            Some(Slip::NearestKept) => self.with_nearest_kept(image, queries),
             _ => queries.iter().map(|&query| self.decide(image, query)).collect(),
         };
         if let (true, Some(Err(refused))) = (self.slips(Slip::RefusedRowRefuses), answered.iter().find(|a| a.is_err()))
@@ -60,6 +61,19 @@ impl Model {
                 Ok(Decision::UnKnown { rule, constraint })
             }
             (answer, _) => answer,
+        };
+        queries.iter().map(answer).collect()
+    }
+
+    fn with_nearest_kept(self, image: &[u8], queries: &[Query]) -> Vec<Answer> {
+        let mut kept: Option<Nearest> = None;
+        let answer = |&query: &Query| match self.decide(image, query) {
+            Ok(Decision::NotPermitted { nearest }) => {
+                let steps = |nearest: Option<Nearest>| nearest.map_or(0, |nearest| nearest.steps);
+                kept = if steps(kept) > steps(nearest) { kept } else { nearest };
+                Ok(Decision::NotPermitted { nearest: kept })
+            }
+            other => other,
         };
         queries.iter().map(answer).collect()
     }
@@ -104,7 +118,7 @@ impl Model {
         match answer {
             Ok(Decision::Permitted { .. }) => true,
             Ok(Decision::UnKnown { .. }) => self.slips(Slip::UnKnownRowFits),
-            Ok(Decision::NotPermitted) => false,
+            Ok(Decision::NotPermitted { .. }) => false,
             Err(_) => self.slips(Slip::RefusedRowFits),
         }
     }

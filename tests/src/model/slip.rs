@@ -14,7 +14,8 @@ impl Predicate {
     const ALL: [Predicate; 3] = [Predicate::Separation, Predicate::Roster, Predicate::Companion];
 }
 
-/// The mistakes, each with what the mistaken model does. One with a kind in brackets is a mistake for each of that kind.
+/// The mistakes, each with what the mistaken model does. One with a kind in brackets is a mistake for each of that
+/// kind.
 macro_rules! slips {
     ($($name:ident $(($kind:ident))? => $says:literal,)*) => {
         /// One mistake.
@@ -66,7 +67,7 @@ slips! {
     DestinationNotCompared => "a rule covers whatever its destination",
     ClassNotCompared => "an allow rule covers queries of any class",
     ActionNotCompared => "an allow rule covers queries of any action",
-    TransitionOfOneClass => "a transition covers only queries of its class",
+    TransitionOfOneClass => "a transition has a class step, so it covers only queries of its class",
     TransitionNeverCovers => "a transition covers nothing",
     GroupJudgedOnce => "a group that is a rule's source and its destination is compared as destination alone",
     FirstMemberLost => "a group's first member is lost",
@@ -114,6 +115,29 @@ slips! {
     CompanionByTwoRules => "the companion is found in two rules, one by its source, one by its destination",
     CompanionBySource => "the companion's destination is not looked at",
     CompanionByDestination => "the companion's source is not looked at",
+    // How near a denied query came.
+    HighestNearest => "of the rules with the most steps the highest is named",
+    RuleZeroNearest => "rule 0 is named, whichever rule has the most steps",
+    FewestSteps => "the fewest steps are given, and a rule that has them",
+    FirstStepEnds => "the search for the nearest ends at the first rule that passes a step",
+    LastRuleNotNear => "the last rule is skipped where the nearest is searched for",
+    OffRulesLeftOut => "rules that are off are left out, so that where all are off there are no rules",
+    TransitionsLeftOut => "only an allow rule can be the nearest",
+    StepsForgotten => "a denied query gets no rules, whatever rules there are",
+    NoRulesAreRuleZero => "where there are no rules, rule 0 is named with no step",
+    AllPassesCount => "steps that pass behind the first failure count",
+    FailedStepCounts => "the step that fails counts",
+    OffRuleGoesOn => "a rule that is off counts with its later steps",
+    ConditionLast => "the condition is the last step",
+    ClassBeforeSource => "the class is looked at before the source",
+    DestinationBeforeSource => "the destination is looked at before the source",
+    ActionBeforeClass => "the action is looked at before the class",
+    TransitionHelped => "a transition of the query's class has one step more",
+    TransitionHurt => "a transition of another class has no step",
+    TransitionWithoutFirstStep => "a transition's first step does not count",
+    NearByTouch => "a step passes where the types only touch",
+    NearOutward => "a step passes where the rule's type is within the query's",
+    NearBySameSet => "a step passes for the rule's own type only",
     // Checking: header and records.
     AnyVersion => "any version passes",
     VersionBeforeSize => "a wrong version comes before an image under 9 bytes",
@@ -192,6 +216,7 @@ slips! {
     SourceKept => "a row's source has the basic types of the rows before it too",
     DestinationKept => "a row's destination has the basic types of the rows before it too",
     FailureKept => "a constraint that fails for a row fails for later rows of that class and action",
+    NearestKept => "a denied row gets the nearest of the rows before it where that has more steps",
     RowLimitReached => "64 rows are refused",
     RowLimitPassed => "65 rows pass",
     NoRowsPass => "a run of no rows is fit",
@@ -208,4 +233,7 @@ slips! {
     LeftoverIgnored => "the program ignores 1 to 7 bytes left",
     LeftoverAlone => "the program answers no query where 1 to 7 bytes are left",
     ConstraintBeforeRule => "the program prints the constraint before the rule",
+    DenialAlone => "the program prints N alone",
+    RuleBeforeSteps => "the program prints the rule before the steps",
+    NoRulesAsNumbers => "the program prints N 0 65535 where there are no rules",
 }

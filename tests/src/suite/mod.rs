@@ -5,10 +5,13 @@ mod mutation;
 mod order;
 mod random;
 mod reached;
+mod reached_steps;
 mod round_trip;
 mod rows;
+mod steps;
 mod streams;
 mod sweep;
+mod tally;
 mod watched;
 mod worked;
 
@@ -21,7 +24,8 @@ fn differential() -> Vec<Cases> {
 
 /// The tests of any engine.
 fn of_any() -> Vec<Cases> {
-    [worked::TESTS, &differential(), rows::TESTS, round_trip::TESTS, order::TESTS, sweep::PROGRAM].concat()
+    [worked::TESTS, &differential(), rows::TESTS, steps::TESTS, round_trip::TESTS, order::TESTS, sweep::PROGRAM]
+        .concat()
 }
 
 pub fn all(run: &mut Run) {

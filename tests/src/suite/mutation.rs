@@ -1,12 +1,12 @@
 //! The tests have teeth: a worked row notices each mistake that the model can make, and so do the generated inputs.
 
-use super::{differential, order, round_trip, rows, worked};
+use super::{differential, order, round_trip, rows, steps, worked};
 use crate::compare::Pair;
 use crate::model::{Model, Slip};
 use crate::runner::{run_case, Cases, Finding, Run, Whole, PANIC};
 
 /// Mistakes that the tests of the engine's answers alone must notice, with the mistaken model in the engine's place.
-const PROPERTIES: [(Cases, Slip); 14] = [
+const PROPERTIES: [(Cases, Slip); 22] = [
     (order::PAIRS, Slip::LastRuleSkipped),
     (order::PAIRS, Slip::CoverByTouch),
     (order::PAIRS, Slip::SeparationOfTwoRules),
@@ -17,6 +17,14 @@ const PROPERTIES: [(Cases, Slip); 14] = [
     (rows::AMONG_OTHERS, Slip::SourceKept),
     (rows::AMONG_OTHERS, Slip::DestinationKept),
     (rows::AMONG_OTHERS, Slip::FailureKept),
+    (rows::AMONG_OTHERS, Slip::NearestKept),
+    (steps::ONE_BY_ONE, Slip::HighestNearest),
+    (steps::ONE_BY_ONE, Slip::FirstStepEnds),
+    (steps::ONE_BY_ONE, Slip::LastRuleNotNear),
+    (steps::ONE_BY_ONE, Slip::RuleZeroNearest),
+    (steps::ONE_BY_ONE, Slip::OffRulesLeftOut),
+    (steps::ONE_BY_ONE, Slip::FewestSteps),
+    (steps::FORGOTTEN, Slip::OffRuleCovers),
     (round_trip::MIXED, Slip::AddedAtImageEnd),
     (round_trip::RANDOM, Slip::RestCleared),
     (round_trip::RANDOM, Slip::RecordPastEnd),

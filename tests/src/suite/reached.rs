@@ -2,16 +2,13 @@
 
 use super::order::{decisions, PAIRS};
 use super::random::{ADD, CHECK, DECIDE, RECORD, RUN};
+use super::reached_steps;
+use super::tally::Tally;
 use crate::compare::unanswered;
 use crate::generate::{add_case, check_case, decide_case, pair_case, record_case, run_case};
 use crate::model::Model;
 use crate::runner::{Finding, Run, Whole};
 use crate::subject::{Answer, Subject};
-use std::collections::BTreeMap;
-use std::fmt::Debug;
-
-/// Each outcome must be reached so many times.
-const OFTEN: usize = 20;
 
 pub fn tests() -> Vec<Whole> {
     let test = |name: &str, run: fn(&Run) -> Finding| Whole { name: name.to_string(), run: Box::new(run) };
@@ -21,35 +18,11 @@ pub fn tests() -> Vec<Whole> {
         test("reached/decide", decide),
         test("reached/run", run),
         test("reached/add", add),
+        test("reached/steps", reached_steps::nearest),
+        test("reached/run-steps", reached_steps::rows),
         test("reached/predicates", predicates),
         test("reached/order", order),
     ]
-}
-
-/// How often each outcome was seen.
-struct Tally<T>(BTreeMap<T, usize>);
-
-impl<T: Ord + Debug> Tally<T> {
-    fn new() -> Tally<T> {
-        Tally(BTreeMap::new())
-    }
-
-    fn see(&mut self, outcome: T) {
-        *self.0.entry(outcome).or_default() += 1;
-    }
-
-    /// Exactly the expected outcomes were seen, each often enough.
-    fn judge(self, mut expected: Vec<T>) -> Finding {
-        expected.sort();
-        let seen: Vec<&T> = self.0.keys().collect();
-        let shown = format!("{:?}", self.0);
-        let full = seen == expected.iter().collect::<Vec<_>>() && self.0.values().all(|&times| times >= OFTEN);
-        if full {
-            Ok(shown)
-        } else {
-            Err(format!("seen {shown}, expected each of {expected:?} {OFTEN} times or more"))
-        }
-    }
 }
 
 /// Refusals by number; 0 stands for an accepted call.

@@ -51,7 +51,8 @@ fn rows(engine: &dyn Subject, seed: u64) -> (Vec<u8>, Vec<Query>) {
     (image, queries)
 }
 
-/// The answers of a run that is not refused. It is fit where all of them are Permitted; else it names the first that is not.
+/// The answers of a run that is not refused. It is fit where all of them are Permitted; else it names the first that is
+/// not.
 fn answers(engine: &dyn Subject, image: &[u8], queries: &[Query]) -> Result<Vec<Answer>, String> {
     let mut answers = unanswered(queries.len());
     let said = engine.run(image, queries, &mut answers);

@@ -47,7 +47,8 @@ fn waiting_host(_: &Pair, case: u64) -> Outcome {
     child.ends("", "")
 }
 
-/// Case n: an input on which no read waits, where all is late: the image after 9 n of its bytes, and each query after n.
+/// Case n: an input on which no read waits, where all is late: the image after 9 n of its bytes, and each query after
+/// n.
 fn late_input(_: &Pair, case: u64) -> Outcome {
     let (mut input, child) = with_late_input()?;
     sleep(LATE);
@@ -89,8 +90,8 @@ fn late_output(_: &Pair, _: u64) -> Outcome {
     }
 }
 
-/// Case n: an input that breaks after two queries and n bytes of a third; with 8, in the middle of the image. Nothing is
-/// written for what is left, since the input has not ended.
+/// Case n: an input that breaks after two queries and n bytes of a third; with 8, in the middle of the image. Nothing
+/// is written for what is left, since the input has not ended.
 fn broken_input(_: &Pair, case: u64) -> Outcome {
     let (mut ours, theirs) = pair()?;
     // the peer of a stream that is closed with bytes unread is told so by an error
@@ -104,7 +105,7 @@ fn broken_input(_: &Pair, case: u64) -> Outcome {
         }
         left => {
             send(&mut ours, &[&SAMPLE[..], &queries[..16 + left as usize]].concat())?;
-            "P 0\nN\n"
+            "P 0\nN 1 0\n"
         }
     };
     sleep(LATE);
@@ -187,7 +188,7 @@ fn pair() -> Result<(UnixStream, UnixStream), String> {
 
 /// Sends the document's three queries, each in two, and reads each one's line before the next.
 fn answers(to: &mut impl Write, child: &Watched, first: usize, pause: Duration) -> Outcome {
-    for (query, expected) in [(QUERIES[0], "P 0\n"), (QUERIES[2], "N\n"), (QUERIES[3], "P 2\n")] {
+    for (query, expected) in [(QUERIES[0], "P 0\n"), (QUERIES[2], "N 1 0\n"), (QUERIES[3], "P 2\n")] {
         in_two(to, &query.to_bytes(), first, pause)?;
         child.says(expected)?;
     }

@@ -2,9 +2,10 @@
 --     bit b                    1 for yes and 0 for no
 --     Kept f table             what is kept of f: 1 more than f says of a number, or 0 where it was not asked
 --     KeptTest f l kept        of a test f of the groups' sets
---     outsideIn kept t         that a set is not within the type t is kept; keepOutside kept t: it is then, of a group
---     Side l t ms size table   a query's source or destination t: its marks and its size, and what is kept of the groups that it
---                              is within
+--     outsideIn ms kept t      that a set is not within the type t is known from its marks, or kept; keepOutside kept t: it is kept
+--                              then, of a group
+--     Side l t ms size table   a query's source or destination t, a type: its marks and its size, and what is kept of the groups
+--                              that it is within
 --     Sides l q ..             a query's two sides
 --     verdictOf l n            whether the rules break the predicate of constraint n
 --     KeptNames l names, KeptVerdicts l verdicts   of the groups' names, and of the verdicts
@@ -15,12 +16,14 @@
 --     Leaves x K r             the answer is x, and what is kept is right after it
 use Prim.Native.Nat.{ℕ, _+_, _-_, _<_}
 use mathlib.Core.Path.{_≡_}
-use mathlib.Core.Bool.{Bool, false, cond}
+use mathlib.Core.Bool.{Bool, false, not, cond}
 use mathlib.Core.List.{List}
 use lib.ListN.{getD, set}
 use lib.Dec.{eqb, ltb}
-use Rattle.format.specs.declared.Section.the-variants.{Constraints}
+use Rattle.format.specs.declared.Section.the-variants.{Groups, Constraints}
+use Rattle.format.specs.Format.{countOf}
 use Rattle.format.specs.Policy.{placeOf}
+use Rattle.format.specs.Claims.{IsType}
 use Rattle.decision.specs.declared.Query.{Query}
 use Rattle.decision.specs.Decide.{broken}
 use Rattle.decide.specs.Inner.Parts.{rulesIn, constraintIn, setIn, groupSet}
@@ -36,13 +39,14 @@ pub record Kept (f : ℕ → ℕ) (table : List ℕ) : Type 0 where
 abbrev pub KeptTest : (List ℕ → Bool) → List ℕ → List ℕ → Type 0
 KeptTest f l = Kept (λ g. bit (f (groupSet l g)))
 
-unfoldable pub outsideIn : List ℕ → ℕ → Bool
-outsideIn kept t = cond (ltb t 32768) false (eqb (getD kept (t - 32768) 0) 1)
+unfoldable pub outsideIn : List Bool → List ℕ → ℕ → Bool
+outsideIn ms kept t = cond (ltb t 32768) (not (getD ms t false)) (eqb (getD kept (t - 32768) 0) 1)
 
 unfoldable pub keepOutside : List ℕ → ℕ → List ℕ
 keepOutside kept t = cond (ltb t 32768) kept (set kept (t - 32768) 1)
 
 pub record Side (l : List ℕ) (t : ℕ) (ms : List Bool) (size : ℕ) (table : List ℕ) : Type 0 where
+  pub type : IsType (countOf l Groups) t
   pub marked : Marked (setIn l t) ms size
   pub kept : KeptTest (fullyMarked ms size) l table
 

@@ -2,7 +2,8 @@
 --     groupsIn l, rulesIn l    the records of the groups, and the rules
 --     ruleIn l at, constraintIn l at, requestIn l q   the rule and the constraint that stand at a place, and a query
 --     setIn l t, setAt l at, groupSet l g   the set of a type, of the type in the field at a place, of a group
---     Spans l from count S     a part of the image holds the members of a set
+--     Part l from count        a part of the image holds members that rise
+--     Spans l from count S     it holds those of a set
 --     Placed l ps              a table has the place of each group
 --     Known l ps               an accepted image, with its groups' places
 --     Ready l ps s             and with its sections' starts
@@ -51,6 +52,11 @@ setAt l at = setIn l (wordAt l at)
 
 abbrev pub groupSet : List ℕ → ℕ → List ℕ
 groupSet l g = setIn l (32768 + g)
+
+pub record Part (l : List ℕ) (from count : ℕ) : Type 0 where
+  pub some : 0 < count
+  pub room : from + 2 * count ≤ length l
+  pub rising : Rising 0 (wordsAt l count from)
 
 pub record Spans (l : List ℕ) (from count : ℕ) (S : List ℕ) : Type 0 where
   pub some : 0 < count

@@ -34,7 +34,7 @@ rowsFor (Unfit i) n = n
 rowsFor (Refused f) n = 0
 
 abbrev pub nextRun : Run → ℕ → Answer → Run
-nextRun Fit i answers.NotPermitted = Unfit i
+nextRun Fit i (answers.NotPermitted x) = Unfit i
 nextRun Fit i (answers.Permitted r) = Fit
 nextRun Fit i (answers.UnKnown r c) = Unfit i
 nextRun Fit i (answers.Refused f) = Unfit i

@@ -22,9 +22,9 @@ pub const ROWS: &[Row] = &[
     ("action 257", || policy(&[], &[on(1, 2)], &[constraint(5, 257, 1, 2, 0, &[])]), ASKED, p(0)),
     ("the highest numbers", || policy(&[], &[allow(1, 2, 65535, 65535, 1)], &[constraint(65535, 65535, 1, 2, 0, &[])]), query(1, 2, 65535, 65535), u(0, 0)),
     // No rule covers: NotPermitted, and constraints play no part.
-    ("a ban, and no rule", || policy(&[], &[], &[ban(1, 2)]), ASKED, N),
-    ("a ban, and a rule that is off", || policy(&[], &[off(1, 2)], &[ban(1, 2)]), ASKED, N),
-    ("a companion without its rule, and no rule", || policy(&[], &[other(1, 2)], &[companion(1, 2)]), ASKED, N),
+    ("a ban, and no rule", || policy(&[], &[], &[ban(1, 2)]), ASKED, NO_RULES),
+    ("a ban, and a rule that is off", || policy(&[], &[off(1, 2)], &[ban(1, 2)]), ASKED, n(0, 0)),
+    ("a companion without its rule, and no rule", || policy(&[], &[other(1, 2)], &[companion(1, 2)]), ASKED, n(3, 0)),
     // A query that a transition covers meets the constraints of its own class and action.
     ("a transition and a ban", || policy(&[], &[trans(1, 2)], &[ban(1, 2)]), ASKED, u(0, 0)),
     ("a transition of another class and a ban", || policy(&[], &[transition(1, 2, 9)], &[ban(1, 2)]), ASKED, u(0, 0)),

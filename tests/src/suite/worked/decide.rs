@@ -1,6 +1,6 @@
 //! The sample sheet's queries.
 
-use super::small::{p, u, N};
+use super::small::{n, p, u, NO_RULES};
 use super::{both, no};
 use crate::compare::{Outcome, Pair};
 use crate::sample::{query, EMPTY, G0, SAMPLE};
@@ -22,7 +22,7 @@ const ALLOW_21_10: &[u8] = &[11, 2, 0, 21, 0, 10, 0, 5, 0, 9, 1];
 pub const ROWS: &[Row] = &[
     (&SAMPLE, &[], query(10, 21, 5, 1), p(0)),
     (&SAMPLE, &[], query(10, G0, 5, 1), p(0)),
-    (&SAMPLE, &[], query(13, 21, 5, 1), N),
+    (&SAMPLE, &[], query(13, 21, 5, 1), n(1, 0)),
     (&SAMPLE, &[], query(12, 20, 9, 9), p(2)),
     (&SAMPLE, &[], query(20, 30, 5, 2), p(1)),
     (&SAMPLE, &[ALLOW_10_30], query(20, 30, 5, 2), u(1, 1)),
@@ -30,16 +30,16 @@ pub const ROWS: &[Row] = &[
     (&SAMPLE, &[ALLOW_14_G0], query(10, G0, 5, 1), p(0)),
     (&SAMPLE, &[COMPANION], query(10, 21, 5, 1), u(0, 2)),
     (&SAMPLE, &[COMPANION, ALLOW_21_10], query(10, 21, 5, 1), p(0)),
-    (&EMPTY, &[], query(0, 0, 0, 0), N),
+    (&EMPTY, &[], query(0, 0, 0, 0), NO_RULES),
     (&SAMPLE, &[], query(1024, 21, 5, 1), no(8, 0)),
     (&SAMPLE, &[], query(32769, 21, 5, 1), no(8, 0)),
-    (&SAMPLE, &[], query(1023, 21, 5, 1), N),
+    (&SAMPLE, &[], query(1023, 21, 5, 1), n(1, 0)),
     (&SAMPLE, &[], query(10, 1024, 5, 1), no(9, 0)),
     (&SAMPLE, &[], query(10, 32769, 5, 1), no(9, 0)),
     (&SAMPLE, &[], query(1024, 1024, 5, 1), no(8, 0)),
     (&SAMPLE, &[], query(65535, 32767, 5, 1), no(8, 0)),
     (&SAMPLE, &[], query(32767, 21, 5, 1), no(8, 0)),
-    (&SAMPLE, &[], query(0, 1023, 65535, 65535), N),
+    (&SAMPLE, &[], query(0, 1023, 65535, 65535), n(1, 0)),
     (&EMPTY, &[], query(0, G0, 0, 0), no(9, 0)),
     (&EMPTY, &[], query(G0, 0, 0, 0), no(8, 0)),
     (&SAMPLE, &[], query(G0, 32769, 0, 0), no(9, 0)),

@@ -1,7 +1,7 @@
 //! A policy with every section at its limit, decided by its last records.
 
 use super::run::asked;
-use super::small::{p, u, N};
+use super::small::{n, p, u};
 use super::{both, no};
 use crate::compare::{Outcome, Pair};
 use crate::draft::{allow, constraint, group, Draft};
@@ -20,10 +20,10 @@ pub const ROWS: &[Row] = &[
     (query(1023, 1023, 9, 9), u(1023, 255)),
     (query(G255, 960, 9, 9), u(1023, 255)),
     (query(G255, G255, 9, 9), u(1023, 255)),
-    (query(1023, 959, 9, 9), N),
-    (query(1023, 1022, 9, 8), N),
+    (query(1023, 959, 9, 9), n(2, 1023)),
+    (query(1023, 1022, 9, 8), n(4, 1023)),
     (query(1, 2, 8, 9), p(0)),
-    (query(32768, 32768, 9, 9), N),
+    (query(32768, 32768, 9, 9), n(1, 0)),
     (query(G255 + 1, 1023, 9, 9), no(8, 0)),
     (query(1023, G255 + 1, 9, 9), no(9, 0)),
 ];
@@ -45,7 +45,7 @@ pub fn as_run(pair: &Pair, _: u64) -> Outcome {
 pub fn permit(pair: &Pair, _: u64) -> Outcome {
     let queries = ROWS.iter().flat_map(|(query, _)| query.to_bytes()).collect();
     let input = [image(), queries].concat();
-    let expected = "U 1023 255\nU 1023 255\nU 1023 255\nN\nN\nP 0\nN\nR 8 0\nR 9 0\n";
+    let expected = "U 1023 255\nU 1023 255\nU 1023 255\nN 2 1023\nN 4 1023\nP 0\nN 1 0\nR 8 0\nR 9 0\n";
     both(pair, "every query", expected.to_string(), |subject| subject.permit(&input))
 }
 

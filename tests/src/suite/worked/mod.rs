@@ -1,11 +1,14 @@
 //! Document 01's worked cases with its answers, and further rows whose answers were worked out by hand from its clauses
-//! and from request [1]. Both engines and the model must give them.
+//! and from requests [1] and [2]. Both engines and the model must give them.
 
 mod add;
 mod check;
 mod constraints;
 mod decide;
+mod decide_numbers;
 mod full;
+mod nearest;
+mod nearest_rows;
 mod order;
 mod permit;
 mod predicates;
@@ -35,6 +38,13 @@ pub const TESTS: &[Cases] = &[
     Cases { name: "worked/full-permit", count: Count::Listed(1), run: full::permit },
     Cases { name: "worked/run", count: Count::Listed(run::ROWS.len() as u64), run: run::run },
     Cases { name: "worked/full-run", count: Count::Listed(1), run: full::as_run },
+    Cases { name: "worked/nearest", count: Count::Listed(nearest::ROWS.len() as u64), run: nearest::run },
+    Cases {
+        name: "worked/nearest-rows",
+        count: Count::Listed(nearest_rows::ROWS.len() as u64),
+        run: nearest_rows::run,
+    },
+    Cases { name: "worked/nearest-places", count: Count::Listed(nearest::PLACES.len() as u64), run: nearest::places },
     Cases { name: "worked/record", count: Count::Listed(record::ROWS.len() as u64), run: record::run },
     Cases { name: "worked/add", count: Count::Listed(add::ROWS.len() as u64), run: add::run },
     Cases { name: "worked/permit", count: Count::Listed(permit::ROWS.len() as u64), run: permit::run },
@@ -44,6 +54,11 @@ pub const TESTS: &[Cases] = &[
 /// Rows that only the library can be asked.
 pub const OF_THE_LIBRARY: &[Cases] = &[
     Cases { name: "worked/record-sections", count: Count::Listed(6), run: record::no_section },
+    Cases {
+        name: "worked/decide-numbers",
+        count: Count::Listed(decide_numbers::ROWS.len() as u64),
+        run: decide_numbers::run,
+    },
     Cases { name: "worked/run-counts", count: Count::Listed(run_numbers::ROWS.len() as u64), run: run_numbers::counts },
     Cases { name: "worked/run-every-count", count: Count::Listed(4 * 67), run: run_numbers::every_count },
     Cases { name: "worked/run-kinds", count: Count::Listed(1), run: run_numbers::kinds },

@@ -9,7 +9,7 @@ use mungaite::Query;
 type Row = (&'static str, fn() -> Vec<u8>, &'static str);
 
 pub const ROWS: &[Row] = &[
-    ("the document's three queries", || input(&[QUERIES[0], QUERIES[2], QUERIES[3]], &[]), "P 0\nN\nP 2\n"),
+    ("the document's three queries", || input(&[QUERIES[0], QUERIES[2], QUERIES[3]], &[]), "P 0\nN 1 0\nP 2\n"),
     ("an image alone", || SAMPLE.to_vec(), ""),
     ("the empty policy alone", || EMPTY.to_vec(), ""),
     ("no input", Vec::new, "R 1 0\n"),
@@ -40,7 +40,7 @@ pub fn many(pair: &Pair, _: u64) -> Outcome {
     let asked = [query(10, 21, 5, 1), query(13, 21, 5, 1), query(12, 20, 9, 9), query(1024, 0, 0, 0)];
     let queries: Vec<Query> = asked.into_iter().cycle().take(MANY).collect();
     let output = pair.engine.permit(&input(&queries, &[]));
-    let expected = "P 0\nN\nP 2\nR 8 0\n".repeat(MANY / asked.len());
+    let expected = "P 0\nN 1 0\nP 2\nR 8 0\n".repeat(MANY / asked.len());
     match output == expected {
         true => Ok(()),
         false => Err(format!("{} bytes of output, expected {}", output.len(), expected.len())),

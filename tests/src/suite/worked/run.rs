@@ -1,7 +1,7 @@
 //! Runs on the sample, and what refuses them.
 
 use super::decide::{grown, ALLOW_10_30, ALLOW_14_G0};
-use super::small::{p, u, N};
+use super::small::{n, p, u, NO_RULES};
 use super::{both, no};
 use crate::compare::{unanswered, Outcome, Pair};
 use crate::sample::{query, EMPTY, G0, SAMPLE};
@@ -20,6 +20,9 @@ const NOT: Query = query(13, 21, 5, 1);
 const R8: Query = query(1024, 21, 5, 1);
 const R9: Query = query(10, 32769, 5, 1);
 
+/// What `NOT` gets: rules 0 to 2 stop at the source, and rule 3 is off.
+const DENIED: Answer = n(1, 0);
+
 const FIT: Result<Run, Refusal> = Ok(Run::Fit);
 
 const fn unfit(row: usize) -> Result<Run, Refusal> {
@@ -30,14 +33,14 @@ const fn unfit(row: usize) -> Result<Run, Refusal> {
 /// lent.
 #[rustfmt::skip]
 pub const ROWS: &[Row] = &[
-    ("the sample's queries", &SAMPLE, &[], || vec![P0, P0_GROUP, NOT, P2, P1], unfit(2), || vec![p(0), p(0), N, p(2), p(1)]),
+    ("the sample's queries", &SAMPLE, &[], || vec![P0, P0_GROUP, NOT, P2, P1], unfit(2), || vec![p(0), p(0), DENIED, p(2), p(1)]),
     ("all Permitted", &SAMPLE, &[], || vec![P0, P0_GROUP, P2, P1], FIT, || vec![p(0), p(0), p(2), p(1)]),
-    ("the first is not", &SAMPLE, &[], || vec![NOT, P0, P2], unfit(0), || vec![N, p(0), p(2)]),
-    ("the last is not", &SAMPLE, &[], || vec![P0, P2, NOT], unfit(2), || vec![p(0), p(2), N]),
-    ("two are not", &SAMPLE, &[], || vec![P0, NOT, P2, NOT, P1], unfit(1), || vec![p(0), N, p(2), N, p(1)]),
-    ("none is", &EMPTY, &[], || vec![query(0, 0, 0, 0), query(0, G0, 0, 0)], unfit(0), || vec![N, no(9, 0)]),
+    ("the first is not", &SAMPLE, &[], || vec![NOT, P0, P2], unfit(0), || vec![DENIED, p(0), p(2)]),
+    ("the last is not", &SAMPLE, &[], || vec![P0, P2, NOT], unfit(2), || vec![p(0), p(2), DENIED]),
+    ("two are not", &SAMPLE, &[], || vec![P0, NOT, P2, NOT, P1], unfit(1), || vec![p(0), DENIED, p(2), DENIED, p(1)]),
+    ("none is", &EMPTY, &[], || vec![query(0, 0, 0, 0), query(0, G0, 0, 0)], unfit(0), || vec![NO_RULES, no(9, 0)]),
     ("one row", &SAMPLE, &[], || vec![P2], FIT, || vec![p(2)]),
-    ("one row that is not", &SAMPLE, &[], || vec![NOT], unfit(0), || vec![N]),
+    ("one row that is not", &SAMPLE, &[], || vec![NOT], unfit(0), || vec![DENIED]),
     ("one row that is refused", &SAMPLE, &[], || vec![R8], unfit(0), || vec![no(8, 0)]),
     ("the same row again", &SAMPLE, &[], || vec![P2, P2], FIT, || vec![p(2), p(2)]),
     // UnKnown is not Permitted.
@@ -47,16 +50,16 @@ pub const ROWS: &[Row] = &[
     // A refused row is a row like any other.
     ("a refused source", &SAMPLE, &[], || vec![P0, R8, P2], unfit(1), || vec![p(0), no(8, 0), p(2)]),
     ("a refused destination", &SAMPLE, &[], || vec![P0, R9, P2], unfit(1), || vec![p(0), no(9, 0), p(2)]),
-    ("a refused row first", &SAMPLE, &[], || vec![R9, P0, NOT], unfit(0), || vec![no(9, 0), p(0), N]),
+    ("a refused row first", &SAMPLE, &[], || vec![R9, P0, NOT], unfit(0), || vec![no(9, 0), p(0), DENIED]),
     ("a refused row last", &SAMPLE, &[], || vec![P0, P2, R8], unfit(2), || vec![p(0), p(2), no(8, 0)]),
-    ("a refused row behind another that is not", &SAMPLE, &[], || vec![P0, NOT, R8, P2], unfit(1), || vec![p(0), N, no(8, 0), p(2)]),
+    ("a refused row behind another that is not", &SAMPLE, &[], || vec![P0, NOT, R8, P2], unfit(1), || vec![p(0), DENIED, no(8, 0), p(2)]),
     ("all refused", &SAMPLE, &[], || vec![R8, R9, R8], unfit(0), || vec![no(8, 0), no(9, 0), no(8, 0)]),
     // 1 to 64 rows.
     ("63 rows", &SAMPLE, &[], || vec![P2; 63], FIT, || vec![p(2); 63]),
     ("64 rows", &SAMPLE, &[], || vec![P2; 64], FIT, || vec![p(2); 64]),
-    ("64 rows, the last is not", &SAMPLE, &[], || [vec![P2; 63], vec![NOT]].concat(), unfit(63), || [vec![p(2); 63], vec![N]].concat()),
+    ("64 rows, the last is not", &SAMPLE, &[], || [vec![P2; 63], vec![NOT]].concat(), unfit(63), || [vec![p(2); 63], vec![DENIED]].concat()),
     ("64 rows, the last is refused", &SAMPLE, &[], || [vec![P2; 63], vec![R9]].concat(), unfit(63), || [vec![p(2); 63], vec![no(9, 0)]].concat()),
-    ("64 rows, the first is not", &SAMPLE, &[], || [vec![NOT], vec![P2; 63]].concat(), unfit(0), || [vec![N], vec![p(2); 63]].concat()),
+    ("64 rows, the first is not", &SAMPLE, &[], || [vec![NOT], vec![P2; 63]].concat(), unfit(0), || [vec![DENIED], vec![p(2); 63]].concat()),
     ("65 rows", &SAMPLE, &[], || vec![P2; 65], no(16, 0), || unanswered(65)),
     ("66 rows", &SAMPLE, &[], || vec![P2; 66], no(16, 0), || unanswered(66)),
     ("no row", &SAMPLE, &[], Vec::new, no(16, 0), Vec::new),

@@ -2,7 +2,7 @@
 
 use crate::compare::{equal, Outcome, Pair};
 use crate::numbers;
-use crate::sample::SAMPLE;
+use crate::sample::{EMPTY, SAMPLE};
 
 const FIT: u64 = 0x0000_0001_0000_0000;
 const ROW_COUNT: u64 = 0x0000_0002_0010_0000;
@@ -51,8 +51,8 @@ pub fn counts(_: &Pair, case: u64) -> Outcome {
     equal("run", answers, vec![if said == FIT { 0x0000_0001_0000_0000 } else { UNANSWERED }; slots], shown)
 }
 
-/// Every count of numbers up to 67 rows with every count of slots: 16 where there is no whole row or more than 64, then 17
-/// where the numbers are not four for each slot.
+/// Every count of numbers up to 67 rows with every count of slots: 16 where there is no whole row or more than 64, then
+/// 17 where the numbers are not four for each slot.
 pub fn every_count(_: &Pair, count: u64) -> Outcome {
     let rows: Vec<u16> = [10, 21, 5, 1].into_iter().cycle().take(count as usize).collect();
     for slots in 0..=67 {
@@ -71,16 +71,19 @@ pub fn every_count(_: &Pair, count: u64) -> Outcome {
 pub fn kinds(_: &Pair, _: u64) -> Outcome {
     let mut image = [&SAMPLE[..56], &[11, 2, 0, 10, 0, 30, 0, 5, 0, 3, 1], &SAMPLE[56..]].concat();
     (image[2], image[6]) = (91, 5);
-    let rows = [12, 20, 9, 9, 20, 30, 5, 2, 13, 21, 5, 1, 1024, 21, 5, 1, 10, 1024, 5, 1];
-    let mut answers = [UNANSWERED; 5];
+    let rows = [12, 20, 9, 9, 20, 30, 5, 2, 13, 21, 5, 1, 10, 30, 5, 9, 1024, 21, 5, 1, 10, 1024, 5, 1];
+    let mut answers = [UNANSWERED; 6];
     equal("run", numbers::run(&image, &rows, &mut answers), 1, || "each kind of answer".to_string())?;
     let expected = [
         0x0000_0001_0000_0002,
         0x0000_0003_0001_0001,
-        0x0000_0000_0000_0000,
+        0x0000_0000_0001_0000,
+        0x0000_0000_0004_0004,
         0x0000_0002_0008_0000,
         0x0000_0002_0009_0000,
     ];
     equal("answers", answers, expected, || "each kind of answer".to_string())?;
-    equal("run", numbers::run(&image, &rows[8..], &mut answers[..3]), 0, || "row 0 is not Permitted".to_string())
+    equal("run", numbers::run(&image, &rows[8..], &mut answers[..4]), 0, || "row 0 is not Permitted".to_string())?;
+    equal("run", numbers::run(&EMPTY, &rows[..4], &mut answers[..1]), 0, || "no rules".to_string())?;
+    equal("answers", answers[0], 0x0000_0000_0000_FFFF, || "no rules".to_string())
 }

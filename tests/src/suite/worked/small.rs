@@ -4,7 +4,7 @@ use crate::compare::{Outcome, Pair};
 use crate::draft::{allow, constraint, group, transition, Draft};
 use crate::sample::query;
 pub use crate::sample::G0;
-use mungaite::{Decision, Query, Refusal};
+use mungaite::{Decision, Nearest, Query, Refusal};
 
 /// What is asked, an image, a query, and what the document says.
 pub type Row = (&'static str, fn() -> Vec<u8>, Query, Result<Decision, Refusal>);
@@ -13,7 +13,11 @@ pub const G1: u16 = 32769;
 
 pub const ASKED: Query = ask(1, 2);
 
-pub const N: Result<Decision, Refusal> = Ok(Decision::NotPermitted);
+pub const NO_RULES: Result<Decision, Refusal> = Ok(Decision::NotPermitted { nearest: None });
+
+pub const fn n(steps: u8, rule: u16) -> Result<Decision, Refusal> {
+    Ok(Decision::NotPermitted { nearest: Some(Nearest { steps, rule }) })
+}
 
 pub const fn p(rule: u16) -> Result<Decision, Refusal> {
     Ok(Decision::Permitted { rule })

@@ -64,6 +64,7 @@ use Rattle.format.proofs.Sections as X
 use Rattle.format.proofs.Sections.Laws as X′
 use Rattle.decision.specs.declared.Query.{Query}
 use Rattle.decision.specs.declared.Answer.{Answer}
+use Rattle.decision.specs.declared.Nearest.the-variants.{NoRules}
 use Rattle.decision.specs.declared.Answer.the-variants.{NotPermitted}
 use Rattle.decision.proofs.Query as Q
 use Rattle.decision.proofs.Query.Laws as Q′
@@ -519,7 +520,7 @@ module _ {M : Type 1} (𝓤 : URA M) (H : Heap 𝓤) (A : Atoms 𝓤) (W : Given
           rewrite ! (L 11 24) (λ (p : ℕ). ‵ (fat fullShare tyPtr l₂₄ 0 (vptr b₂ p))) (sym (place-is sizeN o₂ i)) refl $
           -- the answer is stored
           move ! (6 ∷ 7 ∷ 8 ∷ []) $ opens-slice ! tt N.the-row (filled i) b₂ o₂ $
-          elem-out ! N.the-row (Is N.the-row) (shows 𝓤 H A N.the-row) (EL.vals N.the-type N′.the-laws) (EL.tells N.the-type N′.the-laws) fullShare (filled i) i NotPermitted b₂ o₂ lz (λ _.
+          elem-out ! N.the-row (Is N.the-row) (shows 𝓤 H A N.the-row) (EL.vals N.the-type N′.the-laws) (EL.tells N.the-type N′.the-laws) fullShare (filled i) i (NotPermitted NoRules) b₂ o₂ lz (λ _.
           -- [answers[i]; what it owns; the others; the open borrow; obs; auth; α; κ₀; the table; image; κ₁; the fractured borrow; res; queries' fact; the locals]
           assigns ! (of-opd ! (load ! (from ! (fld ! refl (stop !))) (look-in ! (L 14 13) (sub ! 0 refl (whole !))))) (from ! (hop ! (look ! (L 14 24) refl) (stop !))) (store-raw ! 0 refl (EL.lawful N.the-type N′.the-laws 𝓤 H A W tt .typed (f (elem i)) _ (iss .0) .0)) $
           move ! (1 ∷ []) $ drop ! $ owned ! N.the-row (Is N.the-row) (EL.makes N.the-type N′.the-plain 𝓤 H A) (f (elem i)) _ (iss .0) $ move ! (1 ∷ 0 ∷ []) $

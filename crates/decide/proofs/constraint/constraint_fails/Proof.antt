@@ -51,7 +51,7 @@ add-inside : tie.Need-add-inside
 add-inside c = let h = c .before .before .before .before .before .before .before .pre .2 .here in omega (arith, h .long, h .here .inside)
 
 inside-requires : tie.Need-inside-requires
-inside-requires c κs = let p = c .before .before .before .before .before .before .before .before .pre in (p .0 .known, constraint-first _ _ _ (p .2 .here), p .1 .source .kept)
+inside-requires c κs = let p = c .before .before .before .before .before .before .before .before .pre in (p .0 .known, constraint-first _ _ _ (p .2 .here), p .1 .source)
 
 returns-3 : tie.Need-returns-3
 returns-3 c = let p = c .before .before .before .before .before .before .before .before .before .before .pre in
@@ -64,7 +64,7 @@ add-inside-2 : tie.Need-add-inside-2
 add-inside-2 c = let h = c .before .before .before .before .before .before .before .before .before .before .pre .2 .here in omega (arith, h .long, h .here .inside)
 
 inside-requires-2 : tie.Need-inside-requires-2
-inside-requires-2 c κs = let p = c .before .before .before .before .before .before .before .before .before .before .before .pre in (p .0 .known, constraint-second _ _ _ (p .2 .here), p .1 .dest .kept)
+inside-requires-2 c κs = let p = c .before .before .before .before .before .before .before .before .before .before .before .pre in (p .0 .known, constraint-second _ _ _ (p .2 .here), p .1 .dest)
 
 returns-4 : tie.Need-returns-4
 returns-4 c = let p = c .before .before .before .before .before .before .before .before .before .before .before .before .before .pre in

@@ -1,6 +1,6 @@
 -- `first_rule` meets its contract: the rules from the running one on answer as all do. Assumes nothing.
 use native.Mathlib.Omega.{arith}
-use Prim.Native.Nat.{ℕ, suc, _+_, _-_, _*_, _≤_}
+use Prim.Native.Nat.{ℕ, suc, _+_, _-_, _*_, _≤_, _<_}
 use mathlib.Core.Path.{_≡_, sym, subst, ap, _∙_}
 use mathlib.Core.Logic.{⊎-elim}
 use mathlib.Core.Bool.{Bool, false}
@@ -10,8 +10,10 @@ use lib.ListN.{length}
 use borrow.Author.Tests.{not-true, not-false}
 use Rattle.format.specs.declared.Section.the-variants.{Rules}
 use Rattle.format.specs.Policy.{policyOf}
+use Rattle.format.specs.Claims.{IsType}
 use Rattle.format.specs.Inner.Places.{wordsAt, Rising}
-use Rattle.format.proofs.Accepted.{accepted-header}
+use Rattle.format.proofs.Accepted.{accepted-header, accepted-length}
+use Rattle.format.proofs.Bytes.{word-small}
 use Rattle.format.proofs.ByCase.{count-rules}
 use Rattle.decision.specs.Sets.{within}
 use Rattle.decision.specs.Reading.{ruleOf}
@@ -21,7 +23,7 @@ use Rattle.decide.specs.Inner.Marks.{tallied, fullyMarked}
 use Rattle.decide.specs.Inner.Kept.{KeptTest, Sides}
 use Rattle.decide.specs.Inner.Rules.{foundOf, firstRule}
 use Rattle.decide.proofs.MarkLaws.{walk-small, walk-rest, tally-end, tally-yes, tally-no, hits-on, hits-off}
-use Rattle.decide.proofs.TypeLaws.{span-rising, span-told, type-small, set-rising}
+use Rattle.decide.proofs.TypeLaws.{span-rising, span-told, type-basic, type-small, set-rising}
 use Rattle.decide.proofs.SetLaws.{hits-full, hits-short, full-within}
 use Rattle.decide.proofs.PartLaws.{ready-rules, rule-source, rule-dest}
 use Rattle.decide.proofs.KeptLaws.{outside-tells, outside-kept, with-source, with-dest, side-within}
@@ -30,7 +32,7 @@ use Rattle.decide.proofs.WalkLaws.{Turn, FirstOf, walk-start, walk-rule
 use Rattle.decide.proofs.cover.first_rule.Statement.{statement}
 use Rattle.decide.proofs.cover.first_rule.Tie as tie
 
--- where the walk over the members of a source stands: so many hits so far, and the rest from a place on
+-- where the walk over the members of a destination stands: so many hits so far, and the rest from a place on
 record Members (l : List ℕ) (ms : List Bool) (from count m left sum : ℕ) : Type 0 where
   room : m + 2 * left ≤ length l
   few : sum + left ≤ count
@@ -38,7 +40,7 @@ record Members (l : List ℕ) (ms : List Bool) (from count m left sum : ℕ) : T
   hits : tallied ms (wordsAt l count from) ≡ sum + tallied ms (wordsAt l left m)
 
 abbrev Inv-members : tie.InvT-members
-Inv-members image groups q source sources dest dests ksource kdest count n at lets t m₀ left₀ hits₀ m left hits = Members image source m₀ left₀ m left hits
+Inv-members image groups q source sources dest dests ksource kdest count n at lets t m₀ left₀ hits₀ m left hits = Members image dest m₀ left₀ m left hits
 
 abbrev μ-members : tie.MeasureT-members
 μ-members image groups q source sources dest dests ksource kdest count n at lets t m₀ left₀ hits₀ m left hits = left
@@ -54,9 +56,9 @@ abbrev μ-rules : tie.MeasureT-rules
 here : (d : tie.Else1 Inv-members μ-members Inv-rules μ-rules) → RuleHere (now (d .before .before .before .before .args .image)) (d .before .rules .at)
 here d = walk-rule (d .before .rules .inv .walk) (omega arith) (d .before .before .before .before .pre .0 .known .accepted)
 
--- what the test of the destination answered
-dest-told : (d : tie.After-inside Inv-members μ-members Inv-rules μ-rules) → within (setIn (now (d .before .before .before .before .before .before .before .before .args .image)) (d .before .before .before .before .before .before .before .before .args .q .dest)) (setAt (now (d .before .before .before .before .before .before .before .before .args .image)) (d .before .before .before .before .before .rules .at + 4)) ≡ d .inside .result
-dest-told d = let a = d .before .before .before .before .before .before .before .before in side-within (a .pre .1 .dest) (a .pre .0 .known .accepted) (rule-dest _ _ _ (here (d .before .before .before .before))) _ (d .inside .ensures .is)
+-- what the test of the source answered
+source-told : (d : tie.After-inside Inv-members μ-members Inv-rules μ-rules) → within (setIn (now (d .before .before .before .before .before .before .before .before .args .image)) (d .before .before .before .before .before .before .before .before .args .q .source)) (setAt (now (d .before .before .before .before .before .before .before .before .args .image)) (d .before .before .before .before .before .rules .at + 2)) ≡ d .inside .result
+source-told d = let a = d .before .before .before .before .before .before .before .before in side-within (a .pre .1 .source) (a .pre .0 .known .accepted) (rule-source _ _ _ (here (d .before .before .before .before))) _ (d .inside .ensures .is)
 
 -- what a turn that finds nothing leaves
 gone :
@@ -66,34 +68,34 @@ gone :
 gone d =
     let a = d .before .before .before .before .before .before in
     let I = d .before .before .before .rules .inv .kept in
-    let K = I .source in
+    let K = I .dest in
     let l = now (a .args .image) in
-    let F = fullyMarked (now (a .args .source)) (a .args .sources) in
+    let F = fullyMarked (now (a .args .dest)) (a .args .dests) in
     let h = here (d .before .before) in
-    let full = full-within _ _ _ (K .marked) _ (set-rising _ _ (a .pre .0 .known .accepted) (h .source)) in
+    let full = full-within _ _ _ (K .marked) _ (set-rising _ _ (a .pre .0 .known .accepted) (h .dest)) in
     ⊎-elim
     (λ w.
-    let dest = w .2 .ensures in
+    let source = w .2 .ensures in
     let word = w .4 .ensures .0 in
     let span = w .8 .ensures in
-    let all = w .9 .inv .hits ∙ rw (tally-end _ _ _ _ (w .11 .taken)) (omega arith) in
-    let no = sym (span-told _ _ _ _ span (within _) _ (sym (hits-short _ _ _ (K .marked) _ (span-rising _ _ _ _ span) _ all (w .10 .left)))) in
-    let kept = subst (KeptTest F l) (sym (w .14 ∙ w .13 .ensures)) (outside-kept F l _ (K .kept) _ _ word (full ∙ no)) in
-    (covers-no-source _ _ _ _ h no, with-dest (with-source I kept) (rw (w .15) (dest .kept))))
+    let all = w .9 .inv .hits ∙ rw (tally-end _ _ _ _ (w .10 .taken)) (omega arith) in
+    let no = sym (span-told _ _ _ _ span (within _) _ (sym (hits-short _ _ _ (K .marked) _ (span-rising _ _ _ _ span) _ all (w .11 .left)))) in
+    let kept = subst (KeptTest F l) (sym (w .15 ∙ w .13 .ensures)) (outside-kept F l _ (K .kept) _ _ word (full ∙ no)) in
+    (covers-no-dest _ _ _ _ h no, with-dest (with-source I (rw (w .14) (source .kept))) kept))
     (⊎-elim
     (λ w.
-    let dest = w .2 .ensures in
+    let source = w .2 .ensures in
     let word = w .4 .ensures .0 in
-    let no = sym full ∙ outside-tells F l _ (K .kept) _ _ word (sym (w .6 .ensures) ∙ not-false _ (w .7 .left)) in
-    (covers-no-source _ _ _ _ h no, with-dest (with-source I (rw (w .8) (K .kept))) (rw (w .9) (dest .kept))))
+    let no = sym full ∙ outside-tells K (a .pre .0 .known .accepted) _ _ word (sym (w .6 .ensures) ∙ not-false _ (w .7 .left)) in
+    (covers-no-dest _ _ _ _ h no, with-dest (with-source I (rw (w .8) (source .kept))) (rw (w .9) (K .kept))))
     (⊎-elim
     (λ w.
-    let dest = w .2 .ensures in
-    let no = dest-told (record { before = record { before = record { before = d .before; if2 = w .0 }; inside-arg = w .1 }; inside = w .2 }) ∙ w .3 .left in
-    (covers-no-dest _ _ _ _ h no, with-dest (with-source I (rw (w .4) (K .kept))) (rw (w .5) (dest .kept))))
+    let source = w .2 .ensures in
+    let no = source-told (record { before = record { before = record { before = d .before; if2 = w .0 }; inside-arg = w .1 }; inside = w .2 }) ∙ w .3 .left in
+    (covers-no-source _ _ _ _ h no, with-dest (with-source I (rw (w .4) (source .kept))) (rw (w .5) (K .kept))))
     (λ w.
     let no = sym (d .before .may .ensures) ∙ w .0 .left in
-    (covers-no-may _ _ _ _ h no, with-dest (with-source I (rw (w .1) (K .kept))) (rw (w .2) (I .dest .kept))))))
+    (covers-no-may _ _ _ _ h no, with-dest (with-source I (rw (w .1) (I .source .kept))) (rw (w .2) (K .kept))))))
     (d .if2 .came)
 
 word-in-requires : tie.Need-word-in-requires Inv-members μ-members Inv-rules μ-rules
@@ -118,7 +120,7 @@ add-inside : tie.Need-add-inside Inv-members μ-members Inv-rules μ-rules
 add-inside c = let h = here (c .before .before) in omega (arith, h .long, h .here .inside)
 
 inside-requires : tie.Need-inside-requires Inv-members μ-members Inv-rules μ-rules
-inside-requires c κs = let d = c .before .before .before in (d .before .before .before .before .pre .0 .known, rule-dest _ _ _ (here d), d .before .rules .inv .kept .dest .kept)
+inside-requires c κs = let d = c .before .before .before in (d .before .before .before .before .pre .0 .known, rule-source _ _ _ (here d), d .before .rules .inv .kept .source)
 
 add-word-in : tie.Need-add-word-in Inv-members μ-members Inv-rules μ-rules
 add-word-in c = let h = here (c .before .before .before .before .before) in omega (arith, h .long, h .here .inside)
@@ -126,28 +128,39 @@ add-word-in c = let h = here (c .before .before .before .before .before) in omeg
 word-in-requires-2 : tie.Need-word-in-requires-2 Inv-members μ-members Inv-rules μ-rules
 word-in-requires-2 c κs = let h = here (c .before .before .before .before .before) in omega (arith, h .long, h .here .inside)
 
-kept-outside-requires : tie.Need-kept-outside-requires Inv-members μ-members Inv-rules μ-rules
-kept-outside-requires c κs = let d = c .before .before .before .before .before .before .before in type-small _ _ _ (c .before .word-in2 .ensures .0) (d .before .before .before .before .pre .0 .known .accepted) (here d .source)
+known-outside-requires : tie.Need-known-outside-requires Inv-members μ-members Inv-rules μ-rules
+known-outside-requires c κs = let d = c .before .before .before .before .before .before .before in
+    let is = c .before .word-in2 .ensures .0 in
+    (type-basic _ _ (subst (IsType _) (sym is) (here d .dest)), type-small _ _ _ is (d .before .before .before .before .pre .0 .known .accepted) (here d .dest))
 
 add-members : tie.Need-add-members Inv-members μ-members Inv-rules μ-rules
 add-members c = let h = here (c .before .before .before .before .before .before .before .before .before) in omega (arith, h .long, h .here .inside)
 
 members-requires : tie.Need-members-requires Inv-members μ-members Inv-rules μ-rules
-members-requires c κs = let d = c .before .before .before .before .before .before .before .before .before in (d .before .before .before .before .pre .0 .known, rule-source _ _ _ (here d))
+members-requires c κs = let d = c .before .before .before .before .before .before .before .before .before in (d .before .before .before .before .pre .0 .known, rule-dest _ _ _ (here d))
 
 members-holds : tie.Need-members-holds Inv-members μ-members Inv-rules μ-rules
 members-holds c = let s = c .members2 .ensures in record { room = s .room; few = omega arith; rising = span-rising _ _ _ _ s; hits = omega arith }
 
 word-in-requires-3 : tie.Need-word-in-requires-3 Inv-members μ-members Inv-rules μ-rules
-word-in-requires-3 c κs = let I = c .before .before .members .inv in omega (arith, I .room)
+word-in-requires-3 c κs = let I = c .before .members .inv in omega (arith, I .room)
 
 element-copy-out-if7 : tie.Need-element-copy-out-if7 Inv-members μ-members Inv-rules μ-rules
-element-copy-out-if7 c = let M = c .before .before .before .members in
+element-copy-out-if7 c = let M = c .before .before .members in
     let e : M .left ≡ suc (M .left - 1) = omega arith in
     omega (arith, walk-small _ _ _ _ e (M .inv .rising), c .word-in3 .ensures .0)
 
+add-m : tie.Need-add-m Inv-members μ-members Inv-rules μ-rules
+add-m c =
+    let M = c .before .before .before .before .members in
+    let d = c .before .before .before .before .before .before .before .before .before .before .before .before .before .before .before in
+    let a = d .before .before .before in
+    let long = accepted-length _ (a .before .pre .0 .known .accepted) in
+    let h : M .m + 2 < 18446744073709551616 = omega (arith, M .inv .room, long, word-small (now (a .before .args .image)) (λ i. omega (arith, a .shared-slice-known .given i)) 1) in
+    record { fits = h }
+
 members-again : tie.Need-members-again Inv-members μ-members Inv-rules μ-rules
-members-again c = let M = c .before .before .before .before .before .members in
+members-again c = let M = c .before .before .before .before .members in
     let I = M .inv in
     let e : M .left ≡ suc (M .left - 1) = omega arith in
     let t = c .before .before .word-in3 .ensures .0 in
@@ -157,7 +170,7 @@ members-again c = let M = c .before .before .before .before .before .members in
     (c .if7 .came)
 
 keep-outside-requires : tie.Need-keep-outside-requires Inv-members μ-members Inv-rules μ-rules
-keep-outside-requires c κs = let d = c .before .before .before .before .before .before .before .before .before .before .before .before .before .before in type-small _ _ _ (c .before .before .before .before .before .before .before .before .word-in2 .ensures .0) (d .before .before .before .before .pre .0 .known .accepted) (here d .source)
+keep-outside-requires c κs = let d = c .before .before .before .before .before .before .before .before .before .before .before .before .before .before in type-small _ _ _ (c .before .before .before .before .before .before .before .before .word-in2 .ensures .0) (d .before .before .before .before .pre .0 .known .accepted) (here d .dest)
 
 past-requires : tie.Need-past-requires Inv-members μ-members Inv-rules μ-rules
 past-requires c κs = let h = here (c .before .before) in (h, λ e. may-length _ _ _ h _ _ (sym (c .before .may .ensures) ∙ not-true _ e))
@@ -167,14 +180,16 @@ rules-again c = let k = gone (c .before) in
     record { walk = first-next _ (c .before .before .before .before .rules .inv .walk) (omega arith) (k .0) _ (c .past .ensures); kept = k .1 }
 
 returns-2 : tie.Need-returns-2 Inv-members μ-members Inv-rules μ-rules
-returns-2 c = let d = c .before .before .before .before .before .before .before .before .before .before .before .before in
+returns-2 c = let M = c .before .before in
+    let i = M .before .before .before .before .before .before .before in
+    let d = i .before .before .before .before in
     let a = d .before .before .before .before in
-    let s = c .before .before .members2 .ensures in
+    let s = M .before .members2 .ensures in
     let h = here d in
-    let m = sym (c .before .before .before .before .before .before .before .before .before .before .before .may .ensures) ∙ c .before .before .before .before .before .before .before .before .before .before .if2 .taken in
+    let m = sym (i .before .before .before .may .ensures) ∙ i .before .before .if2 .taken in
     record {
-      is = first-hit _ (d .before .rules .inv .walk) (omega arith) (covers-yes _ _ _ _ h m (dest-told (c .before .before .before .before .before .before .before .before) ∙ c .before .before .before .before .before .before .before .if3 .taken) (sym (span-told _ _ _ _ s (within _) _ (sym (hits-full _ _ _ (a .pre .1 .source .marked) _ (span-rising _ _ _ _ s) _ _ (c .before .members .inv .hits) (c .if5 .taken))))));
-      kept = with-dest (d .before .rules .inv .kept) (c .before .before .before .before .before .before .before .before .inside .ensures .kept);
+      is = first-hit _ (d .before .rules .inv .walk) (omega arith) (covers-yes _ _ _ _ h m (sym (span-told _ _ _ _ s (within _) _ (sym (hits-full _ _ _ (a .pre .1 .dest .marked) _ (span-rising _ _ _ _ s) _ _ (M .members .inv .hits) (c .if6 .taken))))) (source-told i ∙ M .before .before .before .before .before .before .if3 .taken));
+      kept = with-source (d .before .rules .inv .kept) (i .inside .ensures .kept);
     }
 
 pub first-rule-spec : {M : Type 1} → statement M
@@ -193,14 +208,14 @@ first-rule-spec =
     inside-requires
     add-word-in
     word-in-requires-2
-    kept-outside-requires
+    known-outside-requires
     add-members
     members-requires
     members-holds
     word-in-requires-3
     element-copy-out-if7
     (λ c. omega arith)
-    (λ c. omega arith)
+    add-m
     (λ c. omega arith)
     (λ c. omega arith)
     members-again

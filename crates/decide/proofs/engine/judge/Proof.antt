@@ -20,6 +20,7 @@ judge-marked-requires c κs =
     let s = c .before .before .before .before .before .mark-type .ensures in
     let d = c .before .before .before .mark-type2 .ensures in (
       p .0,
+      p .1,
       marked-type _ _ _ _ _ (p .0 .known .accepted) (type-is _ _ (p .1 .0)) (c .before .before .before .before .before .before .before .before .wide-word .ensures) (marks-after _ _ _ (s .0) (p .2 .source)) (s .1),
       marked-type _ _ _ _ _ (p .0 .known .accepted) (type-is _ _ (p .1 .1)) (c .before .before .before .before .before .before .before .wide-word2 .ensures) (marks-after _ _ _ (d .0) (p .2 .dest)) (d .1),
       p .2 .verdicts,

@@ -5,7 +5,7 @@ use denote.Ref.{now}
 use Rattle.decide.specs.Inner.Parts.{Spans, groupSet, setAt}
 use Rattle.decide.specs.Inner.Marks.{fullyMarked}
 use Rattle.decide.proofs.TypeLaws.{span-basic, span-rising, span-told, group-number, group-few, group-is}
-use Rattle.decide.proofs.KeptLaws.{kept-says, kept-adds}
+use Rattle.decide.proofs.KeptLaws.{kept-says}
 use borrow.Author.Needs.{needs}
 use Rattle.decide.proofs.kept.inside.Statement.{statement}
 use Rattle.decide.proofs.kept.inside.Tie as tie
@@ -21,28 +21,22 @@ fully-marked-requires : tie.Need-fully-marked-requires
 fully-marked-requires c κs = let s = basic c in (s .room, span-rising _ _ _ _ s)
 
 returns : tie.Need-returns
-returns c = let a = c .before .before .before .before in record { is = span-told _ _ _ _ (basic (c .before)) (fullyMarked (now (a .args .marks)) (a .args .size)) _ (c .fully-marked .ensures); kept = a .pre .2 }
+returns c = let a = c .before .before .before .before in record { is = span-told _ _ _ _ (basic (c .before)) (fullyMarked (now (a .args .marks)) (a .args .size)) _ (c .fully-marked .ensures); kept = a .pre .2 .kept }
 
 element-copy-out-k : tie.Need-element-copy-out-k
 element-copy-out-k c = let p = c .before .before .before .pre in group-few _ _ _ _ (p .0) (p .1) (c .before .word-in .ensures .0) (c .if1 .left)
 
 returns-2 : tie.Need-returns-2
-returns-2 c = let a = c .before .before .before .before .before in record { is = kept-says (λ g. fullyMarked (now (a .args .marks)) (a .args .size) (groupSet (now (a .args .image)) g)) _ (a .pre .2) _ (c .if2 .taken) ∙ ap (fullyMarked (now (a .args .marks)) (a .args .size)) (same (c .before .before)); kept = a .pre .2 }
+returns-2 c = let a = c .before .before .before .before .before in record { is = kept-says (λ g. fullyMarked (now (a .args .marks)) (a .args .size) (groupSet (now (a .args .image)) g)) _ (a .pre .2 .kept) _ (c .if2 .taken) ∙ ap (fullyMarked (now (a .args .marks)) (a .args .size)) (same (c .before .before)); kept = a .pre .2 .kept }
 
-group-span-requires : tie.Need-group-span-requires
-group-span-requires c κs = let p = c .before .before .before .before .before .pre in (p .0, group-number _ _ _ _ (p .0) (p .1) (c .before .before .before .word-in .ensures .0) (c .before .before .if1 .left))
-
-fully-marked-requires-2 : tie.Need-fully-marked-requires-2
-fully-marked-requires-2 c κs = let s = c .group-span .ensures in (s .room, span-rising _ _ _ _ s)
-
-keep-requires : tie.Need-keep-requires
-keep-requires c κs = let d = c .before .before .before .before .before in let p = d .before .before .before .pre in group-few _ _ _ _ (p .0) (p .1) (d .before .word-in .ensures .0) (d .if1 .left)
+find-inside-requires : tie.Need-find-inside-requires
+find-inside-requires c κs = let d = c .before .before .before in let p = d .before .before .before .pre in (p .0, group-number _ _ _ _ (p .0) (p .1) (d .before .word-in .ensures .0) (d .if1 .left), p .2)
 
 returns-3 : tie.Need-returns-3
-returns-3 c = let d = c .before .before .before .before .before .before in
+returns-3 c = let d = c .before .before .before .before in
     let a = d .before .before .before in
-    let e = span-told _ _ _ _ (c .before .before .before .group-span .ensures) (fullyMarked (now (a .args .marks)) (a .args .size)) _ (c .before .before .fully-marked2 .ensures) in
-    record { is = c .keep .ensures .0 ∙ e ∙ ap (fullyMarked (now (a .args .marks)) (a .args .size)) (same d); kept = rw (c .keep .ensures .1) (kept-adds (λ g. fullyMarked (now (a .args .marks)) (a .args .size) (groupSet (now (a .args .image)) g)) _ (a .pre .2) _ _ e) }
+    let f = c .find-inside .ensures in
+    record { is = f .is ∙ ap (fullyMarked (now (a .args .marks)) (a .args .size)) (same d); kept = f .kept }
 
 pub inside-spec : {M : Type 1} → statement M
 inside-spec =
@@ -53,7 +47,5 @@ inside-spec =
     returns
     element-copy-out-k
     returns-2
-    group-span-requires
-    fully-marked-requires-2
-    keep-requires
+    find-inside-requires
     returns-3)

@@ -17,7 +17,8 @@ use Rattle.decide.proofs.KeptLaws.{kept-none}
 use Rattle.decide.proofs.RuleLaws.{source-is, reaching-off, reaching-dest, live-length}
 use Rattle.decide.proofs.NameLaws.{name-small}
 use Rattle.decide.proofs.TableLaws.{name-far, name-near, names-step, names-all}
-use Rattle.decide.proofs.WalkLaws.{Turn, Walk, walk-start, walk-rule, walk-next, walk-end, all-rules}
+use Rattle.decide.specs.Inner.Walks.{Walk}
+use Rattle.decide.proofs.WalkLaws.{Turn, walk-start, walk-rule, walk-next, walk-end, all-rules}
 use Rattle.decide.proofs.separation.names_reaching.Statement.{statement}
 use Rattle.decide.proofs.separation.names_reaching.Tie as tie
 

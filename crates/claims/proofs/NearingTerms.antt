@@ -1,0 +1,73 @@
+-- What meets the terms of the claims of the nearest rule, from the statement: no claim's own proof is cited. Assumes nothing.
+use Prim.Native.Nat.{suc, _≤_}
+use native.Mathlib.Omega.{arith}
+use mathlib.Core.Path.{_≡_, refl, sym, subst, ap, _∙_}
+use mathlib.Core.Logic.{inl}
+use mathlib.Core.Bool.{false}
+use mathlib.Core.List.{List, [], _∷_, List·Memᴰ, List·Memᴰ·head}
+use lib.ListN.{length, getD}
+use borrow.Author.Tests.{eqb-true, eqb-false, eq-eqb, ne-eqb}
+use Rattle.format.specs.Bytes.{wordAt}
+use Rattle.format.specs.Policy.{policyOf}
+use Rattle.format.specs.Answers.{gives}
+use Rattle.format.specs.Sample.{sample, empty}
+use Rattle.format.proofs.Fields.{is-type}
+use Rattle.decision.specs.declared.Query.{Query}
+use Rattle.decision.specs.declared.Nearest.{Nearest}
+use Rattle.decision.specs.declared.Nearest.the-variants.{NoRules, Near}
+use Rattle.decision.specs.Reading.{Rule, Request}
+use Rattle.decision.specs.Decide.{covers, steps, notPermitted, permitted, unknown, answer}
+use Rattle.decision.specs.Cases.{companion, extended}
+use Rattle.decision.specs.Steps.{stepsAt}
+use Rattle.decision.specs.Before.{barely}
+use Rattle.decision.proofs.Search.{member-at}
+use Rattle.decision.proofs.Cases.{Answers, marked-answers, sample-rules, steps-many, last-rule-near}
+use Rattle.claims.specs.Promises.{Promises}
+use Rattle.claims.specs.Terms.{query, NearingMet}
+
+module _ (p : Promises) where
+  answers : Answers
+  answers = marked-answers (p .deciding .marked-cases)
+
+  uncovered-four : (a : Request) (r : Rule) → covers a r ≡ false → steps a r ≤ 4
+  uncovered-four a r e =
+      let c = p .nearing .covers-all a r in
+      let n = eqb-false (steps a r) 5 (sym (c .0) ∙ e) in
+      omega (arith, c .1)
+
+  pub nearing-met : NearingMet
+  nearing-met =
+      let n = p .nearing in
+      record {
+        off-none = λ a r o. n .steps-in-order a r ∙ simp o;
+        source-one = λ a r o s. n .steps-in-order a r ∙ simp (o, s);
+        dest-two = λ a r o s d. n .steps-in-order a r ∙ simp (o, s, d);
+        class-three = λ a r o s d k. n .steps-in-order a r ∙ simp (o, s, d, k);
+        action-four = λ a r o s d k j. n .steps-in-order a r ∙ simp (o, s, d, k, j);
+        covered-five = λ a r e. eqb-true (steps a r) 5 (sym (n .covers-all a r .0) ∙ e);
+        five-covers = λ a r e. n .covers-all a r .0 ∙ eq-eqb (steps a r) 5 e;
+        uncovered-four = uncovered-four;
+        rule-3-none = λ q. n .steps-of-record .off (policyOf sample) q (getD (policyOf sample .rules) 3 []) (sample-rules .allow) (sample-rules .off);
+        rule-2-one = λ q e. n .steps-of-record .transition (policyOf sample) q (getD (policyOf sample .rules) 2 []) (sample-rules .transition) ∙ simp e;
+        rule-0-four = λ q s d k a.
+            n .steps-of-record .on (policyOf sample) q (getD (policyOf sample .rules) 0 []) (sample-rules .first) (sample-rules .on)
+            ∙ simp (s, d, eq-eqb (wordAt (getD (policyOf sample .rules) 0 []) 6) (q .class) (sample-rules .class ∙ sym k), ne-eqb (wordAt (getD (policyOf sample .rules) 0 []) 8) (q .action) (λ e. a (sym e ∙ sample-rules .action)));
+        rule-2-few = λ q x e. n .denied-steps sample q x e (getD (policyOf sample .rules) 2 []) (member-at _ 2 [] (omega (arith, sample-rules .many))) .transition (sample-rules .transition);
+        first-few = λ l q x r rs e h. n .denied-steps l q x e r (subst (List·Memᴰ r) (sym h) (List·Memᴰ·head refl)) .few;
+        rule-0-one = n .nearest-passes sample (query 13 21 5 1) 1 0 (answers .off) .1;
+        named-last = λ l q s k m e h. (let i = n .nearest-passes l q s k e .0 in omega (arith, i, h));
+        named-few = λ l q s k e. (let i = n .nearest-passes l q s k e in omega (arith, i .1, i .2));
+        last-no-more = λ l q s k m e h. n .nearest-of-all l q s k e m (omega (arith, h)) .0;
+        before-fewer = λ l q s k e. n .nearest-of-all l q s (suc k) e k (omega (arith, n .nearest-passes l q s (suc k) e .0)) .1 (omega arith);
+        empty-no-rules = λ q s d. n .no-rules-exactly empty q (p .reading .sample-accepted .empty-passes) (is-type _ _ (inl s), is-type _ _ (inl d)) .1 (sample-rules .none);
+        sample-has-rules = λ q e.
+            (let v = p .deciding .decided-only sample q (notPermitted NoRules) e in
+            let z = ap length (n .no-rules-exactly sample q (v .0) (v .1) .0 e) in
+            absurd (omega (arith, z, sample-rules .many)));
+        member-before = sym (n .decisions-stay sample (query 10 21 5 1)) ∙ ap barely (answers .member);
+        off-before = sym (n .decisions-stay sample (query 13 21 5 1)) ∙ ap barely (answers .off);
+        unknown-before = sym (n .decisions-stay (extended sample companion) (query 10 21 5 1)) ∙ ap barely (answers .companied);
+        refused-before = sym (n .decisions-stay sample (query 1024 21 5 1)) ∙ ap barely (answers .no-source);
+        step-cases-all = steps-many;
+        last-rule-near = last-rule-near (n .step-cases);
+      }

@@ -1,0 +1,37 @@
+-- The three decisions are those of before: claim DecisionsStay. Assumes nothing.
+use Prim.Native.Nat.{ℕ}
+use mathlib.Core.Path.{_≡_, refl, sym, ap, _∙_}
+use mathlib.Core.Option.{Option, none, some}
+use Rattle.format.specs.declared.Refusal.{Refusal}
+use Rattle.format.specs.Policy.{Policy, policyOf}
+use Rattle.format.specs.Answers.{outcome}
+use Rattle.decision.specs.declared.Query.{Query}
+use Rattle.decision.specs.declared.Nearest.{Nearest}
+use Rattle.decision.specs.Reading.{ruleOf, requestOf, rulesOf, constraintsOf}
+use Rattle.decision.specs.Decide.{covers, fails, firstAt, nearest, decisionOf, judge, decide, answerFault, answer}
+use Rattle.decision.specs.Tepla.{permits}
+use Rattle.decision.specs.Before.{bareOf, decideBefore, answerBefore, barely, DecisionsStay}
+use Rattle.decision.proofs.Search.{firstAt-map, firstAt-same}
+use Rattle.decision.proofs.Tepla.{permits-covers}
+
+bare-is : (f : Option Refusal) (x : Nearest) (r c : Option ℕ) → barely (outcome f (decisionOf x r c)) ≡ outcome f (bareOf r c)
+unfolding decisionOf bareOf
+bare-is (some f) x r c = refl
+bare-is none x none c = refl
+bare-is none x (some r) none = refl
+bare-is none x (some r) (some c) = refl
+
+-- the lowest rule that covers is the lowest record that permits
+first-permits : (p : Policy) (q : Query) → firstAt (covers (requestOf p q)) 0 (rulesOf p) ≡ firstAt (permits p q) 0 (p .rules)
+unfolding rulesOf
+first-permits p q =
+    firstAt-map (covers (requestOf p q)) (ruleOf p) 0 (p .rules)
+    ∙ firstAt-same (λ r. covers (requestOf p q) (ruleOf p r)) (permits p q) 0 (p .rules) (λ r. sym (permits-covers p q r))
+
+pub decisions-stay : DecisionsStay
+unfolding answer answerBefore decide decideBefore judge
+decisions-stay l q =
+    let p = policyOf l in
+    let c = firstAt (fails (rulesOf p) (requestOf p q)) 0 (constraintsOf p) in
+    bare-is (answerFault l q) (nearest (requestOf p q) (rulesOf p)) (firstAt (covers (requestOf p q)) 0 (rulesOf p)) c
+    ∙ ap (λ (r : Option ℕ). outcome (answerFault l q) (bareOf r c)) (first-permits p q)
