@@ -34,7 +34,8 @@ use Rattle.decision.proofs.Nearness.{nearest-same}
 use Rattle.decide.specs.declared.nearest.Best.{Best}
 use Rattle.decide.specs.Inner.Parts.{rulesIn, requestIn, setIn, setAt}
 use Rattle.decide.specs.Inner.Kept.{outsideIn}
-use Rattle.decide.specs.Inner.Nearer.{Uncovered, allowAt, offAt, otherClassAt, classStops, stopsAt, shortSteps, Counts, nearOf, AtNearest}
+use Rattle.decide.specs.Inner.Rules.{allowAt}
+use Rattle.decide.specs.Inner.Nearer.{Uncovered, offAt, otherClassAt, classStops, stopsAt, shortSteps, Counts, nearOf, AtNearest}
 use Rattle.decide.proofs.RuleLaws.{source-is, dest-is, allow-length}
 use Rattle.decide.proofs.WalkLaws.{walk-start, walk-next, walk-hit, walk-end, all-rules}
 
@@ -135,6 +136,10 @@ at-most-four true true true true = omega arith
 short-few : (a : Request) (r : Rule) → shortSteps a r ≤ 4
 short-few a r = rw (short-is a r) (at-most-four (r .on) (within (a .source) (r .source)) (within (a .dest) (r .dest)) (asks (r .class) (a .class)))
 
+twice : (b : Bool) → b ≡ not (not b)
+twice true = refl
+twice false = refl
+
 module _ (l : List ℕ) (at : ℕ) (q : Query) (r : List ℕ) (h : RuleAt l at r) where
   abbrev dest? : Bool
   dest? = within (setIn l (q .dest)) (setAt l (at + 4))
@@ -155,10 +160,6 @@ module _ (l : List ℕ) (at : ℕ) (q : Query) (r : List ℕ) (h : RuleAt l at r
       simp (k1, k10, eq-eqb (getD l (at + 1) 0) 2 (w .0), ne-eqb (getD l (at + 1) 0) 3 (omega (arith, w .0))) (twice (eqb (getD l (at + 10) 0) 1)))
       (λ w. simp (k1, eq-eqb (getD l (at + 1) 0) 3 w, ne-eqb (getD l (at + 1) 0) 2 (omega (arith, w))))
       (h .kind)
-    where
-      twice : (b : Bool) → b ≡ not (not b)
-      twice true = refl
-      twice false = refl
 
   class-is : asks (ruleOf (policyOf l) r .class) (q .class) ≡ not (otherClassAt l at (q .class))
   unfolding ruleOf asks otherClassAt allowAt
@@ -170,10 +171,6 @@ module _ (l : List ℕ) (at : ℕ) (q : Query) (r : List ℕ) (h : RuleAt l at r
       simp (k1, k6, eq-eqb (getD l (at + 1) 0) 2 (w .0), ne-eqb (getD l (at + 1) 0) 3 (omega (arith, w .0))) (twice (eqb (wordAt l (at + 6)) (q .class))))
       (λ w. simp (k1, eq-eqb (getD l (at + 1) 0) 3 w, ne-eqb (getD l (at + 1) 0) 2 (omega (arith, w))))
       (h .kind)
-    where
-      twice : (b : Bool) → b ≡ not (not b)
-      twice true = refl
-      twice false = refl
 
   counted-is : counted ≡ cond (not (offAt l at)) (cond source? (cond dest? (cond (not (otherClassAt l at (q .class))) 4 3) 2) 1) 0
   unfolding requestOf

@@ -12,6 +12,7 @@ mod names; // names.rt: names of sets, the same for types that stand for the sam
 mod predicates; // predicates.rt: what a roster and a companion ask of the rules
 mod separation; // separation.rt: what a separation asks of the rules
 mod cover; // cover.rt: the lowest rule that covers a query
+mod passes; // passes.rt: how many steps a rule passes
 mod nearest; // nearest.rt: the rule that came nearest to a query that none covers
 mod constraint; // constraint.rt: whether a constraint fails, and the lowest that does
 mod engine; // engine.rt: the decision on an image and a query

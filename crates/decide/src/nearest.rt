@@ -1,21 +1,18 @@
 // The rule that came nearest to a query that no rule covers: the one that passes the most steps before the first that fails, and
-// the lowest of those. The steps are condition, source, destination, class, action; as none covers, the action is not asked.
-use crate::kept::inside;
-use crate::kept::known_outside;
+// the lowest of those.
+use crate::passes::steps_at;
+use crate::rules::is_allow;
 use crate::rules::past;
-use crate::word::wide_word;
 use crate::word::word_in;
 use decision::Nearest;
 use decision::Query;
 use format::Starts;
 use format::header;
 ghost use mathlib.Core.Path.{_≡_};
-ghost use Rattle.format.specs.Check.{Accepted};
 ghost use Rattle.decision.specs.Decide.{nearest};
-ghost use Rattle.decide.specs.Inner.Parts.{Known, Ready, TypeAt, RuleHere, rulesIn, ruleIn, requestIn};
-ghost use Rattle.decide.specs.Inner.Kept.{Sides, Leaves};
-ghost use Rattle.decide.specs.Inner.Nearer.{Uncovered, allowAt, offAt, otherClassAt, classStops, stopsAt, On};
-ghost use Rattle.decide.specs.Inner.Nearer.{shortSteps, Counts, AtNearest, Comes};
+ghost use Rattle.decide.specs.Inner.Parts.{Known, Ready, rulesIn, requestIn};
+ghost use Rattle.decide.specs.Inner.Kept.{Sides};
+ghost use Rattle.decide.specs.Inner.Nearer.{Uncovered, AtNearest, Comes};
 
 // The nearest rule so far, and how many steps it passes.
 pub(crate) struct Best {
@@ -28,142 +25,6 @@ pub(crate) struct Next {
     pub n: usize,
     pub at: usize,
     pub steps: usize,
-}
-
-// Whether the rule at a place is an allow rule.
-fn is_allow(image: &[u8], at: usize) -> bool
-    requires { ⌜ RuleHere (now image) at ⌝ }
-    ensures { λ r. ⌜ r ≡ allowAt (now (image .entry)) at ⌝ }
-{
-    image[at + 1] == 2
-}
-
-// Whether the rule at a place is an allow rule that is off.
-fn is_off(image: &[u8], at: usize) -> bool
-    requires { ⌜ RuleHere (now image) at ⌝ }
-    ensures { λ r. ⌜ r ≡ offAt (now (image .entry)) at ⌝ }
-{
-    if !is_allow(image, at) {
-        return false;
-    }
-    image[at + 10] != 1
-}
-
-// Whether the rule at a place is an allow rule of another class than the query's.
-fn is_of_other_class(image: &[u8], at: usize, q: Query) -> bool
-    requires { ⌜ RuleHere (now image) at ⌝ }
-    ensures { λ r. ⌜ r ≡ otherClassAt (now (image .entry)) at (q .class) ⌝ }
-{
-    if !is_allow(image, at) {
-        return false;
-    }
-    word_in(image, at + 6) != wide_word(q.class)
-}
-
-// Whether the rule at a place passes no more steps than so many, since its class stops it after three.
-fn is_stopped_by_class(image: &[u8], at: usize, q: Query, most: usize) -> bool
-    requires { ⌜ RuleHere (now image) at ⌝ }
-    ensures { λ r. ⌜ r ≡ classStops (now (image .entry)) at (q .class) most ⌝ }
-{
-    if most < 3 {
-        return false;
-    }
-    is_of_other_class(image, at, q)
-}
-
-// Whether a rule passes no more steps than so many, since the type in its field at a place is known to stop it: after one step
-// where that is its source, after two where it is its destination.
-fn is_known_to_stop(
-    image: &[u8],
-    at: usize,
-    marks: &[bool; 1024],
-    kept: &[u8; 256],
-    passed: usize,
-    most: usize,
-) -> bool
-    requires { ⌜ Accepted (now image) × TypeAt (now image) at ⌝ }
-    ensures { λ r. ⌜ r ≡ stopsAt (now (image .entry)) at (now (marks .entry)) (now (kept .entry)) passed most ⌝ }
-{
-    if most < passed {
-        return false;
-    }
-    known_outside(word_in(image, at), marks, kept)
-}
-
-// How many steps the rule at a place passes, which is on.
-fn steps_on(
-    image: &[u8],
-    groups: &[u16; 256],
-    at: usize,
-    q: Query,
-    source: &[bool; 1024],
-    sources: usize,
-    dest: &[bool; 1024],
-    dests: usize,
-    ksource: &mut [u8; 256],
-    kdest: &mut [u8; 256],
-) -> usize
-    requires { ⌜ Known (now image) (now groups) × On (now image) at
-        × Sides (now image) q (now source) sources (now dest) dests (now ksource) (now kdest) ⌝ }
-    ensures { λ r. ⌜ Leaves (shortSteps (requestIn (now (image .entry)) q) (ruleIn (now (image .entry)) at))
-        (Sides (now (image .entry)) q (now (source .entry)) sources (now (dest .entry)) dests (now (ksource .exit)) (now (kdest .exit))) r ⌝ }
-{
-    if !inside(image, groups, at + 2, q.source, source, sources, ksource) {
-        return 1;
-    }
-    if !inside(image, groups, at + 4, q.dest, dest, dests, kdest) {
-        return 2;
-    }
-    if is_of_other_class(image, at, q) {
-        return 3;
-    }
-    4
-}
-
-// How many steps the rule at a place passes, where they are more than so many; else a number that is no more either, so that a
-// type is walked only where it may tell.
-fn steps_at(
-    image: &[u8],
-    groups: &[u16; 256],
-    at: usize,
-    q: Query,
-    source: &[bool; 1024],
-    sources: usize,
-    dest: &[bool; 1024],
-    dests: usize,
-    ksource: &mut [u8; 256],
-    kdest: &mut [u8; 256],
-    most: usize,
-) -> usize
-    requires { ⌜ Known (now image) (now groups) × RuleHere (now image) at
-        × Sides (now image) q (now source) sources (now dest) dests (now ksource) (now kdest) ⌝ }
-    ensures { λ r. ⌜ Counts most (shortSteps (requestIn (now (image .entry)) q) (ruleIn (now (image .entry)) at)) r
-        × Sides (now (image .entry)) q (now (source .entry)) sources (now (dest .entry)) dests (now (ksource .exit)) (now (kdest .exit)) ⌝ }
-{
-    if is_stopped_by_class(image, at, q, most) {
-        return 0;
-    }
-    if is_known_to_stop(image, at + 2, source, ksource, 1, most) {
-        return 0;
-    }
-    if is_off(image, at) {
-        return 0;
-    }
-    if is_known_to_stop(image, at + 4, dest, kdest, 2, most) {
-        return 0;
-    }
-    steps_on(
-        image,
-        groups,
-        at,
-        q,
-        source,
-        sources,
-        dest,
-        dests,
-        ksource,
-        kdest,
-    )
 }
 
 // The first rule, from rule n on, that comes nearer than the nearest so far.

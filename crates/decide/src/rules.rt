@@ -1,11 +1,19 @@
-// The rule at a place: whether it is live, and where the next one stands.
+// The rule at a place: whether it is an allow rule, whether it is live, and where the next one stands.
 use crate::word::wide;
 ghost use mathlib.Core.Path.{_≡_};
 ghost use mathlib.Core.Bool.{true};
 ghost use Prim.Native.Nat.{_+_};
 ghost use lib.ListN.{getD};
 ghost use Rattle.decide.specs.Inner.Parts.{RuleHere};
-ghost use Rattle.decide.specs.Inner.Rules.{liveAt};
+ghost use Rattle.decide.specs.Inner.Rules.{allowAt, liveAt};
+
+// Whether the rule at a place is an allow rule.
+pub(crate) fn is_allow(image: &[u8], at: usize) -> bool
+    requires { ⌜ RuleHere (now image) at ⌝ }
+    ensures { λ r. ⌜ r ≡ allowAt (now (image .entry)) at ⌝ }
+{
+    image[at + 1] == 2
+}
 
 // Whether the rule at a place is an allow rule that is on.
 pub(crate) fn is_live(image: &[u8], at: usize) -> bool

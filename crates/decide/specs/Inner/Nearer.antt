@@ -1,6 +1,6 @@
 -- What the second walk over the rules looks for, where no rule covers the query.
 --     Uncovered l q         no rule of the image covers the query
---     allowAt, offAt, otherClassAt   the rule at a place is an allow rule; one that is off; one of another class
+--     offAt, otherClassAt   the rule at a place is an allow rule that is off; one of another class
 --     classStops l at c most   so it passes no more than `most` steps, three or more, whatever its types
 --     stopsAt l at ms kept passed most   nor does it where the type in a field, of which it is known, stops it after `passed` steps
 --     shortSteps a r        the steps, but for the action's, which is asked of no rule: at most 4
@@ -30,12 +30,10 @@ use Rattle.decide.specs.declared.nearest.Next.{Next}
 use Rattle.decide.specs.Inner.Parts.{RuleHere, rulesIn, ruleIn, requestIn}
 use Rattle.decide.specs.Inner.Kept.{outsideIn}
 use Rattle.decide.specs.Inner.Walks.{Walk}
+use Rattle.decide.specs.Inner.Rules.{allowAt}
 
 abbrev pub Uncovered : List ℕ → Query → Type 0
 Uncovered l q = anyOf (covers (requestIn l q)) (rulesIn l) ≡ false
-
-unfoldable pub allowAt : List ℕ → ℕ → Bool
-allowAt l at = eqb (getD l (at + 1) 0) 2
 
 unfoldable pub offAt : List ℕ → ℕ → Bool
 offAt l at = cond (allowAt l at) (not (eqb (getD l (at + 10) 0) 1)) false

@@ -9,8 +9,8 @@ use Rattle.decide.specs.Inner.Parts.{setIn, setAt}
 use Rattle.decide.proofs.PartLaws.{rule-source, rule-dest}
 use Rattle.decide.proofs.KeptLaws.{with-source, with-dest, side-within}
 use Rattle.decide.proofs.NearerLaws.{steps-source, steps-dest, steps-class, steps-all}
-use Rattle.decide.proofs.nearest.steps_on.Statement.{statement}
-use Rattle.decide.proofs.nearest.steps_on.Tie as tie
+use Rattle.decide.proofs.passes.steps_on.Statement.{statement}
+use Rattle.decide.proofs.passes.steps_on.Tie as tie
 
 -- what the tests of the types answered
 source-told : (d : tie.After-inside) → within (setIn (now (d .before .before .before .args .image)) (d .before .before .before .args .q .source)) (setAt (now (d .before .before .before .args .image)) (d .before .before .before .args .at + 2)) ≡ d .inside .result

@@ -4,8 +4,8 @@ use borrow.Author.Needs.{needs}
 use mathlib.Core.Path.{sym, _∙_}
 use borrow.Author.Tests.{not-true, not-false}
 use Rattle.decide.proofs.NearerLaws.{off-no, off-yes, allow-long}
-use Rattle.decide.proofs.nearest.is_off.Statement.{statement}
-use Rattle.decide.proofs.nearest.is_off.Tie as tie
+use Rattle.decide.proofs.passes.is_off.Statement.{statement}
+use Rattle.decide.proofs.passes.is_off.Tie as tie
 
 returns : tie.Need-returns
 returns c = sym (off-no _ _ (sym (c .before .is-allow .ensures) ∙ not-true _ (c .if1 .taken)))

@@ -5,8 +5,8 @@ use mathlib.Core.Bool.{false}
 use Rattle.decide.proofs.PartLaws.{rule-source, rule-dest}
 use Rattle.decide.proofs.KeptLaws.{side-within, outside-tells}
 use Rattle.decide.proofs.NearerLaws.{class-says, stops-says, class-stops, off-stops, source-stops, dest-stops, counts-exact, counts-none}
-use Rattle.decide.proofs.nearest.steps_at.Statement.{statement}
-use Rattle.decide.proofs.nearest.steps_at.Tie as tie
+use Rattle.decide.proofs.passes.steps_at.Statement.{statement}
+use Rattle.decide.proofs.passes.steps_at.Tie as tie
 
 is-stopped-by-class-requires : tie.Need-is-stopped-by-class-requires
 is-stopped-by-class-requires c κs = c .before .pre .1

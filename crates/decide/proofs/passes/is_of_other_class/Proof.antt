@@ -5,8 +5,8 @@ use mathlib.Core.Bool.{not}
 use lib.Dec.{eqb}
 use borrow.Author.Tests.{not-true, not-false}
 use Rattle.decide.proofs.NearerLaws.{other-no, other-yes}
-use Rattle.decide.proofs.nearest.is_of_other_class.Statement.{statement}
-use Rattle.decide.proofs.nearest.is_of_other_class.Tie as tie
+use Rattle.decide.proofs.passes.is_of_other_class.Statement.{statement}
+use Rattle.decide.proofs.passes.is_of_other_class.Tie as tie
 
 returns : tie.Need-returns
 returns c = sym (other-no _ _ (sym (c .before .is-allow .ensures) ∙ not-true _ (c .if1 .taken)) _)

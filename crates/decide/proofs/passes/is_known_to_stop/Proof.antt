@@ -6,8 +6,8 @@ use Rattle.format.specs.Claims.{IsType}
 use Rattle.decide.specs.Inner.Kept.{outsideIn}
 use Rattle.decide.proofs.TypeLaws.{type-basic, type-small}
 use Rattle.decide.proofs.NearerLaws.{stops-few, stops-known}
-use Rattle.decide.proofs.nearest.is_known_to_stop.Statement.{statement}
-use Rattle.decide.proofs.nearest.is_known_to_stop.Tie as tie
+use Rattle.decide.proofs.passes.is_known_to_stop.Statement.{statement}
+use Rattle.decide.proofs.passes.is_known_to_stop.Tie as tie
 
 returns : tie.Need-returns
 returns c = sym (stops-few _ _ _ _ _ _ (c .if1 .taken))

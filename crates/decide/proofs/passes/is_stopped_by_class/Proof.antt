@@ -2,8 +2,8 @@
 use borrow.Author.Needs.{needs}
 use mathlib.Core.Path.{sym, _∙_}
 use Rattle.decide.proofs.NearerLaws.{class-few, class-known}
-use Rattle.decide.proofs.nearest.is_stopped_by_class.Statement.{statement}
-use Rattle.decide.proofs.nearest.is_stopped_by_class.Tie as tie
+use Rattle.decide.proofs.passes.is_stopped_by_class.Statement.{statement}
+use Rattle.decide.proofs.passes.is_stopped_by_class.Tie as tie
 
 returns : tie.Need-returns
 returns c = sym (class-few _ _ _ _ (c .if1 .taken))

@@ -1,9 +1,9 @@
 -- `is_allow` meets its contract: kind 2 is an allow rule. Assumes nothing.
 use borrow.Author.Needs.{needs}
 use mathlib.Core.Path.{refl}
-use Rattle.decide.specs.Inner.Nearer.{allowAt}
-use Rattle.decide.proofs.nearest.is_allow.Statement.{statement}
-use Rattle.decide.proofs.nearest.is_allow.Tie as tie
+use Rattle.decide.specs.Inner.Rules.{allowAt}
+use Rattle.decide.proofs.rules.is_allow.Statement.{statement}
+use Rattle.decide.proofs.rules.is_allow.Tie as tie
 
 returns : tie.Need-returns
 unfolding allowAt
