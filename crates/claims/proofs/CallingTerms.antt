@@ -26,7 +26,7 @@ use Rattle.runs.specs.Numbers.{numbersOf, numbersFault, numbersRun, rowCode, ru
 use Rattle.runs.specs.Cases.{member, transition, offRule}
 use Rattle.claims.specs.Promises.{Promises}
 use Rattle.claims.specs.Terms.{query, PrintingMet, CallingMet}
-use Rattle.claims.proofs.Cases.{companion-space, cut-bytes, row-answers, fitNumbers, unfitNumbers, run-numbers, inputs, no-rules-line, unknown-line, empty-printed, short-printed, three-printed}
+use Rattle.claims.proofs.Cases.{companion-space, cut-bytes, row-answers, fitNumbers, unfitNumbers, run-numbers, inputs, near-line, no-rules-line, unknown-line, empty-printed, short-printed, three-printed}
 use Rattle.claims.proofs.ReadingTerms.{companion-after}
 use Rattle.claims.proofs.RunningTerms.{two-fit, two-unfit}
 
@@ -51,6 +51,7 @@ module _ (p : Promises) where
         header-first = inputs .header;
         lines-all = inputs .lines;
         runs-all = inputs .runs;
+        near-line = near-line (p .printing .worked-lines);
         no-rules-line = no-rules-line (p .printing .worked-lines);
         unknown-line = unknown-line (p .printing .worked-lines);
         three-printed = three;

@@ -150,6 +150,10 @@ module _ (e : WorkedLines) where
   unfolding workedLines lineOf lineSaid
   unknown-line = ap (λ (xs : List (List ℕ)). getD xs 6 []) e
 
+  pub near-line : line (gives (notPermitted (Near 4 1023))) ≡ ascii "N 4 1023\n"
+  unfolding workedLines lineOf lineSaid
+  near-line = ap (λ (xs : List (List ℕ)). getD xs 2 []) e
+
   pub no-rules-line : line (gives (notPermitted NoRules)) ≡ ascii "N -\n"
   unfolding workedLines lineOf lineSaid
   no-rules-line = ap (λ (xs : List (List ℕ)). getD xs 0 []) e

@@ -37,14 +37,14 @@ use Rattle.decision.specs.declared.Answer.{Answer}
 use Rattle.decision.specs.declared.Answer.the-variants as answers
 use Rattle.decision.specs.Sets.{anyOf, isIn, setOf, within}
 use Rattle.decision.specs.Reading.{Rule, Constraint, Request, asks, requestOf, rulesOf}
-use Rattle.decision.specs.Decide.{covers, steps, Decision, notPermitted, permitted, unknown, judge, decide, answer, answerOutcome}
+use Rattle.decision.specs.Decide.{covers, steps, firstAt, Decision, notPermitted, permitted, unknown, judge, decide, answer, answerOutcome}
 use Rattle.decision.specs.Lowest.{Most, Nears}
-use Rattle.decision.specs.Steps.{stepsOf, stepsAt, sourceIn, destIn, stepCases}
+use Rattle.decision.specs.Steps.{stepsOf, stepsAt, sourceIn, destIn, off, stepCases}
 use Rattle.decision.specs.Before.{denied, allowed, stopped, answerBefore}
 use Rattle.decision.specs.Order.{height, Keeps, NoCompanion}
 use Rattle.decision.specs.Growth.{reordered, DecidedAbove}
 use Rattle.decision.specs.Cases.{g0, allow, companion, oneMember, withSpace, extended, cases}
-use Rattle.decision.specs.Tepla.{Dcs, compareDecisions, forget, evalPolicy}
+use Rattle.decision.specs.Tepla.{Dcs, compareDecisions, permits, forget, evalPolicy}
 use Rattle.io.specs.Digits.{Fewest}
 use Rattle.runs.specs.declared.Run.the-variants as runs
 use Rattle.runs.specs.Runs.{queriesFault, runOf, answersAfter, runOutcome}
@@ -318,13 +318,33 @@ pub record NearingMet : Type 0 where
   pub action-four :
       (a : Request) (r : Rule) → r .on ≡ true → within (a .source) (r .source) ≡ true → within (a .dest) (r .dest) ≡ true
       → asks (r .class) (a .class) ≡ true → asks (r .action) (a .action) ≡ false → steps a r ≡ 4
+  pub all-five :
+      (a : Request) (r : Rule) → r .on ≡ true → within (a .source) (r .source) ≡ true → within (a .dest) (r .dest) ≡ true
+      → asks (r .class) (a .class) ≡ true → asks (r .action) (a .action) ≡ true → steps a r ≡ 5
   -- CoversAll: both ways
   pub covered-five : (a : Request) (r : Rule) → covers a r ≡ true → steps a r ≡ 5
   pub five-covers : (a : Request) (r : Rule) → steps a r ≡ 5 → covers a r ≡ true
   pub uncovered-four : (a : Request) (r : Rule) → covers a r ≡ false → steps a r ≤ 4
-  -- StepsOfRecord: the sample's rule 3, which is off, of every query; its transition; its rule 0, of another action
+  -- StepsOfRecord: the sample's rule 3, which is off, of every query; its transition, rule 2, and its rule 0, by each step that fails
   pub rule-3-none : (q : Query) → stepsAt (policyOf sample) q 3 ≡ 0
   pub rule-2-one : (q : Query) → sourceIn (policyOf sample) q (getD (policyOf sample .rules) 2 []) ≡ false → stepsAt (policyOf sample) q 2 ≡ 1
+  pub rule-2-two :
+      (q : Query) → sourceIn (policyOf sample) q (getD (policyOf sample .rules) 2 []) ≡ true
+      → destIn (policyOf sample) q (getD (policyOf sample .rules) 2 []) ≡ false → stepsAt (policyOf sample) q 2 ≡ 2
+  pub rule-2-all :
+      (q : Query) → sourceIn (policyOf sample) q (getD (policyOf sample .rules) 2 []) ≡ true
+      → destIn (policyOf sample) q (getD (policyOf sample .rules) 2 []) ≡ true → stepsAt (policyOf sample) q 2 ≡ 5
+  pub rule-0-source : (q : Query) → sourceIn (policyOf sample) q (getD (policyOf sample .rules) 0 []) ≡ false → stepsAt (policyOf sample) q 0 ≡ 1
+  pub rule-0-two :
+      (q : Query) → sourceIn (policyOf sample) q (getD (policyOf sample .rules) 0 []) ≡ true
+      → destIn (policyOf sample) q (getD (policyOf sample .rules) 0 []) ≡ false → stepsAt (policyOf sample) q 0 ≡ 2
+  pub rule-0-three :
+      (q : Query) → sourceIn (policyOf sample) q (getD (policyOf sample .rules) 0 []) ≡ true
+      → destIn (policyOf sample) q (getD (policyOf sample .rules) 0 []) ≡ true → (q .class ≡ 5 → ⊥) → stepsAt (policyOf sample) q 0 ≡ 3
+  pub rule-0-all :
+      (q : Query) → sourceIn (policyOf sample) q (getD (policyOf sample .rules) 0 []) ≡ true
+      → destIn (policyOf sample) q (getD (policyOf sample .rules) 0 []) ≡ true → q .class ≡ 5 → q .action ≡ 1
+      → stepsAt (policyOf sample) q 0 ≡ 5
   pub rule-0-four :
       (q : Query) → sourceIn (policyOf sample) q (getD (policyOf sample .rules) 0 []) ≡ true
       → destIn (policyOf sample) q (getD (policyOf sample .rules) 0 []) ≡ true → q .class ≡ 5 → (q .action ≡ 1 → ⊥)
@@ -340,22 +360,29 @@ pub record NearingMet : Type 0 where
   pub rule-0-one : stepsAt (policyOf sample) (query 13 21 5 1) 0 ≡ 1
   pub named-last :
       (l : List ℕ) (q : Query) (s n k : ℕ) → answer l q ≡ gives (notPermitted (Near s n)) → length (policyOf l .rules) ≡ suc k → n ≤ k
+  pub named-passes : (l : List ℕ) (q : Query) (s n : ℕ) → answer l q ≡ gives (notPermitted (Near s n)) → s ≤ stepsAt (policyOf l) q n
   pub named-few : (l : List ℕ) (q : Query) (s n : ℕ) → answer l q ≡ gives (notPermitted (Near s n)) → stepsAt (policyOf l) q n ≤ 4
-  -- NearestOfAll: the last rule passes no more, and the rule before the one named fewer
+  -- NearestOfAll: the last rule passes no more, and each rule before the one named fewer
   pub last-no-more :
       (l : List ℕ) (q : Query) (s n k : ℕ) → answer l q ≡ gives (notPermitted (Near s n)) → length (policyOf l .rules) ≡ suc k
       → stepsAt (policyOf l) q k ≤ s
-  pub before-fewer : (l : List ℕ) (q : Query) (s n : ℕ) → answer l q ≡ gives (notPermitted (Near s (suc n))) → stepsAt (policyOf l) q n < s
+  pub lower-fewer :
+      (l : List ℕ) (q : Query) (s n k : ℕ) → answer l q ≡ gives (notPermitted (Near s n)) → k < n → stepsAt (policyOf l) q k < s
   -- NoRulesExactly: the empty policy, of every query of basic types; the sample never says so
   pub empty-no-rules : (q : Query) → q .source < 1024 → q .dest < 1024 → answer empty q ≡ gives (notPermitted NoRules)
   pub sample-has-rules : (q : Query) → answer sample q ≡ gives (notPermitted NoRules) → ⊥
-  -- DecisionsStay: of each kind
+  -- DecisionsStay: of each kind; the rule is the lowest record that permits, as the papers have it
+  pub rule-before :
+      (l : List ℕ) (q : Query) (r : ℕ) → answer l q ≡ gives (permitted r) → firstAt (permits (policyOf l) q) 0 (policyOf l .rules) ≡ some r
   pub member-before : answerBefore sample (query 10 21 5 1) ≡ gives (allowed 0)
   pub off-before : answerBefore sample (query 13 21 5 1) ≡ gives denied
   pub unknown-before : answerBefore (sampleAnd companion) (query 10 21 5 1) ≡ gives (stopped 0 2)
   pub refused-before : answerBefore sample (query 1024 21 5 1) ≡ refused (refusal 8 0)
-  -- StepCases: all of them; the one of the last rule
+  -- StepCases: all of them; two rules that are off, two that pass as many, the last rule
   pub step-cases-all : length stepCases ≡ 23
+  pub all-off-near :
+      answer (extended (extended empty (off (allow 10 21 5 1))) (off (allow 10 21 5 2))) (query 10 21 5 1) ≡ gives (notPermitted (Near 0 0))
+  pub lowest-near : answer (extended (extended empty (allow 10 21 5 1)) (allow 10 21 5 2)) (query 10 21 5 3) ≡ gives (notPermitted (Near 4 0))
   pub last-rule-near : answer (sampleAnd (allow 14 21 5 7)) (query 14 21 5 8) ≡ gives (notPermitted (Near 4 4))
 
 pub record PrintingMet : Type 0 where
@@ -373,6 +400,7 @@ pub record PrintingMet : Type 0 where
   -- WorkedLines, WorkedRuns: all of them, and some by themselves
   pub lines-all : length workedLines ≡ 10
   pub runs-all : length workedRuns ≡ 16
+  pub near-line : line (gives (notPermitted (Near 4 1023))) ≡ ascii "N 4 1023\n"
   pub no-rules-line : line (gives (notPermitted NoRules)) ≡ ascii "N -\n"
   pub unknown-line : line (gives (unknown 1023 255)) ≡ ascii "U 1023 255\n"
   pub three-printed : printed (sample ++ threeQueries) ≡ ascii threeSaid

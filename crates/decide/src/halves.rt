@@ -3,14 +3,15 @@ use crate::word::word_in;
 ghost use mathlib.Core.Path.{_≡_};
 ghost use mathlib.Core.Bool.{cond};
 ghost use lib.Dec.{leb};
-ghost use Prim.Native.Nat.{_+_, _*_, _≤_, _<_};
+ghost use Prim.Native.Nat.{_+_, _*_, _<_};
 ghost use lib.ListN.{length};
 ghost use Rattle.format.specs.Bytes.{wordAt};
-ghost use Rattle.format.specs.Inner.Places.{wordsAt, Rising};
+ghost use Rattle.format.specs.Inner.Places.{wordsAt};
 ghost use Rattle.decision.specs.Sets.{isIn};
+ghost use Rattle.decide.specs.Inner.Parts.{Part};
 
 // Where to look on, past so many members or at the place itself: a number is not among those before a member that it comes up
-// to. A place is chosen, and no way out of the walk, so that it costs no branch.
+// to.
 fn half(image: &[u8], at: usize, many: usize, x: usize) -> usize
     requires { ⌜ at + 2 * many + 1 < length (now image) ⌝ }
     ensures { λ r. ⌜ r ≡ cond (leb (wordAt (now (image .entry)) (at + 2 * many)) x) (at + 2 * many) at ⌝ }
@@ -24,7 +25,7 @@ fn half(image: &[u8], at: usize, many: usize, x: usize) -> usize
 
 // Whether a number is among the members of a part.
 pub(crate) fn is_among(image: &[u8], from: usize, count: usize, x: usize) -> bool
-    requires { ⌜ (0 < count) × (from + 2 * count ≤ length (now image)) × Rising 0 (wordsAt (now image) count from) ⌝ }
+    requires { ⌜ Part (now image) from count ⌝ }
     ensures { λ r. ⌜ r ≡ isIn x (wordsAt (now (image .entry)) count from) ⌝ }
 {
     let mut at = from;

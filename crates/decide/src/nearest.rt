@@ -123,6 +123,7 @@ pub(crate) fn nearest_rule(
             steps: next.steps,
             rule: next.n,
         };
+        // its kind is not known here
         at = past(image, next.at, false);
         n = next.n + 1;
     }

@@ -34,7 +34,7 @@ fn is_of_other_class(image: &[u8], at: usize, q: Query) -> bool
     word_in(image, at + 6) != wide_word(q.class)
 }
 
-// Whether the rule at a place passes no more steps than so many, since its class stops it after three.
+// Whether the rule at a place passes no more steps than so many, three or more, since its class is another.
 fn is_stopped_by_class(image: &[u8], at: usize, q: Query, most: usize) -> bool
     requires { ⌜ RuleHere (now image) at ⌝ }
     ensures { λ r. ⌜ r ≡ classStops (now (image .entry)) at (q .class) most ⌝ }
@@ -95,7 +95,7 @@ fn steps_on(
 }
 
 // How many steps the rule at a place passes, where they are more than so many; else a number that is no more either, so that a
-// type is walked only where it may tell.
+// type is walked only where it may tell. Each test but the last tells that the rule passes no more; the order is that of their cost.
 pub(crate) fn steps_at(
     image: &[u8],
     groups: &[u16; 256],

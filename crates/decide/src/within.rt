@@ -31,12 +31,12 @@ pub(crate) fn is_within(
     if inner < 32768 {
         return is_among(image, outer.from, outer.count, inner);
     }
-    let s = group_span(image, groups, inner - 32768);
-    if word_in(image, s.from) < word_in(image, outer.from) {
+    let span = group_span(image, groups, inner - 32768);
+    if word_in(image, span.from) < word_in(image, outer.from) {
         return false;
     }
     let last = outer.from + 2 * (outer.count - 1);
-    if word_in(image, last) < word_in(image, s.from + 2 * (s.count - 1)) {
+    if word_in(image, last) < word_in(image, span.from + 2 * (span.count - 1)) {
         return false;
     }
     fully_marked(image, outer.from, outer.count, marks, size)

@@ -148,14 +148,23 @@ pub cases-many : length cases ≡ 14
 unfolding cases
 cases-many = refl
 
--- the rows of the steps' table: how many, and the one of the last rule
+-- the rows of the steps' table: how many, and some by themselves
 pub steps-many : length stepCases ≡ 23
 unfolding stepCases
 steps-many = refl
 
-pub last-rule-near : StepCases → answer (extended sample (allow 14 21 5 7)) (asked 14 21 5 8) ≡ gives (notPermitted (Near 4 4))
+pub record StepAnswers : Type 0 where
+  pub all-off :
+      answer (extended (extended empty (off (allow 10 21 5 1))) (off (allow 10 21 5 2))) (asked 10 21 5 1) ≡ gives (notPermitted (Near 0 0))
+  pub lowest : answer (extended (extended empty (allow 10 21 5 1)) (allow 10 21 5 2)) (asked 10 21 5 3) ≡ gives (notPermitted (Near 4 0))
+  pub last-rule : answer (extended sample (allow 14 21 5 7)) (asked 14 21 5 8) ≡ gives (notPermitted (Near 4 4))
+
+pub step-answers : StepCases → StepAnswers
 unfolding stepCases given expectedOf ask
-last-rule-near e = ap (λ (xs : List (Outcome Decision)). getD xs 17 (gives (notPermitted NoRules))) e
+step-answers e = record { all-off = row 7; lowest = row 14; last-rule = row 17 }
+  where
+    row : (n : ℕ) → getD (map given stepCases) n (gives (notPermitted NoRules)) ≡ getD (map expectedOf stepCases) n (gives (notPermitted NoRules))
+    row n = ap (λ (xs : List (Outcome Decision)). getD xs n (gives (notPermitted NoRules))) e
 
 -- the sample's rules: rule 0, of class 5 and action 1; rule 2, a transition; rule 3, which is off; and the empty policy's
 pub record SampleRules : Type 0 where

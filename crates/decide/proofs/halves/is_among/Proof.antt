@@ -13,7 +13,7 @@ abbrev μ-loop : tie.MeasureT-loop
 μ-loop image from count x at₀ left₀ at left = left
 
 loop-holds : tie.Need-loop-holds Inv-loop μ-loop
-loop-holds c = let p = c .before .pre in record { some = p .0; room = p .1; rising = p .2; same = refl }
+loop-holds c = let p = c .before .pre in record { some = p .some; room = p .room; rising = p .rising; same = refl }
 
 half-requires : tie.Need-half-requires Inv-loop μ-loop
 half-requires c κs = omega (arith, c .before .loop .inv .room)
