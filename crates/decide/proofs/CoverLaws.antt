@@ -1,5 +1,5 @@
 -- Laws of the search for the lowest covering rule, one for each way that a turn goes. Assumes nothing.
-use Prim.Native.Nat.{ℕ, _+_}
+use Prim.Native.Nat.{ℕ, _+_, _%_, _<_}
 use mathlib.Core.Path.{_≡_, refl, sym, ap, _∙_}
 use mathlib.Core.Logic.{⊎-elim}
 use mathlib.Core.Bool.{Bool, true, false, and-true, and-false, and-comm, cond, _&&_}
@@ -12,6 +12,7 @@ use Rattle.format.specs.Bytes.{wordAt}
 use Rattle.format.specs.Policy.{policyOf}
 use Rattle.format.specs.Inner.Places.{RuleAt}
 use Rattle.format.proofs.Tests.{false-not-true}
+use Rattle.format.proofs.Bytes.{word-at}
 use Rattle.format.proofs.Shapes.{stands-word}
 use Rattle.decision.specs.declared.Query.{Query}
 use Rattle.decision.specs.Sets.{allOf, within}
@@ -91,12 +92,27 @@ module _ (l : List ℕ) (at : ℕ) (q : Query) (r : List ℕ) (h : RuleAt l at r
   pub covers-yes : may? ≡ true → dest? ≡ true → source? ≡ true → covers (requestIn l q) (ruleOf (policyOf l) r) ≡ true
   covers-yes a b c = covers-is ∙ simp (a, b, c)
 
+-- the low byte of the class
+pub low-byte : (l : List ℕ) (at x class : ℕ) → x ≡ getD l (at + 7) 0 → x < 256 → wordAt l (at + 6) ≡ class → x ≡ class % 256
+low-byte l at x class e few is =
+    let z : at + 6 + 1 ≡ at + 7 = omega arith in
+    let low = ap (λ (i : ℕ). getD l i 0) z in
+    omega (arith, word-at l (at + 6), low)
+
 module _ (l : List ℕ) (at class action : ℕ) where
   pub may-transition : getD l (at + 1) 0 ≡ 3 → mayAt l at class action ≡ true
   unfolding mayAt
   may-transition e = simp (eq-eqb (getD l (at + 1) 0) 3 e)
 
   module _ (k : getD l (at + 1) 0 ≡ 3 → ⊥) where
+    pub may-other : (wordAt l (at + 6) ≡ class → ⊥) → mayAt l at class action ≡ false
+    unfolding mayAt
+    may-other h = simp (ne-eqb (getD l (at + 1) 0) 3 k, ne-eqb (wordAt l (at + 6)) class h) (either (eqb (getD l (at + 10) 0) 1))
+      where
+        either : (b : Bool) → cond b false false ≡ false
+        either true = refl
+        either false = refl
+
     pub may-off : (getD l (at + 10) 0 ≡ 1 → ⊥) → mayAt l at class action ≡ false
     unfolding mayAt
     may-off h = simp (ne-eqb (getD l (at + 1) 0) 3 k, ne-eqb (getD l (at + 10) 0) 1 h)

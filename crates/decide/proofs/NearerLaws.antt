@@ -20,6 +20,7 @@ use Rattle.format.specs.Policy.{policyOf, recordAt, recordsAt, startOf}
 use Rattle.format.specs.Format.{countOf}
 use Rattle.format.specs.Inner.Places.{RuleAt}
 use Rattle.format.proofs.Tests.{false-not-true}
+use Rattle.format.proofs.Bytes.{word-at}
 use Rattle.format.proofs.Records.{records-none, records-next}
 use Rattle.format.proofs.Shapes.{stands-word}
 use Rattle.decision.specs.declared.Query.{Query}
@@ -97,6 +98,14 @@ module _ (l : List ℕ) (at : ℕ) (ms : List Bool) (kept : List ℕ) (passed mo
       go : (b : Bool) → ltb most passed ≡ b → cond b false (outsideIn ms kept (wordAt l at)) ≡ true → (passed ≤ most) × (outsideIn ms kept (wordAt l at) ≡ true)
       go true h k = false-not-true k
       go false h k = (ltb-false most passed h, k)
+
+-- a type by its two bytes: a group's number is the low one, and is below 256
+module _ (l : List ℕ) (at : ℕ) where
+  pub high-group : wordAt l at < 33024 → 127 < getD l at 0 → (32768 ≤ wordAt l at) × (wordAt l at - 32768 ≡ getD l (at + 1) 0)
+  high-group few h = (omega (arith, word-at l at), omega (arith, word-at l at))
+
+  pub high-basic : getD l at 0 ≤ 127 → getD l (at + 1) 0 < 256 → wordAt l at < 32768
+  high-basic h low = omega (arith, word-at l at)
 
 -- ---- how many steps a rule passes
 

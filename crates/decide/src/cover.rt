@@ -4,6 +4,7 @@ use crate::kept::keep_outside;
 use crate::kept::known_outside;
 use crate::rules::past;
 use crate::types::members;
+use crate::word::wide;
 use crate::word::wide_word;
 use crate::word::word_in;
 use decision::Query;
@@ -19,13 +20,17 @@ pub(crate) enum Found {
     Nothing,
 }
 
-// What the condition, the class and the action of the rule at a place let through. A transition lets all through.
+// What the condition, the class and the action of the rule at a place let through. A transition lets all through. Most rules are
+// of another class, which the low byte tells first.
 fn may(image: &[u8], at: usize, q: Query) -> bool
     requires { ⌜ RuleHere (now image) at ⌝ }
     ensures { λ r. ⌜ r ≡ mayAt (now (image .entry)) at (q .class) (q .action) ⌝ }
 {
     if image[at + 1] == 3 {
         return true;
+    }
+    if wide(image[at + 7]) != wide_word(q.class) % 256 {
+        return false;
     }
     if image[at + 10] != 1 {
         return false;

@@ -1,8 +1,8 @@
 // How many steps the rule at a place passes of a query that no rule covers: condition, source, destination, class. As none covers,
 // the action is not asked.
 use crate::kept::inside;
-use crate::kept::known_outside;
 use crate::rules::is_allow;
+use crate::word::wide;
 use crate::word::wide_word;
 use crate::word::word_in;
 use decision::Query;
@@ -61,7 +61,11 @@ fn is_known_to_stop(
     if most < passed {
         return false;
     }
-    known_outside(word_in(image, at), marks, kept)
+    // a group's number is the low byte
+    if 127 < image[at] {
+        return kept[wide(image[at + 1])] == 1;
+    }
+    !marks[word_in(image, at)]
 }
 
 // How many steps the rule at a place passes, which is on.
