@@ -49,7 +49,7 @@ pub(crate) fn keep_outside(t: usize, kept: &mut [u8; 256])
 }
 
 // Whether a type of the query, marked and of a size, is within a group, of which nothing is kept yet.
-fn find_inside(
+pub(crate) fn find_inside(
     image: &[u8],
     groups: &[u16; 256],
     g: usize,

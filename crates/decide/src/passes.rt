@@ -1,5 +1,6 @@
 // How many steps the rule at a place passes of a query that no rule covers: condition, source, destination, class. As none covers,
 // the action is not asked.
+use crate::kept::find_inside;
 use crate::kept::inside;
 use crate::rules::is_allow;
 use crate::word::wide;
@@ -10,7 +11,7 @@ ghost use mathlib.Core.Path.{_≡_};
 ghost use Rattle.format.specs.Check.{Accepted};
 ghost use Rattle.decide.specs.Inner.Parts.{Known, TypeAt, RuleHere, ruleIn, requestIn};
 ghost use Rattle.decide.specs.Inner.Kept.{Sides, Leaves};
-ghost use Rattle.decide.specs.Inner.Nearer.{offAt, otherClassAt, classStops, stopsAt, On, shortSteps, Counts};
+ghost use Rattle.decide.specs.Inner.Nearer.{offAt, otherClassAt, classStops, stopsAt, On, SourceIn, shortSteps, Counts};
 
 // Whether the rule at a place is an allow rule that is off.
 fn is_off(image: &[u8], at: usize) -> bool
@@ -68,7 +69,34 @@ fn is_known_to_stop(
     !marks[word_in(image, at)]
 }
 
-// How many steps the rule at a place passes, which is on.
+// How many steps the rule at a place passes, which is on and passes its source.
+fn steps_past_source(
+    image: &[u8],
+    groups: &[u16; 256],
+    at: usize,
+    q: Query,
+    source: &[bool; 1024],
+    sources: usize,
+    dest: &[bool; 1024],
+    dests: usize,
+    ksource: &[u8; 256],
+    kdest: &mut [u8; 256],
+) -> usize
+    requires { ⌜ Known (now image) (now groups) × On (now image) at
+        × Sides (now image) q (now source) sources (now dest) dests (now ksource) (now kdest) × SourceIn (now image) q at ⌝ }
+    ensures { λ r. ⌜ Leaves (shortSteps (requestIn (now (image .entry)) q) (ruleIn (now (image .entry)) at))
+        (Sides (now (image .entry)) q (now (source .entry)) sources (now (dest .entry)) dests (now (ksource .entry)) (now (kdest .exit))) r ⌝ }
+{
+    if !inside(image, groups, at + 4, q.dest, dest, dests, kdest) {
+        return 2;
+    }
+    if is_of_other_class(image, at, q) {
+        return 3;
+    }
+    4
+}
+
+// How many steps the rule at a place passes, which is on. What is known of its source costs no call.
 fn steps_on(
     image: &[u8],
     groups: &[u16; 256],
@@ -86,16 +114,54 @@ fn steps_on(
     ensures { λ r. ⌜ Leaves (shortSteps (requestIn (now (image .entry)) q) (ruleIn (now (image .entry)) at))
         (Sides (now (image .entry)) q (now (source .entry)) sources (now (dest .entry)) dests (now (ksource .exit)) (now (kdest .exit))) r ⌝ }
 {
-    if !inside(image, groups, at + 2, q.source, source, sources, ksource) {
+    let t = word_in(image, at + 2);
+    if t < 32768 {
+        if !inside(image, groups, at + 2, q.source, source, sources, ksource) {
+            return 1;
+        }
+        return steps_past_source(
+            image,
+            groups,
+            at,
+            q,
+            source,
+            sources,
+            dest,
+            dests,
+            ksource,
+            kdest,
+        );
+    }
+    let g = t - 32768;
+    if ksource[g] == 2 {
+        return steps_past_source(
+            image,
+            groups,
+            at,
+            q,
+            source,
+            sources,
+            dest,
+            dests,
+            ksource,
+            kdest,
+        );
+    }
+    if !find_inside(image, groups, g, q.source, source, sources, ksource) {
         return 1;
     }
-    if !inside(image, groups, at + 4, q.dest, dest, dests, kdest) {
-        return 2;
-    }
-    if is_of_other_class(image, at, q) {
-        return 3;
-    }
-    4
+    steps_past_source(
+        image,
+        groups,
+        at,
+        q,
+        source,
+        sources,
+        dest,
+        dests,
+        ksource,
+        kdest,
+    )
 }
 
 // How many steps the rule at a place passes, where they are more than so many; else a number that is no more either, so that a

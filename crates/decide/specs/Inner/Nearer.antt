@@ -5,7 +5,7 @@
 --     stopsAt l at ms kept passed most   nor does it where the type in a field, of which it is known, stops it after `passed` steps
 --     shortSteps a r        the steps, but for the action's, which is asked of no rule: at most 4
 --     Counts most s r       r is s where that is more than `most`, else it is no more than `most` either
---     On l at               the rule at a place is on
+--     On l at               the rule at a place is on; SourceIn l q at: it passes the query's source
 --     nearOf b              the nearest so far, as the code's `Best`
 --     AtNearest l q b count n at   where the walk stands: the nearest so far, and the rules from rule n on, give the nearest of all
 --     Comes l q b count n x   where it stands at the next rule, from rule n on, that comes nearer, if one does
@@ -21,13 +21,13 @@ use Rattle.format.specs.Policy.{policyOf}
 use Rattle.decision.specs.declared.Query.{Query}
 use Rattle.decision.specs.declared.Nearest.{Nearest}
 use Rattle.decision.specs.declared.Nearest.the-variants.{Near}
-use Rattle.decision.specs.Sets.{anyOf}
+use Rattle.decision.specs.Sets.{anyOf, within}
 use Rattle.decision.specs.Reading.{Rule, Request, ruleOf}
 use Rattle.decision.specs.Decide.{tests, covers, passes, nearest}
 use Rattle.decision.specs.Inner.OnePass.{nearestFrom}
 use Rattle.decide.specs.declared.nearest.Best.{Best}
 use Rattle.decide.specs.declared.nearest.Next.{Next}
-use Rattle.decide.specs.Inner.Parts.{RuleHere, rulesIn, ruleIn, requestIn}
+use Rattle.decide.specs.Inner.Parts.{RuleHere, rulesIn, ruleIn, requestIn, setIn, setAt}
 use Rattle.decide.specs.Inner.Kept.{outsideIn}
 use Rattle.decide.specs.Inner.Walks.{Walk}
 use Rattle.decide.specs.Inner.Rules.{allowAt}
@@ -60,6 +60,9 @@ nearOf b = Near (b .steps) (b .rule)
 pub record On (l : List ℕ) (at : ℕ) : Type 0 where
   pub here : RuleHere l at
   pub on : offAt l at ≡ false
+
+abbrev pub SourceIn : List ℕ → Query → ℕ → Type 0
+SourceIn l q at = within (setIn l (q .source)) (setAt l (at + 2)) ≡ true
 
 abbrev pub AtNearest : List ℕ → Query → Best → ℕ → ℕ → ℕ → Type 0
 AtNearest l q b =
