@@ -19,7 +19,8 @@ use Rattle.decision.specs.Sets.{allOf, within}
 use Rattle.decision.specs.Reading.{Rule, Request, asks, ruleOf, requestOf}
 use Rattle.decision.specs.Decide.{tests, covers}
 use Rattle.decide.specs.Inner.Parts.{setIn, setAt, requestIn}
-use Rattle.decide.specs.Inner.Rules.{mayAt}
+use Rattle.decide.specs.Inner.Rules.{allowAt, mayAt}
+use Rattle.decide.proofs.RuleLaws.{allow-not}
 
 -- ---- what a rule's tests come to
 
@@ -52,7 +53,7 @@ module _ (l : List ℕ) (at : ℕ) (q : Query) (r : List ℕ) (h : RuleAt l at r
   source? = within (setIn l (q .source)) (setAt l (at + 2))
 
   asked-is : asked? (requestIn l q) (ruleOf (policyOf l) r) ≡ may?
-  unfolding asked? asks ruleOf requestOf mayAt
+  unfolding asked? asks ruleOf requestOf mayAt allowAt
   asked-is =
       let k1 : getD r 1 0 ≡ getD l (at + 1) 0 = h .here .field 1 (omega (arith, h .long)) in
       ⊎-elim
@@ -61,7 +62,7 @@ module _ (l : List ℕ) (at : ℕ) (q : Query) (r : List ℕ) (h : RuleAt l at r
       let k8 : wordAt r 8 ≡ wordAt l (at + 8) = stands-word l at r 8 (h .here) (omega (arith, w .1)) in
       let k10 : getD r 10 0 ≡ getD l (at + 10) 0 = h .here .field 10 (omega (arith, w .1)) in
       simp (k1, k6, k8, k10, eq-eqb (getD l (at + 1) 0) 2 (w .0), ne-eqb (getD l (at + 1) 0) 3 (omega (arith, w .0))))
-      (λ w. simp (k1, eq-eqb (getD l (at + 1) 0) 3 w))
+      (λ w. simp (k1, eq-eqb (getD l (at + 1) 0) 3 w, ne-eqb (getD l (at + 1) 0) 2 (omega (arith, w))))
       (h .kind)
 
   pub covers-is : covers (requestIn l q) (ruleOf (policyOf l) r) ≡ may? && dest? && source?
@@ -100,14 +101,14 @@ low-byte l at x class e few is =
     omega (arith, word-at l (at + 6), low)
 
 module _ (l : List ℕ) (at class action : ℕ) where
-  pub may-transition : getD l (at + 1) 0 ≡ 3 → mayAt l at class action ≡ true
+  pub may-transition : allowAt l at ≡ false → mayAt l at class action ≡ true
   unfolding mayAt
-  may-transition e = simp (eq-eqb (getD l (at + 1) 0) 3 e)
+  may-transition e = simp e
 
-  module _ (k : getD l (at + 1) 0 ≡ 3 → ⊥) where
+  module _ (k : allowAt l at ≡ true) where
     pub may-other : (wordAt l (at + 6) ≡ class → ⊥) → mayAt l at class action ≡ false
     unfolding mayAt
-    may-other h = simp (ne-eqb (getD l (at + 1) 0) 3 k, ne-eqb (wordAt l (at + 6)) class h) (either (eqb (getD l (at + 10) 0) 1))
+    may-other h = simp (k, ne-eqb (wordAt l (at + 6)) class h) (either (eqb (getD l (at + 10) 0) 1))
       where
         either : (b : Bool) → cond b false false ≡ false
         either true = refl
@@ -115,16 +116,20 @@ module _ (l : List ℕ) (at class action : ℕ) where
 
     pub may-off : (getD l (at + 10) 0 ≡ 1 → ⊥) → mayAt l at class action ≡ false
     unfolding mayAt
-    may-off h = simp (ne-eqb (getD l (at + 1) 0) 3 k, ne-eqb (getD l (at + 10) 0) 1 h)
+    may-off h = simp (k, ne-eqb (getD l (at + 10) 0) 1 h)
 
     pub may-class : (c : ℕ) → c ≡ wordAt l (at + 6) → getD l (at + 10) 0 ≡ 1 → (c ≡ class → ⊥) → mayAt l at class action ≡ false
     unfolding mayAt
-    may-class c e o h = simp (ne-eqb (getD l (at + 1) 0) 3 k, eq-eqb (getD l (at + 10) 0) 1 o, ne-eqb (wordAt l (at + 6)) class (λ d. h (e ∙ d)))
+    may-class c e o h = simp (k, eq-eqb (getD l (at + 10) 0) 1 o, ne-eqb (wordAt l (at + 6)) class (λ d. h (e ∙ d)))
 
     pub may-action : (c a : ℕ) → c ≡ wordAt l (at + 6) → a ≡ wordAt l (at + 8) → getD l (at + 10) 0 ≡ 1 → c ≡ class → mayAt l at class action ≡ eqb a action
     unfolding mayAt
-    may-action c a e f o h = rw f (simp (ne-eqb (getD l (at + 1) 0) 3 k, eq-eqb (getD l (at + 10) 0) 1 o, eq-eqb (wordAt l (at + 6)) class (sym e ∙ h)))
+    may-action c a e f o h = rw f (simp (k, eq-eqb (getD l (at + 10) 0) 1 o, eq-eqb (wordAt l (at + 6)) class (sym e ∙ h)))
 
 -- a rule that is not let through is an allow rule
 pub may-length : (l : List ℕ) (at : ℕ) (r : List ℕ) → RuleAt l at r → (class action : ℕ) → mayAt l at class action ≡ false → getD l at 0 ≡ 11
-may-length l at r h class action e = ⊎-elim (λ w. omega (arith, w .1, h .here .size)) (λ w. false-not-true (sym e ∙ may-transition l at class action w)) (h .kind)
+may-length l at r h class action e =
+    ⊎-elim
+    (λ w. omega (arith, w .1, h .here .size))
+    (λ w. false-not-true (sym e ∙ may-transition l at class action (allow-not l at w)))
+    (h .kind)

@@ -13,7 +13,7 @@ use mathlib.Core.Bool.{Bool, true, false, not, cond}
 use mathlib.Core.List.{List, [], _∷_, map, List·Memᴰ}
 use lib.ListN.{getD, take}
 use lib.Dec.{eqb, leb, ltb}
-use borrow.Author.Tests.{eq-eqb, ne-eqb, lt-ltb, le-ltb, ltb-true, ltb-false, eqb-true, not-true}
+use borrow.Author.Tests.{eq-eqb, ne-eqb, lt-ltb, le-ltb, ltb-true, ltb-false, not-true}
 use Rattle.format.specs.declared.Section.the-variants.{Rules}
 use Rattle.format.specs.Bytes.{wordAt}
 use Rattle.format.specs.Policy.{policyOf, recordAt, recordsAt, startOf}
@@ -37,7 +37,7 @@ use Rattle.decide.specs.Inner.Parts.{rulesIn, requestIn, setIn, setAt}
 use Rattle.decide.specs.Inner.Kept.{outsideIn}
 use Rattle.decide.specs.Inner.Rules.{allowAt}
 use Rattle.decide.specs.Inner.Nearer.{Uncovered, offAt, otherClassAt, classStops, stopsAt, shortSteps, Counts, nearOf, AtNearest}
-use Rattle.decide.proofs.RuleLaws.{source-is, dest-is, allow-length}
+use Rattle.decide.proofs.RuleLaws.{source-is, dest-is}
 use Rattle.decide.proofs.WalkLaws.{walk-start, walk-next, walk-hit, walk-end, all-rules}
 
 -- ---- the tests of a rule at a place
@@ -60,10 +60,6 @@ module _ (l : List ℕ) (at : ℕ) where
     pub other-yes : (class : ℕ) → otherClassAt l at class ≡ not (eqb (wordAt l (at + 6)) class)
     unfolding otherClassAt
     other-yes class = simp e
-
-    pub allow-long : (r : List ℕ) → RuleAt l at r → getD l at 0 ≡ 11
-    unfolding allowAt
-    allow-long r h = allow-length l at r h (eqb-true (getD l (at + 1) 0) 2 e)
 
   module _ (class most : ℕ) where
     pub class-few : most < 3 → classStops l at class most ≡ false

@@ -5,7 +5,7 @@ use mathlib.Core.Logic.{⊎-elim}
 use mathlib.Core.Bool.{Bool, true, false, _&&_}
 use mathlib.Core.List.{List}
 use native.Mathlib.Omega.{arith}
-use lib.ListN.{length, getD}
+use lib.ListN.{getD}
 use lib.Dec.{eqb}
 use borrow.Author.Tests.{eq-eqb, ne-eqb}
 use Rattle.format.specs.Inner.Places.{RuleAt}
@@ -16,11 +16,11 @@ use Rattle.decision.specs.Sets.{setOf}
 use Rattle.decision.specs.Reading.{Rule, ruleOf, live}
 use Rattle.decide.specs.Inner.Parts.{groupsIn, setAt}
 use Rattle.decide.specs.Inner.Marks.{anyMarked}
-use Rattle.decide.specs.Inner.Rules.{liveAt, reaching, reachingFrom}
+use Rattle.decide.specs.Inner.Rules.{allowAt, liveAt, reaching, reachingFrom}
 
 module _ (l : List ℕ) (at : ℕ) (r : List ℕ) (h : RuleAt l at r) where
   live-is : live (ruleOf (policyOf l) r) ≡ liveAt l at
-  unfolding live liveAt ruleOf
+  unfolding live liveAt allowAt ruleOf
   live-is =
       let k1 : getD r 1 0 ≡ getD l (at + 1) 0 = h .here .field 1 (omega (arith, h .long)) in
       ⊎-elim
@@ -58,23 +58,24 @@ unfolding reachingFrom
 reaching-source ms f R e = simp e
 
 module _ (l : List ℕ) (at : ℕ) where
-  pub live-off : (getD l (at + 1) 0 ≡ 2 → ⊥) → liveAt l at ≡ false
+  pub live-off : allowAt l at ≡ false → liveAt l at ≡ false
   unfolding liveAt
-  live-off h = simp (ne-eqb (getD l (at + 1) 0) 2 h)
+  live-off e = simp e
 
-  pub live-on : getD l (at + 1) 0 ≡ 2 → liveAt l at ≡ eqb (getD l (at + 10) 0) 1
+  pub live-on : allowAt l at ≡ true → liveAt l at ≡ eqb (getD l (at + 10) 0) 1
   unfolding liveAt
-  live-on h = simp (eq-eqb (getD l (at + 1) 0) 2 h)
+  live-on e = simp e
+
+  -- a transition is no allow rule
+  pub allow-not : getD l (at + 1) 0 ≡ 3 → allowAt l at ≡ false
+  unfolding allowAt
+  allow-not w = ne-eqb (getD l (at + 1) 0) 2 (omega (arith, w))
 
   module _ (r : List ℕ) (h : RuleAt l at r) where
-    -- one that is no transition has 11 bytes
-    pub rule-long : (getD l (at + 1) 0 ≡ 3 → ⊥) → length r ≡ 11
-    rule-long k = ⊎-elim (λ w. w .1) (λ w. absurd (k w)) (h .kind)
-
-    -- and so has an allow rule
-    pub allow-length : getD l (at + 1) 0 ≡ 2 → getD l at 0 ≡ 11
-    allow-length k = ⊎-elim (λ w. omega (arith, w .1, h .here .size)) (λ w. absurd (omega (arith, w))) (h .kind)
+    -- an allow rule has 11 bytes
+    pub allow-long : allowAt l at ≡ true → getD l at 0 ≡ 11
+    allow-long e = ⊎-elim (λ w. omega (arith, w .1, h .here .size)) (λ w. false-not-true (sym (allow-not w) ∙ e)) (h .kind)
 
     -- and so has a live one
     pub live-length : (b : Bool) → b ≡ liveAt l at → b ≡ true → getD l at 0 ≡ 11
-    live-length b is e = ⊎-elim (λ w. omega (arith, w .1, h .here .size)) (λ w. false-not-true (sym (live-off (λ k. absurd (omega (arith, w)))) ∙ sym is ∙ e)) (h .kind)
+    live-length b is e = ⊎-elim (λ w. omega (arith, w .1, h .here .size)) (λ w. false-not-true (sym (live-off (allow-not w)) ∙ sym is ∙ e)) (h .kind)

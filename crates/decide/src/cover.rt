@@ -2,6 +2,7 @@
 use crate::kept::inside;
 use crate::kept::keep_outside;
 use crate::kept::known_outside;
+use crate::rules::is_allow;
 use crate::rules::past;
 use crate::types::members;
 use crate::word::wide;
@@ -26,7 +27,7 @@ fn may(image: &[u8], at: usize, q: Query) -> bool
     requires { ⌜ RuleHere (now image) at ⌝ }
     ensures { λ r. ⌜ r ≡ mayAt (now (image .entry)) at (q .class) (q .action) ⌝ }
 {
-    if image[at + 1] == 3 {
+    if !is_allow(image, at) {
         return true;
     }
     if wide(image[at + 7]) != wide_word(q.class) % 256 {

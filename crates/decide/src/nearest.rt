@@ -51,10 +51,12 @@ fn next_nearer(
     let mut at = place;
     let mut n = from;
     while n < count {
+        let allow = is_allow(image, at);
         let steps = steps_at(
             image,
             groups,
             at,
+            allow,
             q,
             source,
             sources,
@@ -67,7 +69,7 @@ fn next_nearer(
         if best.steps < steps {
             return Next { n, at, steps };
         }
-        at = past(image, at, is_allow(image, at));
+        at = past(image, at, allow);
         n += 1;
     }
     Next { n, at, steps: 0 }

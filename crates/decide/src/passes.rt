@@ -11,39 +11,40 @@ ghost use mathlib.Core.Path.{_≡_};
 ghost use Rattle.format.specs.Check.{Accepted};
 ghost use Rattle.decide.specs.Inner.Parts.{Known, TypeAt, RuleHere, ruleIn, requestIn};
 ghost use Rattle.decide.specs.Inner.Kept.{Sides, Leaves};
+ghost use Rattle.decide.specs.Inner.Rules.{allowAt};
 ghost use Rattle.decide.specs.Inner.Nearer.{offAt, otherClassAt, classStops, stopsAt, On, SourceIn, shortSteps, Counts};
 
 // Whether the rule at a place is an allow rule that is off.
-fn is_off(image: &[u8], at: usize) -> bool
-    requires { ⌜ RuleHere (now image) at ⌝ }
+fn is_off(image: &[u8], at: usize, allow: bool) -> bool
+    requires { ⌜ RuleHere (now image) at × (allow ≡ allowAt (now image) at) ⌝ }
     ensures { λ r. ⌜ r ≡ offAt (now (image .entry)) at ⌝ }
 {
-    if !is_allow(image, at) {
+    if !allow {
         return false;
     }
     image[at + 10] != 1
 }
 
 // Whether the rule at a place is an allow rule of another class than the query's.
-fn is_of_other_class(image: &[u8], at: usize, q: Query) -> bool
-    requires { ⌜ RuleHere (now image) at ⌝ }
+fn is_of_other_class(image: &[u8], at: usize, allow: bool, q: Query) -> bool
+    requires { ⌜ RuleHere (now image) at × (allow ≡ allowAt (now image) at) ⌝ }
     ensures { λ r. ⌜ r ≡ otherClassAt (now (image .entry)) at (q .class) ⌝ }
 {
-    if !is_allow(image, at) {
+    if !allow {
         return false;
     }
     word_in(image, at + 6) != wide_word(q.class)
 }
 
 // Whether the rule at a place passes no more steps than so many, three or more, since its class is another.
-fn is_stopped_by_class(image: &[u8], at: usize, q: Query, most: usize) -> bool
-    requires { ⌜ RuleHere (now image) at ⌝ }
+fn is_stopped_by_class(image: &[u8], at: usize, allow: bool, q: Query, most: usize) -> bool
+    requires { ⌜ RuleHere (now image) at × (allow ≡ allowAt (now image) at) ⌝ }
     ensures { λ r. ⌜ r ≡ classStops (now (image .entry)) at (q .class) most ⌝ }
 {
     if most < 3 {
         return false;
     }
-    is_of_other_class(image, at, q)
+    is_of_other_class(image, at, allow, q)
 }
 
 // Whether a rule passes no more steps than so many, since the type in its field at a place is known to stop it: after one step
@@ -90,7 +91,7 @@ fn steps_past_source(
     if !inside(image, groups, at + 4, q.dest, dest, dests, kdest) {
         return 2;
     }
-    if is_of_other_class(image, at, q) {
+    if is_of_other_class(image, at, is_allow(image, at), q) {
         return 3;
     }
     4
@@ -170,6 +171,7 @@ pub(crate) fn steps_at(
     image: &[u8],
     groups: &[u16; 256],
     at: usize,
+    allow: bool,
     q: Query,
     source: &[bool; 1024],
     sources: usize,
@@ -179,18 +181,18 @@ pub(crate) fn steps_at(
     kdest: &mut [u8; 256],
     most: usize,
 ) -> usize
-    requires { ⌜ Known (now image) (now groups) × RuleHere (now image) at
+    requires { ⌜ Known (now image) (now groups) × RuleHere (now image) at × (allow ≡ allowAt (now image) at)
         × Sides (now image) q (now source) sources (now dest) dests (now ksource) (now kdest) ⌝ }
     ensures { λ r. ⌜ Counts most (shortSteps (requestIn (now (image .entry)) q) (ruleIn (now (image .entry)) at)) r
         × Sides (now (image .entry)) q (now (source .entry)) sources (now (dest .entry)) dests (now (ksource .exit)) (now (kdest .exit)) ⌝ }
 {
-    if is_stopped_by_class(image, at, q, most) {
+    if is_stopped_by_class(image, at, allow, q, most) {
         return 0;
     }
     if is_known_to_stop(image, at + 2, source, ksource, 1, most) {
         return 0;
     }
-    if is_off(image, at) {
+    if is_off(image, at, allow) {
         return 0;
     }
     if is_known_to_stop(image, at + 4, dest, kdest, 2, most) {

@@ -20,7 +20,7 @@ pub(crate) fn is_live(image: &[u8], at: usize) -> bool
     requires { ⌜ RuleHere (now image) at ⌝ }
     ensures { λ r. ⌜ r ≡ liveAt (now (image .entry)) at ⌝ }
 {
-    if image[at + 1] != 2 {
+    if !is_allow(image, at) {
         return false;
     }
     image[at + 10] == 1

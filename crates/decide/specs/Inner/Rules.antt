@@ -1,6 +1,6 @@
 -- What the walks over the rules and the constraints of an image look for.
---     mayAt l at c a        what the condition, the class and the action of the rule at a place let through
 --     allowAt l at          the rule at a place is an allow rule
+--     mayAt l at c a        what the condition, the class and the action of the rule at a place let through
 --     liveAt l at           the rule at a place is live
 --     AtRule l ps at live   a rule stands at a place, and it is live or not
 --     foundOf o             what a search answers, as the code's `Found`
@@ -27,16 +27,17 @@ use Rattle.decide.specs.declared.cover.Found.the-variants.{At, Nothing}
 use Rattle.decide.specs.Inner.Parts.{Known, RuleHere, rulesIn, requestIn}
 use Rattle.decide.specs.Inner.Marks.{anyMarked}
 
-unfoldable pub mayAt : List ℕ → ℕ → ℕ → ℕ → Bool
-mayAt l at class action =
-    cond (eqb (getD l (at + 1) 0) 3) true
-    (cond (eqb (getD l (at + 10) 0) 1) (cond (eqb (wordAt l (at + 6)) class) (eqb (wordAt l (at + 8)) action) false) false)
-
 unfoldable pub allowAt : List ℕ → ℕ → Bool
 allowAt l at = eqb (getD l (at + 1) 0) 2
 
+unfoldable pub mayAt : List ℕ → ℕ → ℕ → ℕ → Bool
+mayAt l at class action =
+    cond (allowAt l at)
+    (cond (eqb (getD l (at + 10) 0) 1) (cond (eqb (wordAt l (at + 6)) class) (eqb (wordAt l (at + 8)) action) false) false)
+    true
+
 unfoldable pub liveAt : List ℕ → ℕ → Bool
-liveAt l at = cond (eqb (getD l (at + 1) 0) 2) (eqb (getD l (at + 10) 0) 1) false
+liveAt l at = cond (allowAt l at) (eqb (getD l (at + 10) 0) 1) false
 
 pub record AtRule (l ps : List ℕ) (at : ℕ) (live : Bool) : Type 0 where
   pub known : Known l ps

@@ -7,7 +7,8 @@ use Rattle.decide.specs.Inner.Parts.{RuleHere}
 use Rattle.decide.specs.Inner.Kept.{Sides}
 use Rattle.decide.specs.Inner.Nearer.{AtNearest}
 use Rattle.decide.proofs.WalkLaws.{Turn, walk-rule}
-use Rattle.decide.proofs.NearerLaws.{allow-long, counts-less, counts-more, near-over}
+use Rattle.decide.proofs.RuleLaws.{allow-long}
+use Rattle.decide.proofs.NearerLaws.{counts-less, counts-more, near-over}
 use Rattle.decide.proofs.nearest.next_nearer.Statement.{statement}
 use Rattle.decide.proofs.nearest.next_nearer.Tie as tie
 
@@ -25,13 +26,16 @@ here d = walk-rule (d .before .loop .inv .walk) (omega arith) (d .before .before
 loop-holds : tie.Need-loop-holds Inv-loop μ-loop
 loop-holds c = let p = c .before .pre in record { walk = p .1; kept = (omega arith, p .2) }
 
+is-allow-requires : tie.Need-is-allow-requires Inv-loop μ-loop
+is-allow-requires c κs = here c
+
 steps-at-requires : tie.Need-steps-at-requires Inv-loop μ-loop
-steps-at-requires c κs = let d = c .before .before in (d .before .before .before .pre .0, here d, d .before .loop .inv .kept .1)
+steps-at-requires c κs = let a = c .before .before in let d = a .before in (d .before .before .before .pre .0, here d, a .is-allow .ensures, d .before .loop .inv .kept .1)
 
 returns : tie.Need-returns Inv-loop μ-loop
 returns c =
     let s = c .before .before .steps-at .ensures in
-    let I = c .before .before .before .before .before .before .loop .inv in (
+    let I = c .before .before .before .before .before .before .before .loop .inv in (
       record {
         onward = I .kept .0;
         walk = I .walk;
@@ -41,18 +45,15 @@ returns c =
       s .1,
     )
 
-is-allow-requires : tie.Need-is-allow-requires Inv-loop μ-loop
-is-allow-requires c κs = here (c .before .before .before .before .before)
-
 past-requires : tie.Need-past-requires Inv-loop μ-loop
-past-requires c κs = let h = here (c .before .before .before .before .before .before) in (h, λ e. allow-long _ _ (sym (c .is-allow .ensures) ∙ e) _ h)
+past-requires c κs = let a = c .before .before .before .before .before in let h = here (a .before) in (h, λ e. allow-long _ _ _ h (sym (a .is-allow .ensures) ∙ e))
 
 loop-again : tie.Need-loop-again Inv-loop μ-loop
 loop-again c =
-    let s = c .before .before .before .before .steps-at .ensures in
+    let s = c .before .before .before .steps-at .ensures in
     let d = c .before .before .before .before .before .before .before in
     record {
-      walk = near-over _ _ _ _ _ _ (d .before .loop .inv .walk) (omega arith) (counts-less _ _ _ (s .0) (c .before .before .if1 .left)) _ (c .past .ensures);
+      walk = near-over _ _ _ _ _ _ (d .before .loop .inv .walk) (omega arith) (counts-less _ _ _ (s .0) (c .before .if1 .left)) _ (c .past .ensures);
       kept = (omega (arith, d .before .loop .inv .kept .0), s .1);
     }
 
@@ -68,9 +69,9 @@ next-nearer-spec =
     Inv-loop
     μ-loop
     loop-holds
+    is-allow-requires
     steps-at-requires
     returns
-    is-allow-requires
     past-requires
     (λ c. omega arith)
     (λ c. omega arith)

@@ -9,14 +9,14 @@ use Rattle.decide.proofs.passes.is_of_other_class.Statement.{statement}
 use Rattle.decide.proofs.passes.is_of_other_class.Tie as tie
 
 returns : tie.Need-returns
-returns c = sym (other-no _ _ (sym (c .before .is-allow .ensures) ∙ not-true _ (c .if1 .taken)) _)
+returns c = sym (other-no _ _ (sym (c .before .before .pre .1) ∙ not-true _ (c .if1 .taken)) _)
 
 returns-2 : tie.Need-returns-2
 returns-2 c =
     ap₂ (λ a b. not (eqb a b)) (c .before .word-in .ensures .0) (c .wide-word .ensures)
-    ∙ sym (other-yes _ _ (sym (c .before .before .before .is-allow .ensures) ∙ not-false _ (c .before .before .if1 .left)) _)
+    ∙ sym (other-yes _ _ (sym (c .before .before .before .before .pre .1) ∙ not-false _ (c .before .before .if1 .left)) _)
 
 pub is-of-other-class-spec : {M : Type 1} → statement M
 is-of-other-class-spec =
     tie.close
-    (tie.spec (λ c κs. search needs) returns (λ c. search needs) (λ c κs. search needs) (λ c κs. search needs) returns-2)
+    (tie.spec returns (λ c. search needs) (λ c κs. search needs) (λ c κs. search needs) returns-2)

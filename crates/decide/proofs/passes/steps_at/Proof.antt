@@ -9,13 +9,13 @@ use Rattle.decide.proofs.passes.steps_at.Statement.{statement}
 use Rattle.decide.proofs.passes.steps_at.Tie as tie
 
 is-stopped-by-class-requires : tie.Need-is-stopped-by-class-requires
-is-stopped-by-class-requires c κs = c .before .pre .1
+is-stopped-by-class-requires c κs = let p = c .before .pre in (p .1, p .2)
 
 returns : tie.Need-returns
 returns c =
     let p = c .before .before .before .pre in
     let s = class-says _ _ _ _ (sym (c .before .is-stopped-by-class .ensures) ∙ c .if1 .taken) in
-    (counts-none _ _ (class-stops _ _ _ _ (p .1) _ (s .0) (s .1)), p .2)
+    (counts-none _ _ (class-stops _ _ _ _ (p .1) _ (s .0) (s .1)), p .3)
 
 add-is-known-to-stop : tie.Need-add-is-known-to-stop
 add-is-known-to-stop c = let h = c .before .before .before .pre .1 in omega (arith, h .long, h .here .inside)
@@ -27,16 +27,16 @@ returns-2 : tie.Need-returns-2
 returns-2 c =
     let p = c .before .before .before .before .before .before .pre in
     let s = stops-says _ _ _ _ _ _ (sym (c .before .is-known-to-stop .ensures) ∙ c .if2 .taken) in
-    let no = side-within (p .2 .source) (p .0 .accepted) (rule-source _ _ _ (p .1)) false (sym (outside-tells (p .2 .source) (p .0 .accepted) _ _ refl (s .1))) in
-    (counts-none _ _ (source-stops _ _ _ _ (p .1) _ (s .0) no), p .2)
+    let no = side-within (p .3 .source) (p .0 .accepted) (rule-source _ _ _ (p .1)) false (sym (outside-tells (p .3 .source) (p .0 .accepted) _ _ refl (s .1))) in
+    (counts-none _ _ (source-stops _ _ _ _ (p .1) _ (s .0) no), p .3)
 
 is-off-requires : tie.Need-is-off-requires
-is-off-requires c κs = c .before .before .before .before .before .before .pre .1
+is-off-requires c κs = let p = c .before .before .before .before .before .before .pre in (p .1, p .2)
 
 returns-3 : tie.Need-returns-3
 returns-3 c =
     let p = c .before .before .before .before .before .before .before .before .pre in
-    (counts-none _ _ (off-stops _ _ _ _ (p .1) _ (sym (c .before .is-off .ensures) ∙ c .if3 .taken)), p .2)
+    (counts-none _ _ (off-stops _ _ _ _ (p .1) _ (sym (c .before .is-off .ensures) ∙ c .if3 .taken)), p .3)
 
 add-is-known-to-stop-2 : tie.Need-add-is-known-to-stop-2
 add-is-known-to-stop-2 c = let h = c .before .before .before .before .before .before .before .before .pre .1 in omega (arith, h .long, h .here .inside)
@@ -48,14 +48,14 @@ returns-4 : tie.Need-returns-4
 returns-4 c =
     let p = c .before .before .before .before .before .before .before .before .before .before .before .pre in
     let s = stops-says _ _ _ _ _ _ (sym (c .before .is-known-to-stop2 .ensures) ∙ c .if4 .taken) in
-    let no = side-within (p .2 .dest) (p .0 .accepted) (rule-dest _ _ _ (p .1)) false (sym (outside-tells (p .2 .dest) (p .0 .accepted) _ _ refl (s .1))) in
-    (counts-none _ _ (dest-stops _ _ _ _ (p .1) _ (s .0) no), p .2)
+    let no = side-within (p .3 .dest) (p .0 .accepted) (rule-dest _ _ _ (p .1)) false (sym (outside-tells (p .3 .dest) (p .0 .accepted) _ _ refl (s .1))) in
+    (counts-none _ _ (dest-stops _ _ _ _ (p .1) _ (s .0) no), p .3)
 
 steps-on-requires : tie.Need-steps-on-requires
 steps-on-requires c κs =
     let e = c .before .before .before .before .before in
     let p = e .before .before .before .before .before .before .before .before .pre in
-    (p .0, record { here = p .1; on = sym (e .before .is-off .ensures) ∙ e .if3 .left }, p .2)
+    (p .0, record { here = p .1; on = sym (e .before .is-off .ensures) ∙ e .if3 .left }, p .3)
 
 returns-5 : tie.Need-returns-5
 returns-5 c = let r = c .steps-on .ensures in (counts-exact _ _ _ (sym (r .is)), r .kept)

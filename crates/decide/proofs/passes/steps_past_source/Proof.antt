@@ -27,12 +27,15 @@ returns c =
     let p = c .before .before .before .before .pre in
     record { is = sym (steps-dest _ _ _ _ (p .1 .here) (p .1 .on) (p .3) (dest-told (c .before) ∙ not-true _ (c .if1 .taken))); kept = with-dest (p .2) (c .before .inside .ensures .kept) }
 
+is-allow-requires : tie.Need-is-allow-requires
+is-allow-requires c κs = c .before .before .before .before .pre .1 .here
+
 is-of-other-class-requires : tie.Need-is-of-other-class-requires
-is-of-other-class-requires c κs = c .before .before .before .before .pre .1 .here
+is-of-other-class-requires c κs = (c .before .before .before .before .before .pre .1 .here, c .is-allow .ensures)
 
 returns-2 : tie.Need-returns-2
 returns-2 c =
-    let e = c .before .before in
+    let e = c .before .before .before in
     let p = e .before .before .before .before .pre in
     record {
       is = sym (steps-class _ _ _ _ (p .1 .here) (p .1 .on) (p .3) (dest-told (e .before) ∙ not-false _ (e .if1 .left)) (sym (c .before .is-of-other-class .ensures) ∙ c .if2 .taken));
@@ -41,7 +44,7 @@ returns-2 c =
 
 returns-3 : tie.Need-returns-3
 returns-3 c =
-    let e = c .before .before in
+    let e = c .before .before .before in
     let p = e .before .before .before .before .pre in
     record {
       is = sym (steps-all _ _ _ _ (p .1 .here) (p .1 .on) (p .3) (dest-told (e .before) ∙ not-false _ (e .if1 .left)) (sym (c .before .is-of-other-class .ensures) ∙ c .if2 .left));
@@ -50,4 +53,4 @@ returns-3 c =
 
 pub steps-past-source-spec : {M : Type 1} → statement M
 steps-past-source-spec =
-    tie.close (tie.spec add-inside inside-requires returns is-of-other-class-requires returns-2 returns-3)
+    tie.close (tie.spec add-inside inside-requires returns is-allow-requires is-of-other-class-requires returns-2 returns-3)
