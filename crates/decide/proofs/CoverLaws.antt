@@ -125,11 +125,3 @@ module _ (l : List ℕ) (at class action : ℕ) where
     pub may-action : (c a : ℕ) → c ≡ wordAt l (at + 6) → a ≡ wordAt l (at + 8) → getD l (at + 10) 0 ≡ 1 → c ≡ class → mayAt l at class action ≡ eqb a action
     unfolding mayAt
     may-action c a e f o h = rw f (simp (k, eq-eqb (getD l (at + 10) 0) 1 o, eq-eqb (wordAt l (at + 6)) class (sym e ∙ h)))
-
--- a rule that is not let through is an allow rule
-pub may-length : (l : List ℕ) (at : ℕ) (r : List ℕ) → RuleAt l at r → (class action : ℕ) → mayAt l at class action ≡ false → getD l at 0 ≡ 11
-may-length l at r h class action e =
-    ⊎-elim
-    (λ w. omega (arith, w .1, h .here .size))
-    (λ w. false-not-true (sym e ∙ may-transition l at class action (allow-not l at w)))
-    (h .kind)

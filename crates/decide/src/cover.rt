@@ -14,7 +14,7 @@ use format::header;
 ghost use mathlib.Core.Path.{_≡_};
 ghost use Rattle.decide.specs.Inner.Parts.{Ready, RuleHere};
 ghost use Rattle.decide.specs.Inner.Kept.{Sides, Leaves};
-ghost use Rattle.decide.specs.Inner.Rules.{mayAt, firstRule};
+ghost use Rattle.decide.specs.Inner.Rules.{allowAt, mayAt, firstRule};
 
 pub(crate) enum Found {
     At(usize),
@@ -23,11 +23,11 @@ pub(crate) enum Found {
 
 // What the condition, the class and the action of the rule at a place let through. A transition lets all through. Most rules are
 // of another class, which the low byte tells first.
-fn may(image: &[u8], at: usize, q: Query) -> bool
-    requires { ⌜ RuleHere (now image) at ⌝ }
+fn may(image: &[u8], at: usize, allow: bool, q: Query) -> bool
+    requires { ⌜ RuleHere (now image) at × (allow ≡ allowAt (now image) at) ⌝ }
     ensures { λ r. ⌜ r ≡ mayAt (now (image .entry)) at (q .class) (q .action) ⌝ }
 {
-    if !is_allow(image, at) {
+    if !allow {
         return true;
     }
     if wide(image[at + 7]) != wide_word(q.class) % 256 {
@@ -44,7 +44,7 @@ fn may(image: &[u8], at: usize, q: Query) -> bool
 
 // The lowest rule that covers the query, whose source and destination are marked, with their sizes. Condition, class and
 // action are tested first, then the source, then the destination, with what is found of their groups kept: where no rule covers
-// the query, its steps ask for the sources first. A rule that is not let through is an allow rule.
+// the query, its steps ask for the sources first.
 pub(crate) fn first_rule(
     image: &[u8],
     groups: &[u16; 256],
@@ -68,8 +68,8 @@ pub(crate) fn first_rule(
         if count <= n {
             return Found::Nothing;
         }
-        let lets = may(image, at, q);
-        if lets {
+        let allow = is_allow(image, at);
+        if may(image, at, allow, q) {
             if inside(image, groups, at + 2, q.source, source, sources, ksource) {
                 let t = word_in(image, at + 4);
                 if !known_outside(t, dest, kdest) {
@@ -94,7 +94,7 @@ pub(crate) fn first_rule(
                 }
             }
         }
-        at = past(image, at, !lets);
+        at = past(image, at, allow);
         n += 1;
     };
     Found::At(rule)

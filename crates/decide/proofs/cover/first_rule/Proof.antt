@@ -7,7 +7,7 @@ use mathlib.Core.Bool.{Bool, false}
 use mathlib.Core.List.{List}
 use denote.Ref.{now}
 use lib.ListN.{length}
-use borrow.Author.Tests.{not-true, not-false}
+use borrow.Author.Tests.{not-false}
 use Rattle.format.specs.declared.Section.the-variants.{Rules}
 use Rattle.format.specs.Policy.{policyOf}
 use Rattle.format.specs.Claims.{IsType}
@@ -27,7 +27,8 @@ use Rattle.decide.proofs.TypeLaws.{span-rising, span-told, type-basic, 
 use Rattle.decide.proofs.SetLaws.{hits-full, hits-short, full-within}
 use Rattle.decide.proofs.PartLaws.{ready-rules, rule-source, rule-dest}
 use Rattle.decide.proofs.KeptLaws.{outside-tells, outside-kept, with-source, with-dest, side-within}
-use Rattle.decide.proofs.CoverLaws.{covers-no-may, covers-no-dest, covers-no-source, covers-yes, may-length}
+use Rattle.decide.proofs.RuleLaws.{allow-long}
+use Rattle.decide.proofs.CoverLaws.{covers-no-may, covers-no-dest, covers-no-source, covers-yes}
 use Rattle.decide.proofs.WalkLaws.{Turn, FirstOf, walk-start, walk-rule, first-end, first-hit, first-next, all-rules}
 use Rattle.decide.proofs.cover.first_rule.Statement.{statement}
 use Rattle.decide.proofs.cover.first_rule.Tie as tie
@@ -53,21 +54,25 @@ abbrev μ-rules : tie.MeasureT-rules
 μ-rules image groups q source sources dest dests ksource₀ kdest₀ count n₀ at₀ ksource kdest n at = count - n
 
 -- the rule at the running place
-here : (d : tie.Else1 Inv-members μ-members Inv-rules μ-rules) → RuleHere (now (d .before .before .before .before .args .image)) (d .before .rules .at)
-here d = walk-rule (d .before .rules .inv .walk) (omega arith) (d .before .before .before .before .pre .0 .known .accepted)
+at-rule : (e : tie.Else1 Inv-members μ-members Inv-rules μ-rules) → RuleHere (now (e .before .before .before .before .args .image)) (e .before .rules .at)
+at-rule e = walk-rule (e .before .rules .inv .walk) (omega arith) (e .before .before .before .before .pre .0 .known .accepted)
+
+-- and once its kind is read
+here : (d : tie.After-is-allow Inv-members μ-members Inv-rules μ-rules) → RuleHere (now (d .before .before .before .before .before .args .image)) (d .before .before .rules .at)
+here d = at-rule (d .before)
 
 -- what the test of the source answered
-source-told : (d : tie.After-inside Inv-members μ-members Inv-rules μ-rules) → within (setIn (now (d .before .before .before .before .before .before .before .before .args .image)) (d .before .before .before .before .before .before .before .before .args .q .source)) (setAt (now (d .before .before .before .before .before .before .before .before .args .image)) (d .before .before .before .before .before .rules .at + 2)) ≡ d .inside .result
-source-told d = let a = d .before .before .before .before .before .before .before .before in side-within (a .pre .1 .source) (a .pre .0 .known .accepted) (rule-source _ _ _ (here (d .before .before .before .before))) _ (d .inside .ensures .is)
+source-told : (d : tie.After-inside Inv-members μ-members Inv-rules μ-rules) → within (setIn (now (d .before .before .before .before .before .before .before .before .before .args .image)) (d .before .before .before .before .before .before .before .before .before .args .q .source)) (setAt (now (d .before .before .before .before .before .before .before .before .before .args .image)) (d .before .before .before .before .before .before .rules .at + 2)) ≡ d .inside .result
+source-told d = let a = d .before .before .before .before .before .before .before .before .before in side-within (a .pre .1 .source) (a .pre .0 .known .accepted) (rule-source _ _ _ (here (d .before .before .before .before))) _ (d .inside .ensures .is)
 
 -- what a turn that finds nothing leaves
 gone :
     (d : tie.Joined2 Inv-members μ-members Inv-rules μ-rules)
-    → (covers (requestIn (now (d .before .before .before .before .before .before .args .image)) (d .before .before .before .before .before .before .args .q)) (ruleIn (now (d .before .before .before .before .before .before .args .image)) (d .before .before .before .rules .at)) ≡ false)
-    × Sides (now (d .before .before .before .before .before .before .args .image)) (d .before .before .before .before .before .before .args .q) (now (d .before .before .before .before .before .before .args .source)) (d .before .before .before .before .before .before .args .sources) (now (d .before .before .before .before .before .before .args .dest)) (d .before .before .before .before .before .before .args .dests) (d .if2 .ksource) (d .if2 .kdest)
+    → (covers (requestIn (now (d .before .before .before .before .before .before .before .args .image)) (d .before .before .before .before .before .before .before .args .q)) (ruleIn (now (d .before .before .before .before .before .before .before .args .image)) (d .before .before .before .before .rules .at)) ≡ false)
+    × Sides (now (d .before .before .before .before .before .before .before .args .image)) (d .before .before .before .before .before .before .before .args .q) (now (d .before .before .before .before .before .before .before .args .source)) (d .before .before .before .before .before .before .before .args .sources) (now (d .before .before .before .before .before .before .before .args .dest)) (d .before .before .before .before .before .before .before .args .dests) (d .if2 .ksource) (d .if2 .kdest)
 gone d =
-    let a = d .before .before .before .before .before .before in
-    let I = d .before .before .before .rules .inv .kept in
+    let a = d .before .before .before .before .before .before .before in
+    let I = d .before .before .before .before .rules .inv .kept in
     let K = I .dest in
     let l = now (a .args .image) in
     let F = fullyMarked (now (a .args .dest)) (a .args .dests) in
@@ -113,14 +118,17 @@ rules-holds c = let a = c .before .before in
 returns : tie.Need-returns Inv-members μ-members Inv-rules μ-rules
 returns c = let I = c .before .rules .inv in record { is = first-end _ (I .walk) (λ z. absurd (omega arith)); kept = I .kept }
 
+is-allow-requires : tie.Need-is-allow-requires Inv-members μ-members Inv-rules μ-rules
+is-allow-requires c κs = at-rule c
+
 may-requires : tie.Need-may-requires Inv-members μ-members Inv-rules μ-rules
-may-requires c κs = here c
+may-requires c κs = (here c, c .is-allow .ensures)
 
 add-inside : tie.Need-add-inside Inv-members μ-members Inv-rules μ-rules
 add-inside c = let h = here (c .before .before) in omega (arith, h .long, h .here .inside)
 
 inside-requires : tie.Need-inside-requires Inv-members μ-members Inv-rules μ-rules
-inside-requires c κs = let d = c .before .before .before in (d .before .before .before .before .pre .0 .known, rule-source _ _ _ (here d), d .before .rules .inv .kept .source)
+inside-requires c κs = let d = c .before .before .before in (d .before .before .before .before .before .pre .0 .known, rule-source _ _ _ (here d), d .before .before .rules .inv .kept .source)
 
 add-word-in : tie.Need-add-word-in Inv-members μ-members Inv-rules μ-rules
 add-word-in c = let h = here (c .before .before .before .before .before) in omega (arith, h .long, h .here .inside)
@@ -131,13 +139,13 @@ word-in-requires-2 c κs = let h = here (c .before .before .before .before .befo
 known-outside-requires : tie.Need-known-outside-requires Inv-members μ-members Inv-rules μ-rules
 known-outside-requires c κs = let d = c .before .before .before .before .before .before .before in
     let is = c .before .word-in2 .ensures .0 in
-    (type-basic _ _ (subst (IsType _) (sym is) (here d .dest)), type-small _ _ _ is (d .before .before .before .before .pre .0 .known .accepted) (here d .dest))
+    (type-basic _ _ (subst (IsType _) (sym is) (here d .dest)), type-small _ _ _ is (d .before .before .before .before .before .pre .0 .known .accepted) (here d .dest))
 
 add-members : tie.Need-add-members Inv-members μ-members Inv-rules μ-rules
 add-members c = let h = here (c .before .before .before .before .before .before .before .before .before) in omega (arith, h .long, h .here .inside)
 
 members-requires : tie.Need-members-requires Inv-members μ-members Inv-rules μ-rules
-members-requires c κs = let d = c .before .before .before .before .before .before .before .before .before in (d .before .before .before .before .pre .0 .known, rule-dest _ _ _ (here d))
+members-requires c κs = let d = c .before .before .before .before .before .before .before .before .before in (d .before .before .before .before .before .pre .0 .known, rule-dest _ _ _ (here d))
 
 members-holds : tie.Need-members-holds Inv-members μ-members Inv-rules μ-rules
 members-holds c = let s = c .members2 .ensures in record { room = s .room; few = omega arith; rising = span-rising _ _ _ _ s; hits = omega arith }
@@ -154,7 +162,7 @@ add-m : tie.Need-add-m Inv-members μ-members Inv-rules μ-rules
 add-m c =
     let M = c .before .before .before .before .members in
     let d = c .before .before .before .before .before .before .before .before .before .before .before .before .before .before .before in
-    let a = d .before .before .before in
+    let a = d .before .before .before .before in
     let long = accepted-length _ (a .before .pre .0 .known .accepted) in
     let h : M .m + 2 < 18446744073709551616 = omega (arith, M .inv .room, long, word-small (now (a .before .args .image)) (λ i. omega (arith, a .shared-slice-known .given i)) 1) in
     record { fits = h }
@@ -170,26 +178,26 @@ members-again c = let M = c .before .before .before .before .members in
     (c .if7 .came)
 
 keep-outside-requires : tie.Need-keep-outside-requires Inv-members μ-members Inv-rules μ-rules
-keep-outside-requires c κs = let d = c .before .before .before .before .before .before .before .before .before .before .before .before .before .before in type-small _ _ _ (c .before .before .before .before .before .before .before .before .word-in2 .ensures .0) (d .before .before .before .before .pre .0 .known .accepted) (here d .dest)
+keep-outside-requires c κs = let d = c .before .before .before .before .before .before .before .before .before .before .before .before .before .before in type-small _ _ _ (c .before .before .before .before .before .before .before .before .word-in2 .ensures .0) (d .before .before .before .before .before .pre .0 .known .accepted) (here d .dest)
 
 past-requires : tie.Need-past-requires Inv-members μ-members Inv-rules μ-rules
-past-requires c κs = let h = here (c .before .before) in (h, λ e. may-length _ _ _ h _ _ (sym (c .before .may .ensures) ∙ not-true _ e))
+past-requires c κs = let d = c .before .before in (here d, λ e. allow-long _ _ _ (here d) (sym (d .is-allow .ensures) ∙ e))
 
 rules-again : tie.Need-rules-again Inv-members μ-members Inv-rules μ-rules
 rules-again c = let k = gone (c .before) in
-    record { walk = first-next _ (c .before .before .before .before .rules .inv .walk) (omega arith) (k .0) _ (c .past .ensures); kept = k .1 }
+    record { walk = first-next _ (c .before .before .before .before .before .rules .inv .walk) (omega arith) (k .0) _ (c .past .ensures); kept = k .1 }
 
 returns-2 : tie.Need-returns-2 Inv-members μ-members Inv-rules μ-rules
 returns-2 c = let M = c .before .before in
     let i = M .before .before .before .before .before .before .before in
     let d = i .before .before .before .before in
-    let a = d .before .before .before .before in
+    let a = d .before .before .before .before .before in
     let s = M .before .members2 .ensures in
     let h = here d in
     let m = sym (i .before .before .before .may .ensures) ∙ i .before .before .if2 .taken in
     record {
-      is = first-hit _ (d .before .rules .inv .walk) (omega arith) (covers-yes _ _ _ _ h m (sym (span-told _ _ _ _ s (within _) _ (sym (hits-full _ _ _ (a .pre .1 .dest .marked) _ (span-rising _ _ _ _ s) _ _ (M .members .inv .hits) (c .if6 .taken))))) (source-told i ∙ M .before .before .before .before .before .before .if3 .taken));
-      kept = with-source (d .before .rules .inv .kept) (i .inside .ensures .kept);
+      is = first-hit _ (d .before .before .rules .inv .walk) (omega arith) (covers-yes _ _ _ _ h m (sym (span-told _ _ _ _ s (within _) _ (sym (hits-full _ _ _ (a .pre .1 .dest .marked) _ (span-rising _ _ _ _ s) _ _ (M .members .inv .hits) (c .if6 .taken))))) (source-told i ∙ M .before .before .before .before .before .before .if3 .taken));
+      kept = with-source (d .before .before .rules .inv .kept) (i .inside .ensures .kept);
     }
 
 pub first-rule-spec : {M : Type 1} → statement M
@@ -203,6 +211,7 @@ first-rule-spec =
     word-in-requires
     rules-holds
     returns
+    is-allow-requires
     may-requires
     add-inside
     inside-requires

@@ -13,11 +13,11 @@ use Rattle.decide.proofs.cover.may.Statement.{statement}
 use Rattle.decide.proofs.cover.may.Tie as tie
 
 -- past the first test it is an allow rule
-allow : (e : tie.Else1) → allowAt (now (e .before .before .before .args .image)) (e .before .before .before .args .at) ≡ true
-allow e = sym (e .before .is-allow .ensures) ∙ not-false _ (e .if1 .left)
+allow : (e : tie.Else1) → allowAt (now (e .before .before .args .image)) (e .before .before .args .at) ≡ true
+allow e = sym (e .before .before .pre .1) ∙ not-false _ (e .if1 .left)
 
 returns : tie.Need-returns
-returns c = sym (may-transition _ _ _ _ (sym (c .before .is-allow .ensures) ∙ not-true _ (c .if1 .taken)))
+returns c = sym (may-transition _ _ _ _ (sym (c .before .before .pre .1) ∙ not-true _ (c .if1 .taken)))
 
 returns-2 : tie.Need-returns-2
 returns-2 c =
@@ -26,7 +26,7 @@ returns-2 c =
     (λ e. c .if2 .taken (low-byte _ _ _ _ (w .0) (w .1) (e ∙ sym (c .before .wide-word .ensures)))))
 
 shared-slice-read-if3 : tie.Need-shared-slice-read-if3
-shared-slice-read-if3 c = let e = c .before .before .before .before .before in let h = e .before .before .before .pre in omega (arith, h .here .inside, h .here .size, allow-long _ _ _ h (allow e))
+shared-slice-read-if3 c = let e = c .before .before .before .before .before in let h = e .before .before .pre .0 in omega (arith, h .here .inside, h .here .size, allow-long _ _ _ h (allow e))
 
 returns-3 : tie.Need-returns-3
 returns-3 c = sym (may-off _ _ _ _ (allow (c .before .before .before .before .before .before)) (c .if3 .taken))
@@ -36,7 +36,7 @@ returns-4 c = let o = c .before .before .before in
     sym (may-class _ _ _ _ (allow (o .before .before .before .before .before .before)) _ (c .before .before .word-in .ensures .0) (o .if3 .left) (λ e. c .if4 .taken (e ∙ sym (c .before .wide-word2 .ensures))))
 
 word-in-requires-2 : tie.Need-word-in-requires-2
-word-in-requires-2 c κs = let e = c .before .before .before .before .before .before .before .before .before in let h = e .before .before .before .pre in omega (arith, h .here .inside, h .here .size, allow-long _ _ _ h (allow e))
+word-in-requires-2 c κs = let e = c .before .before .before .before .before .before .before .before .before in let h = e .before .before .pre .0 in omega (arith, h .here .inside, h .here .size, allow-long _ _ _ h (allow e))
 
 returns-5 : tie.Need-returns-5
 returns-5 c = let f = c .before .before in
@@ -48,7 +48,6 @@ pub may-spec : {M : Type 1} → statement M
 may-spec =
     tie.close
     (tie.spec
-    (λ c κs. search needs)
     returns
     (λ c. search needs)
     (λ c. search needs)
