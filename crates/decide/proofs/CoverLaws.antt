@@ -19,7 +19,7 @@ use Rattle.decision.specs.Sets.{allOf, within}
 use Rattle.decision.specs.Reading.{Rule, Request, asks, ruleOf, requestOf}
 use Rattle.decision.specs.Decide.{tests, covers}
 use Rattle.decide.specs.Inner.Parts.{setIn, setAt, requestIn}
-use Rattle.decide.specs.Inner.Rules.{allowAt, mayAt}
+use Rattle.decide.specs.Inner.Rules.{allowAt, mayAt, ifAsked}
 use Rattle.decide.proofs.RuleLaws.{allow-not}
 
 -- ---- what a rule's tests come to
@@ -125,3 +125,19 @@ module _ (l : List ℕ) (at class action : ℕ) where
     pub may-action : (c a : ℕ) → c ≡ wordAt l (at + 6) → a ≡ wordAt l (at + 8) → getD l (at + 10) 0 ≡ 1 → c ≡ class → mayAt l at class action ≡ eqb a action
     unfolding mayAt
     may-action c a e f o h = rw f (simp (k, eq-eqb (getD l (at + 10) 0) 1 o, eq-eqb (wordAt l (at + 6)) class (sym e ∙ h)))
+
+-- ---- a test that is made only where it is asked
+
+module _ (b t : Bool) where
+  pub asked-no : b ≡ false → ifAsked b t ≡ true
+  unfolding ifAsked
+  asked-no e = simp e
+
+  pub asked-yes : b ≡ true → ifAsked b t ≡ t
+  unfolding ifAsked
+  asked-yes e = simp e
+
+pub asked-stops : (b t : Bool) → ifAsked b t ≡ false → t ≡ false
+unfolding ifAsked
+asked-stops true t e = e
+asked-stops false t e = false-not-true (sym e)

@@ -12,9 +12,10 @@ use decision::Query;
 use format::Starts;
 use format::header;
 ghost use mathlib.Core.Path.{_≡_};
-ghost use Rattle.decide.specs.Inner.Parts.{Ready, RuleHere};
-ghost use Rattle.decide.specs.Inner.Kept.{Sides, Leaves};
-ghost use Rattle.decide.specs.Inner.Rules.{allowAt, mayAt, firstRule};
+ghost use Rattle.decide.specs.Inner.Parts.{Known, Ready, RuleHere, TypeAt, setAt};
+ghost use Rattle.decide.specs.Inner.Marks.{fullyMarked};
+ghost use Rattle.decide.specs.Inner.Kept.{KeptTest, Side, Sides, Leaves};
+ghost use Rattle.decide.specs.Inner.Rules.{allowAt, mayAt, ifAsked, firstRule};
 
 pub(crate) enum Found {
     At(usize),
@@ -42,9 +43,31 @@ fn may(image: &[u8], at: usize, allow: bool, q: Query) -> bool
     word_in(image, at + 8) == wide_word(q.action)
 }
 
+// Whether the type in the field at a place holds a type of the query, where that is asked; else it may.
+fn holds_if_asked(
+    image: &[u8],
+    groups: &[u16; 256],
+    at: usize,
+    asked: bool,
+    t: u16,
+    marks: &[bool; 1024],
+    size: usize,
+    kept: &mut [u8; 256],
+) -> bool
+    requires { ⌜ Known (now image) (now groups) × TypeAt (now image) at × Side (now image) t (now marks) size (now kept) ⌝ }
+    ensures { λ r. ⌜ Leaves (ifAsked asked (fullyMarked (now (marks .entry)) size (setAt (now (image .entry)) at)))
+        (KeptTest (fullyMarked (now (marks .entry)) size) (now (image .entry)) (now (kept .exit))) r ⌝ }
+{
+    if !asked {
+        return true;
+    }
+    inside(image, groups, at, t, marks, size, kept)
+}
+
 // The lowest rule that covers the query, whose source and destination are marked, with their sizes. Condition, class and
 // action are tested first, then the source, then the destination, with what is found of their groups kept: where no rule covers
-// the query, its steps ask for the sources first.
+// the query, its steps ask for the sources first. Where the destination stopped two rules in a row, the next one's is asked
+// before its source, so that no source is walked that tells nothing.
 pub(crate) fn first_rule(
     image: &[u8],
     groups: &[u16; 256],
@@ -64,33 +87,44 @@ pub(crate) fn first_rule(
     let count = word_in(image, header::RULES_AT);
     let mut n: usize = 0;
     let mut at = s.rules;
+    // whether its destination stopped the last rule that was asked, and the one before it too
+    let mut last = false;
+    let mut both = false;
     let rule = 'rules: loop {
         if count <= n {
             return Found::Nothing;
         }
         let allow = is_allow(image, at);
         if may(image, at, allow, q) {
-            if inside(image, groups, at + 2, q.source, source, sources, ksource) {
-                let t = word_in(image, at + 4);
-                if !known_outside(t, dest, kdest) {
-                    let span = members(image, groups, at + 4);
-                    let mut m = span.from;
-                    let mut left = span.count;
-                    let mut hits: usize = 0;
-                    'members: loop {
-                        if left == 0 {
-                            if hits == dests {
-                                break 'rules n;
+            let to = at + 4;
+            if holds_if_asked(image, groups, to, both, q.dest, dest, dests, kdest) {
+                if inside(image, groups, at + 2, q.source, source, sources, ksource) {
+                    let t = word_in(image, to);
+                    if !known_outside(t, dest, kdest) {
+                        let span = members(image, groups, to);
+                        let mut m = span.from;
+                        let mut left = span.count;
+                        let mut hits: usize = 0;
+                        'members: loop {
+                            if left == 0 {
+                                if hits == dests {
+                                    break 'rules n;
+                                }
+                                break 'members;
                             }
-                            break 'members;
+                            if dest[word_in(image, m)] {
+                                hits += 1;
+                            }
+                            m += 2;
+                            left -= 1;
                         }
-                        if dest[word_in(image, m)] {
-                            hits += 1;
-                        }
-                        m += 2;
-                        left -= 1;
+                        keep_outside(t, kdest);
                     }
-                    keep_outside(t, kdest);
+                    both = last;
+                    last = true;
+                } else {
+                    last = false;
+                    both = false;
                 }
             }
         }

@@ -1,6 +1,7 @@
 -- What the walks over the rules and the constraints of an image look for.
 --     allowAt l at          the rule at a place is an allow rule
 --     mayAt l at c a        what the condition, the class and the action of the rule at a place let through
+--     ifAsked b t           a test that is made only where it is asked, and passes where it is not
 --     liveAt l at           the rule at a place is live
 --     AtRule l ps at live   a rule stands at a place, and it is live or not
 --     foundOf o             what a search answers, as the code's `Found`
@@ -35,6 +36,9 @@ mayAt l at class action =
     cond (allowAt l at)
     (cond (eqb (getD l (at + 10) 0) 1) (cond (eqb (wordAt l (at + 6)) class) (eqb (wordAt l (at + 8)) action) false) false)
     true
+
+unfoldable pub ifAsked : Bool → Bool → Bool
+ifAsked b t = cond b t true
 
 unfoldable pub liveAt : List ℕ → ℕ → Bool
 liveAt l at = cond (allowAt l at) (eqb (getD l (at + 10) 0) 1) false

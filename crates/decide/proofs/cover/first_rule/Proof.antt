@@ -28,7 +28,7 @@ use Rattle.decide.proofs.SetLaws.{hits-full, hits-short, full-within}
 use Rattle.decide.proofs.PartLaws.{ready-rules, rule-source, rule-dest}
 use Rattle.decide.proofs.KeptLaws.{outside-tells, outside-kept, with-source, with-dest, side-within}
 use Rattle.decide.proofs.RuleLaws.{allow-long}
-use Rattle.decide.proofs.CoverLaws.{covers-no-may, covers-no-dest, covers-no-source, covers-yes}
+use Rattle.decide.proofs.CoverLaws.{covers-no-may, covers-no-dest, covers-no-source, covers-yes, asked-stops}
 use Rattle.decide.proofs.WalkLaws.{Turn, FirstOf, walk-start, walk-rule, first-end, first-hit, first-next, all-rules}
 use Rattle.decide.proofs.cover.first_rule.Statement.{statement}
 use Rattle.decide.proofs.cover.first_rule.Tie as tie
@@ -41,17 +41,17 @@ record Members (l : List ℕ) (ms : List Bool) (from count m left sum : ℕ) : T
   hits : tallied ms (wordsAt l count from) ≡ sum + tallied ms (wordsAt l left m)
 
 abbrev Inv-members : tie.InvT-members
-Inv-members image groups q source sources dest dests ksource kdest count n at lets t m₀ left₀ hits₀ m left hits = Members image dest m₀ left₀ m left hits
+Inv-members image groups q source sources dest dests ksource kdest count n at last both allow to t m₀ left₀ hits₀ m left hits = Members image dest m₀ left₀ m left hits
 
 abbrev μ-members : tie.MeasureT-members
-μ-members image groups q source sources dest dests ksource kdest count n at lets t m₀ left₀ hits₀ m left hits = left
+μ-members image groups q source sources dest dests ksource kdest count n at last both allow to t m₀ left₀ hits₀ m left hits = left
 
 abbrev Inv-rules : tie.InvT-rules
-Inv-rules image groups q source sources dest dests ksource₀ kdest₀ count n₀ at₀ ksource kdest n at =
+Inv-rules image groups q source sources dest dests ksource₀ kdest₀ count n₀ at₀ last₀ both₀ ksource kdest n at last both =
     Turn (FirstOf Rules (ruleOf (policyOf image)) image (covers (requestIn image q)) (firstRule image q) count n at) (Sides image q source sources dest dests ksource kdest)
 
 abbrev μ-rules : tie.MeasureT-rules
-μ-rules image groups q source sources dest dests ksource₀ kdest₀ count n₀ at₀ ksource kdest n at = count - n
+μ-rules image groups q source sources dest dests ksource₀ kdest₀ count n₀ at₀ last₀ both₀ ksource kdest n at last both = count - n
 
 -- the rule at the running place
 at-rule : (e : tie.Else1 Inv-members μ-members Inv-rules μ-rules) → RuleHere (now (e .before .before .before .before .args .image)) (e .before .rules .at)
@@ -62,8 +62,8 @@ here : (d : tie.After-is-allow Inv-members μ-members Inv-rules μ-rules) → Ru
 here d = at-rule (d .before)
 
 -- what the test of the source answered
-source-told : (d : tie.After-inside Inv-members μ-members Inv-rules μ-rules) → within (setIn (now (d .before .before .before .before .before .before .before .before .before .args .image)) (d .before .before .before .before .before .before .before .before .before .args .q .source)) (setAt (now (d .before .before .before .before .before .before .before .before .before .args .image)) (d .before .before .before .before .before .before .rules .at + 2)) ≡ d .inside .result
-source-told d = let a = d .before .before .before .before .before .before .before .before .before in side-within (a .pre .1 .source) (a .pre .0 .known .accepted) (rule-source _ _ _ (here (d .before .before .before .before))) _ (d .inside .ensures .is)
+source-told : (d : tie.After-inside Inv-members μ-members Inv-rules μ-rules) → within (setIn (now (d .before .before .before .before .before .before .before .before .before .before .before .before .args .image)) (d .before .before .before .before .before .before .before .before .before .before .before .before .args .q .source)) (setAt (now (d .before .before .before .before .before .before .before .before .before .before .before .before .args .image)) (d .before .before .before .before .before .before .before .before .before .rules .at + 2)) ≡ d .inside .result
+source-told d = let a = d .before .before .before .before .before .before .before .before .before .before .before .before in side-within (a .pre .1 .source) (a .pre .0 .known .accepted) (rule-source _ _ _ (here (d .before .before .before .before .before .before .before))) _ (d .inside .ensures .is)
 
 -- what a turn that finds nothing leaves
 gone :
@@ -80,27 +80,42 @@ gone d =
     let full = full-within _ _ _ (K .marked) _ (set-rising _ _ (a .pre .0 .known .accepted) (h .dest)) in
     ⊎-elim
     (λ w.
-    let source = w .2 .ensures in
-    let word = w .4 .ensures .0 in
-    let span = w .8 .ensures in
-    let all = w .9 .inv .hits ∙ rw (tally-end _ _ _ _ (w .10 .taken)) (omega arith) in
-    let no = sym (span-told _ _ _ _ span (within _) _ (sym (hits-short _ _ _ (K .marked) _ (span-rising _ _ _ _ span) _ all (w .11 .left)))) in
-    let kept = subst (KeptTest F l) (sym (w .15 ∙ w .13 .ensures)) (outside-kept F l _ (K .kept) _ _ word (full ∙ no)) in
-    (covers-no-dest _ _ _ _ h no, with-dest (with-source I (rw (w .14) (source .kept))) kept))
+    let held = w .2 .ensures in
+    let source = w .5 .ensures in
+    let word = w .7 .ensures .0 in
+    let span = w .11 .ensures in
+    let all = w .12 .inv .hits ∙ rw (tally-end _ _ _ _ (w .13 .taken)) (omega arith) in
+    let no = sym (span-told _ _ _ _ span (within _) _ (sym (hits-short _ _ _ (K .marked) _ (span-rising _ _ _ _ span) _ all (w .14 .left)))) in
+    let kept = subst (KeptTest F l) (sym (w .18 ∙ w .16 .ensures)) (outside-kept F l _ (held .kept) _ _ word (full ∙ no)) in
+    (covers-no-dest _ _ _ _ h no, with-dest (with-source I (rw (w .17) (source .kept))) kept))
     (⊎-elim
     (λ w.
-    let source = w .2 .ensures in
-    let word = w .4 .ensures .0 in
-    let no = sym full ∙ outside-tells K (a .pre .0 .known .accepted) _ _ word (sym (w .6 .ensures) ∙ not-false _ (w .7 .left)) in
-    (covers-no-dest _ _ _ _ h no, with-dest (with-source I (rw (w .8) (source .kept))) (rw (w .9) (K .kept))))
+    let held = w .2 .ensures in
+    let source = w .5 .ensures in
+    let word = w .7 .ensures .0 in
+    let asked = with-dest I (held .kept) .dest in
+    let no = sym full ∙ outside-tells asked (a .pre .0 .known .accepted) _ _ word (sym (w .9 .ensures) ∙ not-false _ (w .10 .left)) in
+    (covers-no-dest _ _ _ _ h no, with-dest (with-source I (rw (w .11) (source .kept))) (rw (w .12) (held .kept))))
     (⊎-elim
     (λ w.
-    let source = w .2 .ensures in
-    let no = source-told (record { before = record { before = record { before = d .before; if2 = w .0 }; inside-arg = w .1 }; inside = w .2 }) ∙ w .3 .left in
-    (covers-no-source _ _ _ _ h no, with-dest (with-source I (rw (w .4) (source .kept))) (rw (w .5) (K .kept))))
+    let held = w .2 .ensures in
+    let source = w .5 .ensures in
+    let no =
+    source-told
+    (record {
+      before = record { before = record { before = record { before = record { before = record { before = d .before; if2 = w .0 }; holds-if-asked-arg = w .1 }; holds-if-asked = w .2 }; if3 = w .3 }; inside-arg = w .4 };
+      inside = w .5;
+    })
+    ∙ w .6 .left in
+    (covers-no-source _ _ _ _ h no, with-dest (with-source I (rw (w .7) (source .kept))) (rw (w .8) (held .kept))))
+    (⊎-elim
+    (λ w.
+    let held = w .2 .ensures in
+    let no = sym full ∙ asked-stops _ _ (sym (held .is) ∙ w .3 .left) in
+    (covers-no-dest _ _ _ _ h no, with-dest (with-source I (rw (w .4) (I .source .kept))) (rw (w .5) (held .kept))))
     (λ w.
     let no = sym (d .before .may .ensures) ∙ w .0 .left in
-    (covers-no-may _ _ _ _ h no, with-dest (with-source I (rw (w .1) (I .source .kept))) (rw (w .2) (K .kept))))))
+    (covers-no-may _ _ _ _ h no, with-dest (with-source I (rw (w .1) (I .source .kept))) (rw (w .2) (K .kept)))))))
     (d .if2 .came)
 
 word-in-requires : tie.Need-word-in-requires Inv-members μ-members Inv-rules μ-rules
@@ -124,28 +139,28 @@ is-allow-requires c κs = at-rule c
 may-requires : tie.Need-may-requires Inv-members μ-members Inv-rules μ-rules
 may-requires c κs = (here c, c .is-allow .ensures)
 
+add-to : tie.Need-add-to Inv-members μ-members Inv-rules μ-rules
+add-to c = let h = here (c .before .before) in omega (arith, h .long, h .here .inside)
+
+holds-if-asked-requires : tie.Need-holds-if-asked-requires Inv-members μ-members Inv-rules μ-rules
+holds-if-asked-requires c κs = let d = c .before .before .before in (d .before .before .before .before .before .pre .0 .known, rule-dest _ _ _ (here d), d .before .before .rules .inv .kept .dest)
+
 add-inside : tie.Need-add-inside Inv-members μ-members Inv-rules μ-rules
-add-inside c = let h = here (c .before .before) in omega (arith, h .long, h .here .inside)
+add-inside c = let h = here (c .before .before .before .before .before) in omega (arith, h .long, h .here .inside)
 
 inside-requires : tie.Need-inside-requires Inv-members μ-members Inv-rules μ-rules
-inside-requires c κs = let d = c .before .before .before in (d .before .before .before .before .before .pre .0 .known, rule-source _ _ _ (here d), d .before .before .rules .inv .kept .source)
-
-add-word-in : tie.Need-add-word-in Inv-members μ-members Inv-rules μ-rules
-add-word-in c = let h = here (c .before .before .before .before .before) in omega (arith, h .long, h .here .inside)
+inside-requires c κs = let d = c .before .before .before .before .before .before in (d .before .before .before .before .before .pre .0 .known, rule-source _ _ _ (here d), d .before .before .rules .inv .kept .source)
 
 word-in-requires-2 : tie.Need-word-in-requires-2 Inv-members μ-members Inv-rules μ-rules
-word-in-requires-2 c κs = let h = here (c .before .before .before .before .before) in omega (arith, h .long, h .here .inside)
+word-in-requires-2 c κs = let h = here (c .before .before .before .before .before .before .before .before) in omega (arith, h .long, h .here .inside)
 
 known-outside-requires : tie.Need-known-outside-requires Inv-members μ-members Inv-rules μ-rules
-known-outside-requires c κs = let d = c .before .before .before .before .before .before .before in
+known-outside-requires c κs = let d = c .before .before .before .before .before .before .before .before .before .before in
     let is = c .before .word-in2 .ensures .0 in
     (type-basic _ _ (subst (IsType _) (sym is) (here d .dest)), type-small _ _ _ is (d .before .before .before .before .before .pre .0 .known .accepted) (here d .dest))
 
-add-members : tie.Need-add-members Inv-members μ-members Inv-rules μ-rules
-add-members c = let h = here (c .before .before .before .before .before .before .before .before .before) in omega (arith, h .long, h .here .inside)
-
 members-requires : tie.Need-members-requires Inv-members μ-members Inv-rules μ-rules
-members-requires c κs = let d = c .before .before .before .before .before .before .before .before .before in (d .before .before .before .before .before .pre .0 .known, rule-dest _ _ _ (here d))
+members-requires c κs = let d = c .before .before .before .before .before .before .before .before .before .before .before .before in (d .before .before .before .before .before .pre .0 .known, rule-dest _ _ _ (here d))
 
 members-holds : tie.Need-members-holds Inv-members μ-members Inv-rules μ-rules
 members-holds c = let s = c .members2 .ensures in record { room = s .room; few = omega arith; rising = span-rising _ _ _ _ s; hits = omega arith }
@@ -153,15 +168,15 @@ members-holds c = let s = c .members2 .ensures in record { room = s .room; few =
 word-in-requires-3 : tie.Need-word-in-requires-3 Inv-members μ-members Inv-rules μ-rules
 word-in-requires-3 c κs = let I = c .before .members .inv in omega (arith, I .room)
 
-element-copy-out-if7 : tie.Need-element-copy-out-if7 Inv-members μ-members Inv-rules μ-rules
-element-copy-out-if7 c = let M = c .before .before .members in
+element-copy-out-if8 : tie.Need-element-copy-out-if8 Inv-members μ-members Inv-rules μ-rules
+element-copy-out-if8 c = let M = c .before .before .members in
     let e : M .left ≡ suc (M .left - 1) = omega arith in
     omega (arith, walk-small _ _ _ _ e (M .inv .rising), c .word-in3 .ensures .0)
 
 add-m : tie.Need-add-m Inv-members μ-members Inv-rules μ-rules
 add-m c =
     let M = c .before .before .before .before .members in
-    let d = c .before .before .before .before .before .before .before .before .before .before .before .before .before .before .before in
+    let d = c .before .before .before .before .before .before .before .before .before .before .before .before .before .before .before .before .before .before in
     let a = d .before .before .before .before in
     let long = accepted-length _ (a .before .pre .0 .known .accepted) in
     let h : M .m + 2 < 18446744073709551616 = omega (arith, M .inv .room, long, word-small (now (a .before .args .image)) (λ i. omega (arith, a .shared-slice-known .given i)) 1) in
@@ -175,10 +190,10 @@ members-again c = let M = c .before .before .before .before .members in
     ⊎-elim
     (λ w. record { room = omega (arith, I .room); few = omega (arith, I .few, w .1); rising = walk-rest _ _ _ _ e (I .rising); hits = hits-on (M .hits) _ _ (I .hits) (tally-yes _ _ _ _ _ e _ t (w .0 .taken)) (w .1) })
     (λ w. record { room = omega (arith, I .room); few = omega (arith, I .few, w .1); rising = walk-rest _ _ _ _ e (I .rising); hits = hits-off (M .hits) _ _ (I .hits) (tally-no _ _ _ _ _ e _ t (w .0 .left)) (w .1) })
-    (c .if7 .came)
+    (c .if8 .came)
 
 keep-outside-requires : tie.Need-keep-outside-requires Inv-members μ-members Inv-rules μ-rules
-keep-outside-requires c κs = let d = c .before .before .before .before .before .before .before .before .before .before .before .before .before .before in type-small _ _ _ (c .before .before .before .before .before .before .before .before .word-in2 .ensures .0) (d .before .before .before .before .before .pre .0 .known .accepted) (here d .dest)
+keep-outside-requires c κs = let d = c .before .before .before .before .before .before .before .before .before .before .before .before .before .before .before .before .before in type-small _ _ _ (c .before .before .before .before .before .before .before .before .word-in2 .ensures .0) (d .before .before .before .before .before .pre .0 .known .accepted) (here d .dest)
 
 past-requires : tie.Need-past-requires Inv-members μ-members Inv-rules μ-rules
 past-requires c κs = let d = c .before .before in (here d, λ e. allow-long _ _ _ (here d) (sym (d .is-allow .ensures) ∙ e))
@@ -190,14 +205,14 @@ rules-again c = let k = gone (c .before) in
 returns-2 : tie.Need-returns-2 Inv-members μ-members Inv-rules μ-rules
 returns-2 c = let M = c .before .before in
     let i = M .before .before .before .before .before .before .before in
-    let d = i .before .before .before .before in
+    let d = i .before .before .before .before .before .before .before in
     let a = d .before .before .before .before .before in
     let s = M .before .members2 .ensures in
     let h = here d in
-    let m = sym (i .before .before .before .may .ensures) ∙ i .before .before .if2 .taken in
+    let m = sym (i .before .before .before .before .before .before .may .ensures) ∙ i .before .before .before .before .before .if2 .taken in
     record {
-      is = first-hit _ (d .before .before .rules .inv .walk) (omega arith) (covers-yes _ _ _ _ h m (sym (span-told _ _ _ _ s (within _) _ (sym (hits-full _ _ _ (a .pre .1 .dest .marked) _ (span-rising _ _ _ _ s) _ _ (M .members .inv .hits) (c .if6 .taken))))) (source-told i ∙ M .before .before .before .before .before .before .if3 .taken));
-      kept = with-source (d .before .before .rules .inv .kept) (i .inside .ensures .kept);
+      is = first-hit _ (d .before .before .rules .inv .walk) (omega arith) (covers-yes _ _ _ _ h m (sym (span-told _ _ _ _ s (within _) _ (sym (hits-full _ _ _ (a .pre .1 .dest .marked) _ (span-rising _ _ _ _ s) _ _ (M .members .inv .hits) (c .if7 .taken))))) (source-told i ∙ M .before .before .before .before .before .before .if4 .taken));
+      kept = with-dest (with-source (d .before .before .rules .inv .kept) (i .inside .ensures .kept)) (i .before .before .before .holds-if-asked .ensures .kept);
     }
 
 pub first-rule-spec : {M : Type 1} → statement M
@@ -213,16 +228,16 @@ first-rule-spec =
     returns
     is-allow-requires
     may-requires
+    add-to
+    holds-if-asked-requires
     add-inside
     inside-requires
-    add-word-in
     word-in-requires-2
     known-outside-requires
-    add-members
     members-requires
     members-holds
     word-in-requires-3
-    element-copy-out-if7
+    element-copy-out-if8
     (λ c. omega arith)
     add-m
     (λ c. omega arith)
