@@ -7,7 +7,8 @@
 --     threeQueries        document 01's first, third and fourth query, and what the program prints for them
 --     twoAndPart          two of them, and 7 bytes
 --     byBytes b           reads that bring one byte each
---     ReadingMet, AddingMet, DecidingMet, OrderingMet, RunningMet, NearingMet, PrintingMet, CallingMet   by the parts of the statement
+--     ReadingMet, AddingMet, DecidingMet, OrderingMet, RunningMet, NearingMet, PrintingMet, CallingMet   by the parts of the
+--                                statement
 use Prim.Native.Nat.{ℕ, suc, _+_, _*_, _/_, _%_, _<_, _≤_}
 use Prim.Native.String.{String}
 use mathlib.Core.Path.{_≡_}
@@ -325,7 +326,8 @@ pub record NearingMet : Type 0 where
   pub covered-five : (a : Request) (r : Rule) → covers a r ≡ true → steps a r ≡ 5
   pub five-covers : (a : Request) (r : Rule) → steps a r ≡ 5 → covers a r ≡ true
   pub uncovered-four : (a : Request) (r : Rule) → covers a r ≡ false → steps a r ≤ 4
-  -- StepsOfRecord: the sample's rule 3, which is off, of every query; its transition, rule 2, and its rule 0, by each step that fails
+  -- StepsOfRecord: the sample's rule 3, which is off, of every query; its transition, rule 2, and its rule 0, by each step that
+  -- fails
   pub rule-3-none : (q : Query) → stepsAt (policyOf sample) q 3 ≡ 0
   pub rule-2-one : (q : Query) → sourceIn (policyOf sample) q (getD (policyOf sample .rules) 2 []) ≡ false → stepsAt (policyOf sample) q 2 ≡ 1
   pub rule-2-two :

@@ -1,5 +1,6 @@
 -- Laws of the second walk over the rules: what a rule at a place passes, and the nearest so far. Assumes nothing.
---     off-no, off-yes, other-no, other-yes, class-few .., stops-few ..   the tests of a rule at a place, one for each way that they go
+--     off-no, off-yes, other-no, other-yes, class-few .., stops-few ..   the tests of a rule at a place, one for each way that
+--                                they go
 --     steps-source, steps-dest ..   how many steps a rule passes, by the first that fails
 --     class-stops, off-stops, source-stops, dest-stops   a rule that need not be walked passes no more
 --     near-start, near-over, near-next, near-four, near-end   one for each way that a turn of the walk goes

@@ -80,9 +80,11 @@ pub(crate) fn first_rule(
     ksource: &mut [u8; 256],
     kdest: &mut [u8; 256],
 ) -> Found
-    requires { ⌜ Ready (now image) (now groups) s × Sides (now image) q (now source) sources (now dest) dests (now ksource) (now kdest) ⌝ }
+    requires { ⌜ Ready (now image) (now groups) s
+        × Sides (now image) q (now source) sources (now dest) dests (now ksource) (now kdest) ⌝ }
     ensures { λ r. ⌜ Leaves (firstRule (now (image .entry)) q)
-        (Sides (now (image .entry)) q (now (source .entry)) sources (now (dest .entry)) dests (now (ksource .exit)) (now (kdest .exit))) r ⌝ }
+        (Sides (now (image .entry)) q (now (source .entry)) sources (now (dest .entry)) dests
+        (now (ksource .exit)) (now (kdest .exit))) r ⌝ }
 {
     let count = word_in(image, header::RULES_AT);
     let mut n: usize = 0;

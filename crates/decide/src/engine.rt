@@ -36,7 +36,8 @@ fn judge_marked(
     dests: usize,
     verdicts: &mut [u8; 256],
 ) -> Answer
-    requires { ⌜ Ready (now image) (now groups) s × deciding.Valid (now image) q × Marked (setIn (now image) (q .source)) (now source) sources
+    requires { ⌜ Ready (now image) (now groups) s × deciding.Valid (now image) q
+        × Marked (setIn (now image) (q .source)) (now source) sources
         × Marked (setIn (now image) (q .dest)) (now dest) dests × KeptVerdicts (now image) (now verdicts) ⌝ }
     ensures { λ r. ⌜ Leaves (gives (deciding.decide (policyOf (now (image .entry))) q))
         (KeptVerdicts (now (image .entry)) (now (verdicts .exit))) (deciding.answerOutcome r) ⌝ }

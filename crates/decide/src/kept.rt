@@ -58,7 +58,8 @@ pub(crate) fn find_inside(
     size: usize,
     kept: &mut [u8; 256],
 ) -> bool
-    requires { ⌜ Known (now image) (now groups) × (g < countOf (now image) Groups) × Side (now image) t (now marks) size (now kept) ⌝ }
+    requires { ⌜ Known (now image) (now groups) × (g < countOf (now image) Groups)
+        × Side (now image) t (now marks) size (now kept) ⌝ }
     ensures { λ r. ⌜ Leaves (fullyMarked (now (marks .entry)) size (groupSet (now (image .entry)) g))
         (KeptTest (fullyMarked (now (marks .entry)) size) (now (image .entry)) (now (kept .exit))) r ⌝ }
 {
@@ -102,7 +103,8 @@ pub(crate) fn meets(
     value: bool,
     kept: &mut [u8; 256],
 ) -> bool
-    requires { ⌜ Known (now image) (now groups) × TypeAt (now image) at × KeptTest (anyIs (now marks) value) (now image) (now kept) ⌝ }
+    requires { ⌜ Known (now image) (now groups) × TypeAt (now image) at
+        × KeptTest (anyIs (now marks) value) (now image) (now kept) ⌝ }
     ensures { λ r. ⌜ Leaves (anyIs (now (marks .entry)) value (setAt (now (image .entry)) at))
         (KeptTest (anyIs (now (marks .entry)) value) (now (image .entry)) (now (kept .exit))) r ⌝ }
 {

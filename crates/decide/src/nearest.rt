@@ -46,7 +46,8 @@ fn next_nearer(
     requires { ⌜ Known (now image) (now groups) × AtNearest (now image) q best count from place
         × Sides (now image) q (now source) sources (now dest) dests (now ksource) (now kdest) ⌝ }
     ensures { λ r. ⌜ Comes (now (image .entry)) q best count from r
-        × Sides (now (image .entry)) q (now (source .entry)) sources (now (dest .entry)) dests (now (ksource .exit)) (now (kdest .exit)) ⌝ }
+        × Sides (now (image .entry)) q (now (source .entry)) sources (now (dest .entry)) dests
+        (now (ksource .exit)) (now (kdest .exit)) ⌝ }
 {
     let mut at = place;
     let mut n = from;
@@ -88,7 +89,8 @@ pub(crate) fn nearest_rule(
     ksource: &mut [u8; 256],
     kdest: &mut [u8; 256],
 ) -> Nearest
-    requires { ⌜ Ready (now image) (now groups) s × Sides (now image) q (now source) sources (now dest) dests (now ksource) (now kdest)
+    requires { ⌜ Ready (now image) (now groups) s
+        × Sides (now image) q (now source) sources (now dest) dests (now ksource) (now kdest)
         × Uncovered (now image) q ⌝ }
     ensures { λ r. ⌜ r ≡ nearest (requestIn (now (image .entry)) q) (rulesIn (now (image .entry))) ⌝ }
 {

@@ -86,7 +86,8 @@ fn steps_past_source(
     requires { ⌜ Known (now image) (now groups) × On (now image) at
         × Sides (now image) q (now source) sources (now dest) dests (now ksource) (now kdest) × SourceIn (now image) q at ⌝ }
     ensures { λ r. ⌜ Leaves (shortSteps (requestIn (now (image .entry)) q) (ruleIn (now (image .entry)) at))
-        (Sides (now (image .entry)) q (now (source .entry)) sources (now (dest .entry)) dests (now (ksource .entry)) (now (kdest .exit))) r ⌝ }
+        (Sides (now (image .entry)) q (now (source .entry)) sources (now (dest .entry)) dests
+        (now (ksource .entry)) (now (kdest .exit))) r ⌝ }
 {
     if !inside(image, groups, at + 4, q.dest, dest, dests, kdest) {
         return 2;
@@ -113,7 +114,8 @@ fn steps_on(
     requires { ⌜ Known (now image) (now groups) × On (now image) at
         × Sides (now image) q (now source) sources (now dest) dests (now ksource) (now kdest) ⌝ }
     ensures { λ r. ⌜ Leaves (shortSteps (requestIn (now (image .entry)) q) (ruleIn (now (image .entry)) at))
-        (Sides (now (image .entry)) q (now (source .entry)) sources (now (dest .entry)) dests (now (ksource .exit)) (now (kdest .exit))) r ⌝ }
+        (Sides (now (image .entry)) q (now (source .entry)) sources (now (dest .entry)) dests
+        (now (ksource .exit)) (now (kdest .exit))) r ⌝ }
 {
     let t = word_in(image, at + 2);
     if t < 32768 {
@@ -166,7 +168,8 @@ fn steps_on(
 }
 
 // How many steps the rule at a place passes, where they are more than so many; else a number that is no more either, so that a
-// type is walked only where it may tell. Each test but the last tells that the rule passes no more; the order is that of their cost.
+// type is walked only where it may tell. Each test but the last tells that the rule passes no more; the order is that of their
+// cost.
 pub(crate) fn steps_at(
     image: &[u8],
     groups: &[u16; 256],
@@ -184,7 +187,8 @@ pub(crate) fn steps_at(
     requires { ⌜ Known (now image) (now groups) × RuleHere (now image) at × (allow ≡ allowAt (now image) at)
         × Sides (now image) q (now source) sources (now dest) dests (now ksource) (now kdest) ⌝ }
     ensures { λ r. ⌜ Counts most (shortSteps (requestIn (now (image .entry)) q) (ruleIn (now (image .entry)) at)) r
-        × Sides (now (image .entry)) q (now (source .entry)) sources (now (dest .entry)) dests (now (ksource .exit)) (now (kdest .exit)) ⌝ }
+        × Sides (now (image .entry)) q (now (source .entry)) sources (now (dest .entry)) dests
+        (now (ksource .exit)) (now (kdest .exit)) ⌝ }
 {
     if is_stopped_by_class(image, at, allow, q, most) {
         return 0;

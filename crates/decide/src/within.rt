@@ -23,7 +23,8 @@ pub(crate) fn is_within(
     marks: &[bool; 1024],
     size: usize,
 ) -> bool
-    requires { ⌜ Known (now image) (now groups) × Part (now image) (outer .from) (outer .count) × IsType (countOf (now image) Groups) t
+    requires { ⌜ Known (now image) (now groups) × Part (now image) (outer .from) (outer .count)
+        × IsType (countOf (now image) Groups) t
         × Marked (setIn (now image) t) (now marks) size ⌝ }
     ensures { λ r. ⌜ r ≡ fullyMarked (now (marks .entry)) size (wordsAt (now (image .entry)) (outer .count) (outer .from)) ⌝ }
 {

@@ -1,7 +1,8 @@
 -- What an answer can hold, for the layers above. Assumes nothing.
 --     answer-refused       a refusal is the check's, or 8 or 9 with the place 0
 --     image-refused        and the check's is every query's
---     denied-inside, permitted-inside, unknown-inside   the numbers that a decision names are below the sections' counts, and steps are at most 4
+--     denied-inside, permitted-inside, unknown-inside   the numbers that a decision names are below the sections' counts, and
+--                                steps are at most 4
 use Prim.Native.Nat.{ℕ, _≤_, _<_}
 use mathlib.Core.Path.{_≡_, refl, sym, ap, _∙_}
 use mathlib.Core.Logic.{_⊎_, inl, inr}

@@ -2,7 +2,8 @@
 --     check-fits      the check's refusal fits, by the law that says how large one is
 --     known-fits      so does a refusal that is known
 --     refused-kind, refused-back   what a host reads from the number of a refusal that fits
---     host-permitted, host-refused, host-unknown, host-none   what a host reads, by the kind; host-no-rules, host-near: of the nearest
+--     host-permitted, host-refused, host-unknown, host-none   what a host reads, by the kind; host-no-rules, host-near: of the
+--                                nearest
 --     accepted-read   what a host reads from the number of an answer on an accepted image is the answer
 use Prim.Native.Nat.{ℕ, _≤_, _<_}
 use mathlib.Core.Path.{_≡_, refl, sym, subst, _∙_}

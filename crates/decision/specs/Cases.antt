@@ -1,5 +1,5 @@
--- The marked cases of the sample sheet (document 01), as one table with one claim; a denied one has request [2]'s steps and rule. The
--- images with records added are those that adding gives, in a buffer that has just the space.
+-- The marked cases of the sample sheet (document 01), as one table with one claim; a denied one has request [2]'s steps and
+-- rule. The images with records added are those that adding gives, in a buffer that has just the space.
 --     g0                the type field of group 0
 --     allow, companion, oneMember, banned   records
 --     withSpace l r     the image l in a buffer that has just the space for the record r as well

@@ -1,7 +1,8 @@
 -- Which rule and which constraint an answer names (document 01, "How a draw is decided": "the lowest-numbered"; request [2]).
 --     Lowest f xs n          element n passes a test, and none before it does
 --     Most f xs s n          element n has the number s, no element has more, and each before it has fewer
---     Nears a rs x           what the nearest says: rule n passes s steps, no rule more, each lower one fewer; or there are no rules
+--     Nears a rs x           what the nearest says: rule n passes s steps, no rule more, each lower one fewer; or there are no
+--                            rules
 --     Names rs cs a d        what a decision says of the rules and the constraints: the rule that covers, or the constraint that
 --                            fails, is the lowest that does; where none is named, none does; NotPermitted names the nearest rule
 --     LowestNamed            the decision names the lowest, for all rules, constraints and queries

@@ -2,20 +2,23 @@
 --     partsOf kind high low   the number of the parts 0, kind, high, low
 --     refusalCode f           0, 2, number, place
 --     codeOf g o              what an outcome comes to, where g says it of what is given
---     nearestCode x           NotPermitted (request [14] has these parts): 0, 0, steps, rule; 0, 0, 0, 65535 where there are no rules
+--     nearestCode x           NotPermitted (request [14] has these parts): 0, 0, steps, rule; 0, 0, 0, 65535 where there are no
+--                             rules
 --     givenCode d             a decision: NotPermitted; 0, 1, 0, rule Permitted; 0, 3, rule, constraint UnKnown
 --     decisionCode o          an answer: a decision, or the refusal
 -- How a host reads it: the macros of include/mungaite.h, and the same in the Rust crate.
 --     kindPart, thirdPart, fourthPart   MUNGAITE_KIND, MUNGAITE_THIRD, MUNGAITE_FOURTH
 --     hostRefusal n           the refusal that a number of kind 2 holds
---     hostNearest s r         the nearest that the third and the fourth part of a number of kind 0 hold: no rule has the number 65535
+--     hostNearest s r         the nearest that the third and the fourth part of a number of kind 0 hold: no rule has the number
+--                             65535
 --     hostDecision n          the answer that a number holds
 -- What is claimed of it, and proved in proofs/. No part is cut: `partsOf` takes its parts modulo 65,536, and every part that
 -- an answer has, of every image of bytes, is below that.
 --     Part n                  n fits one 16-bit part
 --     RefusalFits f           a refusal's number and place fit
 --     OutcomeFits P o         a refusal's parts fit, and P holds of what is given
---     NearestFits x, DecisionFits d   a rule's number is below 1,024 and a constraint's below 256: the sections' limits; steps are at most 4
+--     NearestFits x, DecisionFits d   a rule's number is below 1,024 and a constraint's below 256: the sections' limits; steps
+--                                are at most 4
 --     DecideWhole             the answer to any query on any image
 --     PartsWhole              parts that fit are in the number as they are
 --     PartsRead               and are read back from it: the kind, the third and the fourth part

@@ -3,8 +3,8 @@
 --     decimal n        those digits, in ASCII
 --     field n          a space and the number
 --     nearestLine x    N, the steps and the rule; or N and a hyphen, where there are no rules
---     line o           the line of an outcome: that of the nearest; P and the rule; U, the rule and the constraint; R, the number and
---                      the place
+--     line o           the line of an outcome: that of the nearest; P and the rule; U, the rule and the constraint; R, the
+--                      number and the place
 --     lines l b        the lines for the whole rows of b, one behind the other, on the image l
 use Prim.Native.Nat.{ℕ, zero, suc, _+_, _/_}
 use mathlib.Core.Bool.{cond}

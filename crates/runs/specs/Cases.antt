@@ -1,7 +1,8 @@
 -- Runs on the sample sheet, worked out by hand from document 01's cases and from document 02, requests 1 and 2.
 --     member, group, transition, separated, offRule, otherAction, noSource, noDest   rows: document 01's marked queries, one of an
 --                         action that no rule has, and two of a type that is none
---     P r, N s r, R8, R9  what a row is answered: Permitted by rule r, NotPermitted with s steps at rule r, refused with 8 and with 9
+--     P r, N s r, R8, R9  what a row is answered: Permitted by rule r, NotPermitted with s steps at rule r, refused with 8 and
+--                         with 9
 --     blank n             n slots before the run
 --     RunCase, asks       the image, the rows, the slots before; what the run comes to, and what the slots say afterwards
 --     runCases            fit runs of three rows, of one, of 64; the first, a middle and the last row not Permitted, of one row and of 64;
@@ -9,7 +10,8 @@
 --                         image, before 16 and before 17
 --     comesOf, saysOf     what the definitions give
 --     RunCases            that, for each
---     NumberCase, calls, numberCases, numberOf, codesOf, NumberCases   over numbers, as C calls it: a number each; all rules off is 0, no rules 65535
+--     NumberCase, calls, numberCases, numberOf, codesOf, NumberCases   over numbers, as C calls it: a number each; all rules
+--                                off is 0, no rules 65535
 use Prim.Native.Nat.{ℕ}
 use mathlib.Core.Path.{_≡_}
 use mathlib.Core.Option.{Option, none, some}

@@ -1,6 +1,6 @@
 -- Where a walk over the records of a section stands.
---     Walk s read l whole rest count n at   at record n of count, which stands at a place; what is made of the records from it on, as
---                                           they are read, is what is made of all
+--     Walk s read l whole rest count n at   at record n of count, which stands at a place; what is made of the records from it
+--                                on, as they are read, is what is made of all
 use Prim.Native.Nat.{ℕ, _-_, _≤_}
 use mathlib.Core.Path.{_≡_}
 use mathlib.Core.List.{List, map}

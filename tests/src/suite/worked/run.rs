@@ -33,7 +33,8 @@ const fn unfit(row: usize) -> Result<Run, Refusal> {
 /// lent.
 #[rustfmt::skip]
 pub const ROWS: &[Row] = &[
-    ("the sample's queries", &SAMPLE, &[], || vec![P0, P0_GROUP, NOT, P2, P1], unfit(2), || vec![p(0), p(0), DENIED, p(2), p(1)]),
+    ("the sample's queries", &SAMPLE, &[], || vec![P0, P0_GROUP, NOT, P2, P1], unfit(2),
+        || vec![p(0), p(0), DENIED, p(2), p(1)]),
     ("all Permitted", &SAMPLE, &[], || vec![P0, P0_GROUP, P2, P1], FIT, || vec![p(0), p(0), p(2), p(1)]),
     ("the first is not", &SAMPLE, &[], || vec![NOT, P0, P2], unfit(0), || vec![DENIED, p(0), p(2)]),
     ("the last is not", &SAMPLE, &[], || vec![P0, P2, NOT], unfit(2), || vec![p(0), p(2), DENIED]),
@@ -46,20 +47,25 @@ pub const ROWS: &[Row] = &[
     // UnKnown is not Permitted.
     ("an UnKnown", &SAMPLE, &[ALLOW_10_30], || vec![P0, P1, P2], unfit(1), || vec![p(0), u(1, 1), p(2)]),
     ("an UnKnown, last", &SAMPLE, &[ALLOW_10_30], || vec![P0, P1], unfit(1), || vec![p(0), u(1, 1)]),
-    ("an UnKnown among others", &SAMPLE, &[ALLOW_14_G0], || vec![P0_GROUP, P0, P0_GROUP, P0], unfit(1), || vec![p(0), u(0, 0), p(0), u(0, 0)]),
+    ("an UnKnown among others", &SAMPLE, &[ALLOW_14_G0], || vec![P0_GROUP, P0, P0_GROUP, P0], unfit(1),
+        || vec![p(0), u(0, 0), p(0), u(0, 0)]),
     // A refused row is a row like any other.
     ("a refused source", &SAMPLE, &[], || vec![P0, R8, P2], unfit(1), || vec![p(0), no(8, 0), p(2)]),
     ("a refused destination", &SAMPLE, &[], || vec![P0, R9, P2], unfit(1), || vec![p(0), no(9, 0), p(2)]),
     ("a refused row first", &SAMPLE, &[], || vec![R9, P0, NOT], unfit(0), || vec![no(9, 0), p(0), DENIED]),
     ("a refused row last", &SAMPLE, &[], || vec![P0, P2, R8], unfit(2), || vec![p(0), p(2), no(8, 0)]),
-    ("a refused row behind another that is not", &SAMPLE, &[], || vec![P0, NOT, R8, P2], unfit(1), || vec![p(0), DENIED, no(8, 0), p(2)]),
+    ("a refused row behind another that is not", &SAMPLE, &[], || vec![P0, NOT, R8, P2], unfit(1),
+        || vec![p(0), DENIED, no(8, 0), p(2)]),
     ("all refused", &SAMPLE, &[], || vec![R8, R9, R8], unfit(0), || vec![no(8, 0), no(9, 0), no(8, 0)]),
     // 1 to 64 rows.
     ("63 rows", &SAMPLE, &[], || vec![P2; 63], FIT, || vec![p(2); 63]),
     ("64 rows", &SAMPLE, &[], || vec![P2; 64], FIT, || vec![p(2); 64]),
-    ("64 rows, the last is not", &SAMPLE, &[], || [vec![P2; 63], vec![NOT]].concat(), unfit(63), || [vec![p(2); 63], vec![DENIED]].concat()),
-    ("64 rows, the last is refused", &SAMPLE, &[], || [vec![P2; 63], vec![R9]].concat(), unfit(63), || [vec![p(2); 63], vec![no(9, 0)]].concat()),
-    ("64 rows, the first is not", &SAMPLE, &[], || [vec![NOT], vec![P2; 63]].concat(), unfit(0), || [vec![DENIED], vec![p(2); 63]].concat()),
+    ("64 rows, the last is not", &SAMPLE, &[], || [vec![P2; 63], vec![NOT]].concat(), unfit(63),
+        || [vec![p(2); 63], vec![DENIED]].concat()),
+    ("64 rows, the last is refused", &SAMPLE, &[], || [vec![P2; 63], vec![R9]].concat(), unfit(63),
+        || [vec![p(2); 63], vec![no(9, 0)]].concat()),
+    ("64 rows, the first is not", &SAMPLE, &[], || [vec![NOT], vec![P2; 63]].concat(), unfit(0),
+        || [vec![DENIED], vec![p(2); 63]].concat()),
     ("65 rows", &SAMPLE, &[], || vec![P2; 65], no(16, 0), || unanswered(65)),
     ("66 rows", &SAMPLE, &[], || vec![P2; 66], no(16, 0), || unanswered(66)),
     ("no row", &SAMPLE, &[], Vec::new, no(16, 0), Vec::new),
@@ -85,9 +91,12 @@ pub const ROWS: &[Row] = &[
     ("the last byte cut", SAMPLE.split_at(79).0, &[], || vec![P0, P2, R8], no(3, 0), || unanswered(3)),
     ("the last byte cut, 65 rows", SAMPLE.split_at(79).0, &[], || vec![P2; 65], no(3, 0), || unanswered(65)),
     ("257 groups, no row, a slot", &[1, 0, 9, 1, 1, 0, 0, 0, 0], &[], Vec::new, no(4, 3), || unanswered(1)),
-    ("a record past the image, 65 rows, a slot", &[1, 0, 9, 0, 1, 0, 0, 0, 0], &[], || vec![P2; 65], no(5, 9), || unanswered(1)),
-    ("member 1024, refused rows", &[1, 0, 13, 0, 1, 0, 0, 0, 0, 4, 1, 4, 0], &[], || vec![R8, R9], no(6, 11), || unanswered(2)),
-    ("a byte behind, a slot too few", &[1, 0, 10, 0, 0, 0, 0, 0, 0, 0], &[], || vec![P2, P2], no(7, 9), || unanswered(1)),
+    ("a record past the image, 65 rows, a slot", &[1, 0, 9, 0, 1, 0, 0, 0, 0], &[], || vec![P2; 65], no(5, 9),
+        || unanswered(1)),
+    ("member 1024, refused rows", &[1, 0, 13, 0, 1, 0, 0, 0, 0, 4, 1, 4, 0], &[], || vec![R8, R9], no(6, 11),
+        || unanswered(2)),
+    ("a byte behind, a slot too few", &[1, 0, 10, 0, 0, 0, 0, 0, 0, 0], &[], || vec![P2, P2], no(7, 9),
+        || unanswered(1)),
 ];
 
 pub fn run(pair: &Pair, case: u64) -> Outcome {
