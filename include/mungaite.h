@@ -1,7 +1,7 @@
 /*
  * Mungaite: permissions for a policy image, called from C.
  *
- * Each function answers with a 64-bit number of four 16-bit parts, the highest first:
+ * Each function answers with a 64-bit number. But for mungaite_build's, it has four 16-bit parts, the highest first:
  *
  *   0, 0, steps, rule          NotPermitted, and the rule that came nearest with the steps that it passed, 0 to 4
  *   0, 0, 0, 65535             NotPermitted by a policy without rules
@@ -14,14 +14,20 @@
  *   0, 1, 0, 0                 from mungaite_run: fit, every row is Permitted
  *   0, 0, 0, row               from mungaite_run: not fit, and the first row that is not Permitted
  *
- * So 0 is a success of mungaite_check alone. From mungaite_decide it is NotPermitted, with no step and rule 0, and from
- * mungaite_run it says that row 0 is not Permitted. NotPermitted is many numbers: look at a decision's MUNGAITE_KIND,
- * and compare a run's answer with MUNGAITE_FIT.
+ * mungaite_build's answer has two parts, of 16 and of 48 bits, since a place in a text may be beyond 16:
  *
- * A pointer must be valid for the bytes, numbers or slots whose count is given with it. mungaite_add writes to its
- * buffer and mungaite_run to its answers; what they write must not overlap anything else that is lent, and nothing else
- * is written. The functions keep nothing between calls and use no heap. They may be called from several threads, as
- * long as nothing is written by one thread while another uses it.
+ *   0, length                  built, and the image's length
+ *   number, place              a refusal
+ *
+ * So 0 is a success of mungaite_check alone. From mungaite_decide it is NotPermitted, with no step and rule 0, from
+ * mungaite_run it says that row 0 is not Permitted, and mungaite_build never gives it. NotPermitted is many numbers:
+ * look at a decision's MUNGAITE_KIND, and compare a run's answer with MUNGAITE_FIT.
+ *
+ * A pointer must be valid for the bytes, numbers or slots whose count is given with it. mungaite_add and mungaite_build
+ * write to their buffers and mungaite_run to its answers; what they write must not overlap anything else that is lent,
+ * and nothing else is written. A refused call writes nothing, but for mungaite_build's. The functions keep nothing
+ * between calls and use no heap. They may be called from several threads, as long as nothing is written by one thread
+ * while another uses it.
  */
 #ifndef MUNGAITE_H
 #define MUNGAITE_H
@@ -39,10 +45,15 @@ extern "C" {
 #define MUNGAITE_REFUSED 2
 #define MUNGAITE_UNKNOWN 3
 
-/* The second, third and fourth part of an answer. The first is always 0. */
+/* The second, third and fourth part of an answer, but for mungaite_build's. The first is always 0. */
 #define MUNGAITE_KIND(answer) ((uint16_t)(((answer) >> 32) & 0xFFFFu))
 #define MUNGAITE_THIRD(answer) ((uint16_t)(((answer) >> 16) & 0xFFFFu))
 #define MUNGAITE_FOURTH(answer) ((uint16_t)((answer) & 0xFFFFu))
+
+/* The two parts of an answer of mungaite_build: the refusal's number, 0 where the image was built; and the image's
+ * length, or the place in the text of the refused row's first byte. */
+#define MUNGAITE_BUILD_REFUSAL(answer) ((uint16_t)((uint64_t)(answer) >> 48))
+#define MUNGAITE_BUILD_REST(answer) ((uint64_t)(answer) & (((uint64_t)1 << 48) - 1))
 
 /* A rule is put to a query in these steps, in this order; each one's value is how many come before it. So the third
  * part of NotPermitted, the steps that passed before the first that failed, is the step that failed. The rule named is
@@ -98,6 +109,40 @@ uint64_t mungaite_record(uint16_t section, uint16_t n, const uint8_t *image, siz
  * number, or the refusal (1 to 7, 10 to 13) and no byte is changed. The new image's length stands in bytes 1 and 2;
  * the bytes past it stay as they were. */
 uint64_t mungaite_add(uint8_t *buffer, size_t length, const uint8_t *record, size_t record_length);
+
+/* Builds a policy from text, at the front of the buffer: the image's length, or the refusal (11, 12, 13, 18) and the
+ * place of the refused row. Look at MUNGAITE_BUILD_REFUSAL, then at MUNGAITE_BUILD_REST.
+ *
+ * Each row of the text is a record, which is added to the empty policy as mungaite_add adds it:
+ *
+ *   group 20 21               members, 1 to 64
+ *   allow 10 g0 5 1 on        source, destination, class, action, on or off
+ *   trans 12 20 5             source, destination, class
+ *   limit 5 1 10 21 2 10      class, action, first and second argument, predicate, list of 0 to 16 types
+ *
+ *   word                      the form, else 18            its rule, else 11
+ *   member                    0 to 32767                   0 to 1023, and above the one before it
+ *   source, destination,      0 to 32767, or               0 to 1023, or a group whose row stands before; group rows
+ *     argument, list type       g0 to g32767                 are g0, g1 and so on, in their order
+ *   class, action             0 to 65535                   any
+ *   predicate                 0 to 255                     0 ban, 1 separation, 2 roster, 3 companion; a roster has a
+ *                                                            list of 1 to 16 types, the others have none
+ *
+ * One space separates words. Numbers are decimal, without sign or leading zeros. A row ends at a line feed or at the
+ * end of the text, where no NUL is wanted. An empty row is skipped. There are no comments and no carriage returns.
+ *
+ * Rows are added in order up to the first that is refused, for the first of these that is true of it. The place is that
+ * of the row's first byte: with n line feeds before it, it is row n + 1 of the text.
+ *
+ *   18  the row is outside the form
+ *   11  a word breaks its rule
+ *   12  the policy has 256 groups, 1024 rules (allow, trans) or 256 constraints (limit) already
+ *   13  the buffer is too short for one more record; MUNGAITE_LARGEST bytes hold every policy
+ *
+ * A refused text leaves the image of the rows before at the buffer's front, whole, with its length in bytes 1 and 2:
+ * what stood there is gone. But a buffer under MUNGAITE_EMPTY bytes is left as it was, with 13 at place 0, whatever the
+ * text. The bytes past the image stay as they were, on a refusal too. */
+uint64_t mungaite_build(const uint8_t *text, size_t text_length, uint8_t *buffer, size_t length);
 
 #ifdef __cplusplus
 }

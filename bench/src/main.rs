@@ -7,6 +7,7 @@ mod ours;
 mod program;
 mod rows;
 mod table;
+mod texts;
 
 use cases::constraints::{bans, companions, rosters, separations};
 use cases::search::{self, search};
@@ -54,6 +55,7 @@ fn main() {
     table::print_decisions("UnKnown queries: decide", &sizes::unknown(), effort);
     rows::print(&sizes, effort);
     rows::print_held(&held, effort);
+    texts::print(&cases::texts::all(), effort);
     match Program::find() {
         Ok(permit) => {
             permit.growth(&limit(), runs);

@@ -133,3 +133,14 @@ pub(crate) fn added(answer: u64) -> Result<u16, Refusal> {
         _ => foreign(answer),
     }
 }
+
+/// The length of the image that was built in a buffer, or a refusal's number and its place in the text.
+pub(crate) fn built(answer: u64, text: &[u8], buffer: &[u8]) -> Result<usize, (u16, usize)> {
+    let [number, ..] = parts(answer);
+    let rest = usize::try_from(answer & (u64::MAX >> 16)).unwrap_or_else(|_| foreign(answer));
+    match number {
+        0 if rest <= buffer.len() => Ok(rest),
+        1.. if rest <= text.len() => Err((number, rest)),
+        _ => foreign(answer),
+    }
+}

@@ -1,36 +1,42 @@
 //! Mungaite: permissions for a policy image.
 //!
-//! A policy is an image, a slice of bytes: groups of types, rules, constraints. [`check`] tells whether an image is
-//! accepted, [`decide`] answers a query, [`run`] answers up to 64 with one check of the image, [`record`] gives one of
-//! the image's records and [`add`] puts one more into a buffer. Nothing is kept between calls and there is no heap:
-//! every call reads the image that it is handed.
+//! A policy is an image, a slice of bytes: groups of types, rules, constraints. [`build`] makes one from text,
+//! [`check`] tells whether an image is accepted, [`decide`] answers a query, [`run`] answers up to 64 with one check of
+//! the image, [`record`] gives one of the image's records and [`add`] puts one more into a buffer. Nothing is kept
+//! between calls and there is no heap: every call reads the image that it is handed.
 //!
 //! ```
-//! use mungaite::{add, decide, Decision, Query};
+//! use mungaite::{build, decide, group, Decision, Query};
 //!
-//! // The empty policy, in a buffer with room to grow.
-//! let mut buffer = [0; 64];
-//! buffer[..9].copy_from_slice(&[1, 0, 9, 0, 0, 0, 0, 0, 0]);
+//! let text = b"group 20 21\nallow 10 g0 5 1 on\n";
+//! let mut buffer = [0; mungaite::LARGEST];
+//! let image = build(text, &mut buffer).unwrap();
 //!
-//! // Allow type 10 to type 21, class 5, action 1, on.
-//! let rule = [11, 2, 0, 10, 0, 21, 0, 5, 0, 1, 1];
-//! assert_eq!(add(&mut buffer, &rule), Ok(0));
-//!
-//! let image = mungaite::image(&buffer).unwrap();
-//! let query = Query { source: 10, destination: 21, class: 5, action: 1 };
+//! let query = Query { source: 10, destination: group(0), class: 5, action: 1 };
 //! assert_eq!(decide(image, query), Ok(Decision::Permitted { rule: 0 }));
+//!
+//! let error = build(b"group 20 21\nallow 10 g1 5 1 on\n", &mut buffer).unwrap_err();
+//! let message = "row 2, `allow 10 g1 5 1 on`: \
+//!                destination `g1` is not defined yet: one group row stands before this row, g0 (refusal 11)";
+//! assert_eq!(error.to_string(), message);
 //! ```
 
 #![warn(missing_docs)]
 
 mod answer;
+mod build;
+mod diagnosis;
+mod form;
 mod nearest;
 mod query;
 pub mod raw;
 mod refusal;
 mod run;
+mod shown;
+mod wrong;
 
 pub use answer::{Decision, Kind};
+pub use build::{build, BuildError};
 pub use nearest::{Nearest, Step};
 pub use query::{group, Query, Section};
 pub use refusal::{Cause, Refusal};
@@ -87,6 +93,16 @@ pub fn record(image: &[u8], section: Section, n: u16) -> Result<&[u8], Refusal> 
 ///
 /// The record goes to the end of its section. Bytes past the new image stay as they were, and a refusal leaves every
 /// byte as it was.
+///
+/// ```
+/// use mungaite::{add, EMPTY};
+///
+/// // The empty policy, in a buffer with room to grow, and allow type 10 to type 21, class 5, action 1, on.
+/// let mut buffer = [0; 64];
+/// buffer[..EMPTY.len()].copy_from_slice(&EMPTY);
+/// assert_eq!(add(&mut buffer, &[11, 2, 0, 10, 0, 21, 0, 5, 0, 1, 1]), Ok(0));
+/// assert_eq!(mungaite::image(&buffer).map(<[u8]>::len), Some(20));
+/// ```
 pub fn add(buffer: &mut [u8], record: &[u8]) -> Result<u16, Refusal> {
     // SAFETY: each pointer and length are those of one slice, and a slice that may be written overlaps no other.
     answer::added(unsafe { raw::mungaite_add(buffer.as_mut_ptr(), buffer.len(), record.as_ptr(), record.len()) })

@@ -1,8 +1,8 @@
 //! The library's C functions, as `mungaite.h` declares them.
 //!
-//! An answer is four 16-bit parts, the highest first. Every pointer must be valid for the count given with it, and what
-//! is written, the buffer of [`mungaite_add`] and the answers of [`mungaite_run`], must not overlap anything else that
-//! is lent.
+//! An answer is four 16-bit parts, the highest first, but for that of [`mungaite_build`]. Every pointer must be valid
+//! for the count given with it, and what is written, the buffers of [`mungaite_add`] and [`mungaite_build`] and the
+//! answers of [`mungaite_run`], must not overlap anything else that is lent.
 
 extern "C" {
     /// 0 where the image is accepted, else the refusal.
@@ -34,4 +34,9 @@ extern "C" {
 
     /// 0, 1, 0, number of the new record, or the refusal.
     pub fn mungaite_add(buffer: *mut u8, length: usize, record: *const u8, record_length: usize) -> u64;
+
+    /// The length of the image that was built from a text; or the refusal's number in the highest 16 bits, and in the
+    /// other 48 the place of the refused row. The buffer then holds the image of the rows before, but is left as it was
+    /// where it has fewer than 9 bytes.
+    pub fn mungaite_build(text: *const u8, text_length: usize, buffer: *mut u8, length: usize) -> u64;
 }

@@ -35,11 +35,11 @@ pub enum Cause {
     Destination = 9,
     /// The added record's length or kind is wrong.
     AddedRecord = 10,
-    /// A field of the added record breaks its rule.
+    /// A field of the added record, or of a row of a text, breaks its rule.
     AddedField = 11,
     /// The section is at its limit.
     Full = 12,
-    /// The buffer cannot hold the image and the record.
+    /// The buffer cannot hold the image and the record; building: has fewer than 9 bytes.
     ShortBuffer = 13,
     /// The section has no record of that number.
     NoRecord = 14,
@@ -47,11 +47,13 @@ pub enum Cause {
     RowCount = 16,
     /// The list of answers has not as many slots as the run has rows.
     AnswerCount = 17,
+    /// A row of a text is outside the form.
+    Form = 18,
 }
 
 impl Cause {
     /// Every cause, in the order of their numbers.
-    pub const ALL: [Cause; 16] = [
+    pub const ALL: [Cause; 17] = [
         Cause::ShortImage,
         Cause::Version,
         Cause::Length,
@@ -68,7 +70,12 @@ impl Cause {
         Cause::NoRecord,
         Cause::RowCount,
         Cause::AnswerCount,
+        Cause::Form,
     ];
+
+    pub(crate) fn of(number: u16) -> Option<Cause> {
+        Cause::ALL.into_iter().find(|cause| *cause as u16 == number)
+    }
 
     fn sentence(self) -> &'static str {
         match self {
@@ -88,6 +95,7 @@ impl Cause {
             Cause::NoRecord => "the section has no record of that number",
             Cause::RowCount => "the run has no row or more than 64: ask 1 to 64 at a time",
             Cause::AnswerCount => "the answers are not as many as the queries: lend one slot for each query",
+            Cause::Form => "a row is outside the form",
         }
     }
 
@@ -99,7 +107,7 @@ impl Cause {
 impl Refusal {
     /// The cause; `None` for a number that this crate does not know.
     pub fn cause(self) -> Option<Cause> {
-        Cause::ALL.into_iter().find(|cause| *cause as u16 == self.number)
+        Cause::of(self.number)
     }
 }
 

@@ -7,6 +7,7 @@
 #![forbid(unsafe_code)]
 
 mod add;
+mod build;
 mod check;
 mod constraints;
 mod decide;
@@ -21,12 +22,14 @@ mod predicate;
 mod prepared;
 mod program;
 mod record;
+mod row;
 mod rules;
 mod run;
 mod set;
 mod sets;
 
 pub use add::add;
+pub use build::{build, BuildRefusal};
 pub use check::check;
 pub use decide::{decide, decide_checked};
 pub use give::record;

@@ -5,3 +5,4 @@ pub mod constraints;
 mod mix;
 pub mod search;
 pub mod sizes;
+pub mod texts;

@@ -87,7 +87,7 @@ fn room(buffer: &[u8], part: &[u8], section: Section, at: usize) -> Plan
 }
 
 // The call's own causes, for a buffer whose image is accepted and whose sections start at given places.
-fn own_causes(buffer: &[u8], part: &[u8], sections: Starts) -> Plan
+pub(crate) fn own_causes(buffer: &[u8], part: &[u8], sections: Starts) -> Plan
     requires { ⌜ (checkFront (now buffer) ≡ none) × (sections ≡ starts (imageIn (now buffer))) ⌝ }
     ensures { λ r. ⌜ planOutcome r ≡ outcome (ownFault (now (buffer .entry)) (now (part .entry))) (slotOf (now (buffer .entry)) (now (part .entry))) ⌝ }
 {

@@ -10,7 +10,7 @@ pub(crate) fn wide(x: u8) -> usize
     x as usize
 }
 
-fn low(value: usize) -> u8
+pub(crate) fn low(value: usize) -> u8
     ensures { λ r. ⌜ r ≡ value % 256 ⌝ }
 {
     (value % 256) as u8

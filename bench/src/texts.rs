@@ -1,0 +1,58 @@
+//! Policies as text, built by both engines.
+
+use crate::cases::texts::Text;
+use crate::measure::{least, Effort};
+use crate::ours;
+use crate::table::{nanoseconds, FIRST};
+use mungaite::LARGEST;
+use std::hint::black_box;
+use std::process::exit;
+
+pub fn print(texts: &[Text], effort: Effort) {
+    println!("\nPolicies as text: build; 1,000,000 or less is wanted of the largest\n");
+    println!(
+        "{:FIRST$} {:>9} {:>9} {:>12} {:>12} {:>6} {:>14}",
+        "text", "rows", "bytes", "ours", "hand-written", "ratio", "ours, MB/s"
+    );
+    for text in texts {
+        let [ours, its] = text.times(effort);
+        println!(
+            "{:FIRST$} {:>9} {:>9} {:>12} {:>12} {:>6.2} {:>14.0}",
+            text.name,
+            text.rows,
+            text.text.len(),
+            nanoseconds(ours),
+            nanoseconds(its),
+            ours / its,
+            text.text.len() as f64 / ours * 1e3
+        );
+    }
+}
+
+impl Text {
+    /// Compares what is built, then times ours and the hand-written engine.
+    fn times(&self, effort: Effort) -> [f64; 2] {
+        self.compare();
+        let (mut buffer, mut other) = (vec![0; LARGEST], vec![0; LARGEST]);
+        least(
+            effort,
+            [&mut || _ = black_box(ours::build(black_box(&self.text), black_box(&mut buffer))), &mut || {
+                _ = black_box(hand_written::build(black_box(&self.text), black_box(&mut other)))
+            }],
+        )
+    }
+
+    /// Ends the program where an engine does not build the image, or writes past it.
+    fn compare(&self) {
+        let length = self.image.len();
+        let mut expected = vec![77; LARGEST + 1];
+        expected[..length].copy_from_slice(&self.image);
+        let [mut ours, mut its] = [(); 2].map(|()| vec![77; LARGEST + 1]);
+        let answer = ours::build(&self.text, &mut ours);
+        let said = hand_written::build(&self.text, &mut its);
+        if answer != length as u64 || said != Ok(length) || ours != expected || its != expected {
+            eprintln!("{}: {answer:#x}, and {said:?}: not the image", self.name);
+            exit(1);
+        }
+    }
+}

@@ -1,0 +1,227 @@
+-- Each row keeps the buffer the image of a sound policy with the old bytes behind it. Assumes nothing.
+--     Imaged b₀ b               b is such an image with the bytes of b₀ behind it
+--     imaged-front, imaged-empty            where that holds first; `count-empty`: there is no record yet
+--     imaged-accepted, imaged-length, imaged-bytes, imaged-count   what it says
+--     OneAdded, add-one         a record added keeps it, and is one record more
+--     imaged-row, imaged-rows   rows keep it
+--     row-accepted, rows-accepted           rows keep an accepted front accepted, of bytes, and as long as it was
+use Prim.Native.Nat.{ℕ, suc, _+_, _≤_, _<_}
+use mathlib.Core.Path.{_≡_, refl, sym, subst, ap, _∙_}
+use mathlib.Core.Option.{Option, none, some}
+use mathlib.Core.List.{List, [], _∷_, _++_}
+use native.Mathlib.Omega.{arith}
+use lib.ListN.{length, getD, drop, length-append, length-drop}
+use lib.Seq.{drop-drop}
+use Rattle.format.specs.declared.Section.{Section}
+use Rattle.format.specs.declared.Section.the-variants.{Groups, Rules, Constraints}
+use Rattle.format.specs.declared.Refusal.{Refusal}
+use Rattle.format.specs.Bytes.{Bytes}
+use Rattle.format.specs.Format.{limitOf, countOf}
+use Rattle.format.specs.Policy.{Policy, recordsOf, imageOf, policyOf}
+use Rattle.format.specs.Check.{imageIn, checkFront, Accepted}
+use Rattle.format.specs.Sample.{empty}
+use Rattle.format.proofs.Chain.{orElse-split}
+use Rattle.format.proofs.ByCase.{records-of-groups}
+use Rattle.format.proofs.Shapes.{Formed}
+use Rattle.format.proofs.Bytes.{bytes-append, bytes-drop}
+use Rattle.format.proofs.Images.{Sound, policy-sound, image-of-policy, policy-of-image, image-accepted, image-bytes, image-count}
+use Rattle.format.proofs.Front.{front-accepted, front-bytes, front-length, front-split, front-fits, front-of, image-in-of, front-of-length, front-of-count}
+use Rattle.format.proofs.Written.{image-empty, length-empty, sound-empty}
+use Rattle.extension.specs.Add.{sectionOf, withRecord, ownFault, addFault, bufferAfter, overwrite}
+use Rattle.extension.specs.Claims.{allRecords}
+use Rattle.extension.proofs.Adds.{OwnPasses, own-passes, with-sound, with-length, add-image, buffer-refused}
+use Rattle.text.specs.Rows.{recordOfRow}
+use Rattle.text.specs.Build.{Made, afterRecord, afterRow, rowsFrom}
+use Rattle.text.specs.Claims.{recordCount}
+use Rattle.text.proofs.Records.{record-bytes}
+use Rattle.text.proofs.Rows.{rows-first}
+
+-- ---- one record more
+
+module _ (p : Policy) (t r : List ℕ) (w : Sound p) (by : Bytes r) (e : addFault (imageOf p ++ t) r ≡ none) where
+  s : Section
+  s = sectionOf (getD r 1 0)
+
+  own : OwnPasses (imageOf p ++ t) r
+  unfolding addFault
+  own = own-passes (imageOf p ++ t) r (orElse-split (checkFront (imageOf p ++ t)) (ownFault (imageOf p ++ t) r) e .1)
+
+  counts : (x : Section) → countOf (imageOf p ++ t) x ≡ length (recordsOf p x)
+  counts x = front-of-count (imageOf p) t (image-accepted p w) x ∙ image-count p x
+
+  groups : countOf (imageOf p ++ t) Groups ≡ length (p .groups)
+  groups = counts Groups ∙ ap length (records-of-groups p)
+
+  formed : Formed s (length (p .groups)) r
+  unfolding s
+  formed = rw groups at (own .formed)
+
+  few : length (recordsOf p s) < limitOf s
+  unfolding s
+  few = rw (counts s) at (own .few)
+
+  room : length (imageOf p) + length r ≤ length (imageOf p ++ t)
+  room = rw (front-of-length (imageOf p) t (image-accepted p w)) at (own .room)
+
+  one-more-sound : Sound (withRecord s p r)
+  one-more-sound = with-sound p r s w formed by few
+
+  one-more : bufferAfter (imageOf p ++ t) r ≡ imageOf (withRecord s p r) ++ drop (length r) t
+  one-more = add-image p t s r w formed few room
+
+with-count : (s : Section) (p : Policy) (r : List ℕ) → length (allRecords (withRecord s p r)) ≡ suc (length (allRecords p))
+unfolding allRecords withRecord
+with-count Groups p r =
+    rw (
+      length-append (p .groups ++ (r ∷ [])) (p .rules ++ p .constraints),
+      length-append (p .groups) (r ∷ []),
+      length-append (p .groups) (p .rules ++ p .constraints),
+    ) (omega arith)
+with-count Rules p r =
+    rw (
+      length-append (p .groups) ((p .rules ++ (r ∷ [])) ++ p .constraints),
+      length-append (p .rules ++ (r ∷ [])) (p .constraints),
+      length-append (p .rules) (r ∷ []),
+      length-append (p .groups) (p .rules ++ p .constraints),
+      length-append (p .rules) (p .constraints),
+    ) (omega arith)
+with-count Constraints p r =
+    rw (
+      length-append (p .groups) (p .rules ++ (p .constraints ++ (r ∷ []))),
+      length-append (p .rules) (p .constraints ++ (r ∷ [])),
+      length-append (p .constraints) (r ∷ []),
+      length-append (p .groups) (p .rules ++ p .constraints),
+      length-append (p .rules) (p .constraints),
+    ) (omega arith)
+
+-- ---- the image with the old bytes behind it
+
+pub record Imaged (b₀ b : List ℕ) : Type 0 where
+  pub policy : Policy
+  pub sound : Sound policy
+  pub image : b ≡ imageOf policy ++ drop (length (imageOf policy)) b₀
+  pub fits : length (imageOf policy) ≤ length b₀
+
+-- what it says
+module _ (b₀ b : List ℕ) (k : Imaged b₀ b) where
+  i : List ℕ
+  i = imageOf (k .policy)
+
+  t : List ℕ
+  t = drop (length (imageOf (k .policy))) b₀
+
+  passes : Accepted i
+  unfolding i
+  passes = image-accepted (k .policy) (k .sound)
+
+  pub imaged-accepted : checkFront b ≡ none
+  unfolding i t
+  imaged-accepted = ap checkFront (k .image) ∙ front-of i t passes
+
+  pub imaged-length : length b ≡ length b₀
+  unfolding i t
+  imaged-length = ap length (k .image) ∙ length-append i t ∙ omega (arith, length-drop (length i) b₀, k .fits)
+
+  pub imaged-bytes : Bytes b₀ → Bytes b
+  unfolding i t
+  imaged-bytes h = subst Bytes (sym (k .image)) (bytes-append i t (image-bytes (k .policy) (k .sound)) (bytes-drop (length i) b₀ h))
+
+  pub imaged-count : recordCount b ≡ length (allRecords (k .policy))
+  unfolding i t
+  imaged-count =
+      ap (λ (x : List ℕ). length (allRecords (policyOf x))) (ap imageIn (k .image) ∙ image-in-of i t passes)
+      ∙ ap (λ (p : Policy). length (allRecords p)) (policy-of-image (k .policy) (k .sound))
+
+-- where it holds first
+pub imaged-front : (b : List ℕ) → checkFront b ≡ none → Bytes b → Imaged b b
+imaged-front b e by =
+    let a = front-accepted b e in
+    let h = front-bytes b e by in
+    let q : imageOf (policyOf (imageIn b)) ≡ imageIn b = image-of-policy (imageIn b) h a in
+    record {
+      policy = policyOf (imageIn b);
+      sound = policy-sound (imageIn b) h a;
+      image = rw (q, front-length b e) (front-split b e);
+      fits = rw (q, front-length b e) (front-fits b e);
+    }
+
+pub imaged-empty : (b : List ℕ) → 9 ≤ length b → Imaged b (overwrite empty b)
+unfolding overwrite
+imaged-empty b h =
+    record {
+      policy = record { version = 1; groups = []; rules = []; constraints = [] };
+      sound = sound-empty;
+      image = rw image-empty;
+      fits = rw (image-empty, length-empty) h;
+    }
+
+pub count-empty : (b : List ℕ) → 9 ≤ length b → recordCount (overwrite empty b) ≡ 0
+unfolding imaged-empty allRecords
+count-empty b h = imaged-count b (overwrite empty b) (imaged-empty b h)
+
+-- ---- records and rows
+
+-- a record that is added to it, with one record more
+pub record OneAdded (b₀ b r : List ℕ) : Type 0 where
+  pub image : Imaged b₀ (bufferAfter b r)
+  pub count : recordCount (bufferAfter b r) ≡ suc (recordCount b)
+
+pub add-one : (b₀ b r : List ℕ) → Imaged b₀ b → Bytes r → addFault b r ≡ none → OneAdded b₀ b r
+unfolding s
+add-one b₀ b r k by e =
+    let p : Policy = k .policy in
+    let t : List ℕ = drop (length (imageOf p)) b₀ in
+    let a : addFault (imageOf p ++ t) r ≡ none = rw (k .image) at e in
+    let q : Policy = withRecord (sectionOf (getD r 1 0)) p r in
+    let n : length (imageOf q) ≡ length (imageOf p) + length r = with-length (sectionOf (getD r 1 0)) p r in
+    let after : Imaged b₀ (bufferAfter b r) =
+    record {
+      policy = q;
+      sound = one-more-sound p t r (k .sound) by a;
+      image =
+          ap (λ (x : List ℕ). bufferAfter x r) (k .image) ∙ one-more p t r (k .sound) by a
+          ∙ ap (λ (x : List ℕ). imageOf q ++ x) (drop-drop (length r) (length (imageOf p)) b₀ ∙ ap (λ (x : ℕ). drop x b₀) (sym n));
+      fits =
+          omega (arith, room p t r (k .sound) by a, n, length-append (imageOf p) t, length-drop (length (imageOf p)) b₀, k .fits);
+    } in
+    record {
+      image = after;
+      count = imaged-count b₀ (bufferAfter b r) after ∙ with-count (sectionOf (getD r 1 0)) p r ∙ ap suc (sym (imaged-count b₀ b k));
+    }
+
+module _ (b₀ : List ℕ) where
+  imaged-add : (b r : List ℕ) → Imaged b₀ b → Bytes r → Imaged b₀ (bufferAfter b r)
+  imaged-add b r k by = step (addFault b r) refl where
+    step : (o : Option Refusal) → addFault b r ≡ o → Imaged b₀ (bufferAfter b r)
+    step none e = add-one b₀ b r k by e .image
+    step (some f) e = subst (Imaged b₀) (sym (buffer-refused b r f e)) k
+
+  pub imaged-row : (row b : List ℕ) → Imaged b₀ b → Imaged b₀ (afterRow row b)
+  unfolding afterRow afterRecord
+  imaged-row [] b k = k
+  imaged-row (c ∷ row) b k = step (recordOfRow (c ∷ row)) (record-bytes (c ∷ row)) where
+    step : (o : Option (List ℕ)) → ((r : List ℕ) → o ≡ some r → Bytes r) → Imaged b₀ (afterRecord o b)
+    step none f = k
+    step (some r) f = imaged-add b r k (f r refl)
+
+  pub imaged-rows : (rows : List (List ℕ)) (at : ℕ) (b : List ℕ) → Imaged b₀ b → Imaged b₀ (rowsFrom at rows b .buffer)
+  unfolding rowsFrom
+  imaged-rows [] at b k = k
+  imaged-rows (row ∷ rows) at b k =
+      rows-first at row rows b
+      (λ h q. subst (λ (m : Made). Imaged b₀ (m .buffer)) (sym q) (imaged-rows rows (at + suc (length row)) (afterRow row b) (imaged-row row b k)))
+      (λ f h q. subst (λ (m : Made). Imaged b₀ (m .buffer)) (sym q) k)
+
+-- ---- an accepted front of bytes
+
+module _ (b : List ℕ) (e : checkFront b ≡ none) (by : Bytes b) where
+  front-after : (after : List ℕ) → Imaged b after → (checkFront after ≡ none) × Bytes after × (length after ≡ length b)
+  front-after after k = (imaged-accepted b after k, imaged-bytes b after k by, imaged-length b after k)
+
+  pub row-accepted : (row : List ℕ) → (checkFront (afterRow row b) ≡ none) × Bytes (afterRow row b) × (length (afterRow row b) ≡ length b)
+  row-accepted row = front-after (afterRow row b) (imaged-row b row b (imaged-front b e by))
+
+  pub rows-accepted :
+      (at : ℕ) (rows : List (List ℕ))
+      → (checkFront (rowsFrom at rows b .buffer) ≡ none) × Bytes (rowsFrom at rows b .buffer) × (length (rowsFrom at rows b .buffer) ≡ length b)
+  rows-accepted at rows = front-after (rowsFrom at rows b .buffer) (imaged-rows b rows at b (imaged-front b e by))

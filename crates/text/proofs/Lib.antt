@@ -1,0 +1,10 @@
+pub mod Cases
+pub mod Parts
+pub mod Words
+pub mod Records
+pub mod Rows
+pub mod Follow
+pub mod Buffers
+pub mod Accepted
+pub mod Chunks
+pub mod Read

@@ -1,0 +1,4 @@
+-- Definitions that only proofs, laws and the contracts of private functions use; no claim rests on them.
+pub mod Parts
+pub mod Moves
+pub mod Read
