@@ -1,3 +1,4 @@
 pub mod CodeLaws
 pub mod Whole
 pub mod Host
+pub mod Built

@@ -8,9 +8,12 @@
 --     RecordWhole         record n of any section of any image; and where there is no such section
 --     AddWhole            the refusal or the new record's number, of any buffer and any record
 --     RunWhole            what any run on any image comes to
+--     BuiltFits o         the image's length is at most 55,561; a refusal's number is at most 18, and its place below 2^48
+--     BuildWhole          what any text below 2^48 bytes builds in any buffer
 -- So what a host reads from the number is the answer itself, of every image of bytes:
 --     CheckRead, RecordRead, AddRead   by each of the other functions
 --     RunRead             by a run, and in the slot of each of its rows
+--     BuildRead           by building from a text
 use Prim.Native.Nat.{ℕ, _+_, _*_, _≤_, _<_}
 use mathlib.Core.Path.{_≡_}
 use mathlib.Core.Option.{Option, none, some}
@@ -22,14 +25,15 @@ use Rattle.format.specs.declared.Extent.{Extent}
 use Rattle.format.specs.Bytes.{Bytes}
 use Rattle.format.specs.Refusals.{refusal, _orElse_}
 use Rattle.format.specs.Check.{check}
-use Rattle.format.specs.Answers.{outcome, extent}
+use Rattle.format.specs.Answers.{Outcome, refused, gives, outcome, extent}
 use Rattle.format.specs.Give.{giveFault}
 use Rattle.extension.specs.Add.{addFault, newNumber}
 use Rattle.decision.specs.Decide.{answer, queryOf}
 use Rattle.decision.specs.Numbers.{Part, RefusalFits, OutcomeFits, hostDecision}
 use Rattle.runs.specs.Numbers.{numbersFault, numbersRun, codesAfter, runCode}
-use Rattle.mungaite.specs.Code.{faultCode, recordCode, addCode}
-use Rattle.mungaite.specs.Host.{sectionNumber, hostChecked, hostFound, hostAdded, hostRun}
+use Rattle.text.specs.Build.{built}
+use Rattle.mungaite.specs.Code.{faultCode, recordCode, addCode, placeSpan, buildCode}
+use Rattle.mungaite.specs.Host.{sectionNumber, hostChecked, hostFound, hostAdded, hostRun, hostBuilt}
 
 abbrev pub FaultFits : Option Refusal → Type 0
 FaultFits none = Unit
@@ -79,3 +83,13 @@ RunRead =
     × ((i : ℕ) → numbersFault l (length ns) (length ys) ≡ none → i < length ys
     → hostDecision (getD (codesAfter l ns ys) i 0)
     ≡ answer l (queryOf (getD ns (4 * i) 0) (getD ns (4 * i + 1) 0) (getD ns (4 * i + 2) 0) (getD ns (4 * i + 3) 0)))
+
+abbrev pub BuiltFits : Outcome ℕ → Type 0
+BuiltFits (gives n) = n ≤ 55561
+BuiltFits (refused f) = (0 < f .number) × (f .number ≤ 18) × (f .place < placeSpan)
+
+abbrev pub BuildWhole : Type 0
+BuildWhole = (text b : List ℕ) → length text < placeSpan → BuiltFits (built text b .answer)
+
+abbrev pub BuildRead : Type 0
+BuildRead = (text b : List ℕ) → length text < placeSpan → hostBuilt (buildCode (built text b .answer)) ≡ built text b .answer

@@ -3,7 +3,9 @@
 --     recordCode l s n    0, 1, place, length of record n of section s: 0 groups, 1 rules, 2 constraints; or the refusal,
 --                         which is 14 where there is no such section
 --     addCode b r         0, 1, 0, number of the new record, or the refusal
-use Prim.Native.Nat.{ℕ}
+-- What a text builds is a number of two parts, the highest 16 bits and the other 48:
+--     buildCode o         0 and the length of the image, or the refusal's number and its place in the text
+use Prim.Native.Nat.{ℕ, _+_, _*_, _%_}
 use mathlib.Core.Bool.{cond}
 use mathlib.Core.Option.{Option, none, some}
 use mathlib.Core.List.{List}
@@ -14,7 +16,7 @@ use Rattle.format.specs.declared.Refusal.{Refusal}
 use Rattle.format.specs.declared.Extent.{Extent}
 use Rattle.format.specs.Refusals.{refusal, _orElse_}
 use Rattle.format.specs.Check.{check}
-use Rattle.format.specs.Answers.{outcome, extent}
+use Rattle.format.specs.Answers.{Outcome, refused, gives, outcome, extent}
 use Rattle.format.specs.Give.{giveFault}
 use Rattle.extension.specs.Add.{addFault, newNumber}
 use Rattle.decision.specs.Numbers.{partsOf, refusalCode, codeOf}
@@ -36,3 +38,11 @@ recordCode l s n =
 
 unfoldable pub addCode : List ℕ → List ℕ → ℕ
 addCode b r = codeOf (partsOf 1 0) (outcome (addFault b r) (newNumber b r))
+
+-- 48 bits
+abbrev pub placeSpan : ℕ
+placeSpan = 281474976710656
+
+unfoldable pub buildCode : Outcome ℕ → ℕ
+buildCode (gives n) = n
+buildCode (refused f) = f .number * placeSpan + f .place % placeSpan

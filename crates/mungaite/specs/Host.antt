@@ -4,7 +4,8 @@
 --     hostFound n         what mungaite_record says
 --     hostAdded n         what mungaite_add says
 --     hostRun n           what mungaite_run says: fit, which is no row, or the first row that is not Permitted
-use Prim.Native.Nat.{ℕ}
+--     hostBuilt n         what mungaite_build says, by MUNGAITE_BUILD_REFUSAL and MUNGAITE_BUILD_REST
+use Prim.Native.Nat.{ℕ, _/_, _%_}
 use mathlib.Core.Bool.{cond}
 use mathlib.Core.Option.{Option, none, some}
 use lib.Dec.{eqb}
@@ -12,8 +13,10 @@ use Rattle.format.specs.declared.Section.{Section}
 use Rattle.format.specs.declared.Section.the-variants.{Groups, Rules, Constraints}
 use Rattle.format.specs.declared.Refusal.{Refusal}
 use Rattle.format.specs.declared.Extent.{Extent}
+use Rattle.format.specs.Refusals.{refusal}
 use Rattle.format.specs.Answers.{Outcome, refused, gives}
 use Rattle.decision.specs.Numbers.{kindPart, thirdPart, fourthPart, hostRefusal}
+use Rattle.mungaite.specs.Code.{placeSpan}
 
 abbrev pub sectionNumber : Section → ℕ
 sectionNumber Groups = 0
@@ -31,3 +34,6 @@ hostAdded n = cond (eqb (kindPart n) 2) (refused (hostRefusal n)) (gives (fourth
 
 unfoldable pub hostRun : ℕ → Outcome (Option ℕ)
 hostRun n = cond (eqb (kindPart n) 2) (refused (hostRefusal n)) (cond (eqb (kindPart n) 1) (gives none) (gives (some (fourthPart n))))
+
+unfoldable pub hostBuilt : ℕ → Outcome ℕ
+hostBuilt n = cond (eqb (n / placeSpan) 0) (gives (n % placeSpan)) (refused (refusal (n / placeSpan) (n % placeSpan)))

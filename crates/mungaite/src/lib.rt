@@ -1,10 +1,11 @@
-// The C interface: numbers and byte slices only. An answer is a number of four 16-bit parts. include/mungaite.h declares the
-// functions and has the table of answers.
+// The C interface: numbers and byte slices only. An answer is a number of four 16-bit parts, but for a text's, which has two:
+// 16 bits and 48. include/mungaite.h declares the functions and has the table of answers.
 
 use decide::decide;
 use decide::run_numbers;
 use decision::Query;
 use extend::add;
+use extend::build;
 use extension::Added;
 use format::Checked;
 use format::Found;
@@ -16,6 +17,7 @@ use numbers::number;
 use numbers::parts;
 use numbers::refused;
 use numbers::run_number;
+use text::Built;
 ghost use mathlib.Core.Path.{_≡_};
 ghost use lib.ListN.{length};
 ghost use Rattle.format.specs.Check as reading;
@@ -23,7 +25,8 @@ ghost use Rattle.extension.specs.Add.{bufferAfter};
 ghost use Rattle.decision.specs.Decide as deciding;
 ghost use Rattle.decision.specs.Numbers.{decisionCode};
 ghost use Rattle.runs.specs.Numbers.{numbersRun, codesAfter, runCode};
-ghost use Rattle.mungaite.specs.Code.{faultCode, recordIn, recordCode, addCode};
+ghost use Rattle.text.specs.Build.{built};
+ghost use Rattle.mungaite.specs.Code.{faultCode, recordIn, recordCode, addCode, buildCode};
 
 // 0 where the image is accepted, else the refusal.
 #[no_mangle]
@@ -103,5 +106,21 @@ pub extern "C" fn mungaite_add(buffer: &mut [u8], part: &[u8]) -> u64
     match add(buffer, part) {
         Added::Number(n) => parts(1, 0, n),
         Added::Refused(f) => refused(f),
+    }
+}
+
+// Builds the image of a text at the front of a buffer: 0 in the highest 16 bits and then the image's length, or the refusal's
+// number and its place in the text. A refused text leaves the image of the rows before the refused one; a buffer under 9 bytes is
+// left as it was.
+#[no_mangle]
+pub extern "C" fn mungaite_build(text: &[u8], buffer: &mut [u8]) -> u64
+    ensures { λ r. ⌜ (r ≡ buildCode (built (now (text .entry)) (now (buffer .entry)) .answer))
+        × (now (buffer .exit) ≡ built (now (text .entry)) (now (buffer .entry)) .buffer) ⌝ }
+{
+    match build(text, buffer) {
+        Built::Length(n) => n as u64,
+        Built::Refused(f) => {
+            (f.number as usize * 281474976710656 + f.place % 281474976710656) as u64
+        }
     }
 }
