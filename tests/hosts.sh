@@ -1,5 +1,5 @@
 #!/usr/bin/env bash
-# The hosts in C and in Rust build without a warning and print what document 01 says.
+# The hosts in C and in Rust build without a warning and print what the documents say.
 set -euo pipefail
 cd "$(dirname "$0")/.."
 library=${MUNGAITE_LIB:-$PWD/target/staticlib}
@@ -7,9 +7,15 @@ export MUNGAITE_LIB=$library
 folder=$(mktemp -d)
 trap 'rm -r "$folder"' EXIT
 
-cc -std=c99 -Wall -Wextra -Werror -pedantic -I include examples/decide.c "$library/libmungaite.a" -o "$folder/decide"
-"$folder/decide" | diff - examples/decide.stdout
+for source in examples/*.c; do
+    host=$(basename "$source" .c)
+    cc -std=c99 -Wall -Wextra -Werror -pedantic -I include "$source" "$library/libmungaite.a" -o "$folder/$host"
+    "$folder/$host" | diff - "examples/$host.stdout"
+done
 
 cd rust
 RUSTFLAGS='-D warnings' cargo test --release --offline --quiet -j1 > "$folder/tests" 2>&1 || { cat "$folder/tests"; exit 1; }
-RUSTFLAGS='-D warnings' cargo run --release --offline --quiet -j1 --example sample | diff - examples/sample.stdout
+for source in examples/*.rs; do
+    host=$(basename "$source" .rs)
+    RUSTFLAGS='-D warnings' cargo run --release --offline --quiet -j1 --example "$host" | diff - "examples/$host.stdout"
+done

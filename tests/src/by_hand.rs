@@ -1,8 +1,9 @@
 //! The hand-written engine of the benchmark, tested as Mungaite is.
 
-use crate::subject::{Answer, Subject};
+use crate::subject::{Answer, Subject, TextRefusal};
+use crate::text::row_number;
 use hand_written::{decide_checked, Prepared};
-use mungaite::{Query, Refusal, Run, Section};
+use mungaite::{Query, Refusal, Run, Section, LARGEST};
 use std::ops::Range;
 
 pub struct ByHand;
@@ -43,5 +44,19 @@ impl Subject for ByHand {
 
     fn permit(&self, input: &[u8]) -> String {
         hand_written::permit(input)
+    }
+
+    fn build(&self, text: &[u8], buffer: &mut [u8]) -> Result<usize, TextRefusal> {
+        hand_written::build(text, buffer)
+            .map_err(|refused| TextRefusal { number: refused.number, place: refused.place })
+    }
+
+    /// What it builds in a buffer for the largest image, as the program would write it.
+    fn compile(&self, text: &[u8]) -> Result<Vec<u8>, String> {
+        let mut buffer = vec![0; LARGEST];
+        match self.build(text, &mut buffer) {
+            Ok(length) => Ok(buffer[..length].to_vec()),
+            Err(TextRefusal { number, place }) => Err(format!("R {number} {place} {}\n", row_number(text, place))),
+        }
     }
 }

@@ -64,6 +64,24 @@ impl Pair<'_> {
     pub fn permit(&self, input: &[u8]) -> Outcome {
         equal("permit", self.engine.permit(input), self.model.permit(input), || hex(input))
     }
+
+    pub fn build(&self, text: &[u8], buffer: &[u8]) -> Outcome {
+        let shown = || format!("{} into {} bytes", typed(text), buffer.len());
+        let mut guarded = [&GUARD, buffer, &GUARD].concat();
+        let place = GUARD.len()..GUARD.len() + buffer.len();
+        let answer = self.engine.build(text, &mut guarded[place.clone()]);
+        let mut modelled = buffer.to_vec();
+        equal("build", answer, self.model.build(text, &mut modelled), shown)?;
+        same_bytes("buffer after build", &guarded[place.clone()], &modelled, shown)?;
+        if guarded[..place.start] != GUARD || guarded[place.end..] != GUARD {
+            return Err(format!("build wrote outside of its buffer: {}", shown()));
+        }
+        Ok(())
+    }
+
+    pub fn compile(&self, text: &[u8]) -> Outcome {
+        equal("compile", self.engine.compile(text), self.model.compile(text), || typed(text))
+    }
 }
 
 /// So many slots before a run: each holds another answer, and one that no row gets.
@@ -87,6 +105,17 @@ pub fn same_bytes(what: &str, engine: &[u8], expected: &[u8], shown: impl Fn() -
     let at = engine.iter().zip(expected).take_while(|(one, other)| one == other).count();
     let (got, wanted) = (hex(&engine[at..]), hex(&expected[at..]));
     Err(format!("{what}: from byte {at} on got {got}, expected {wanted}\n    for {}", shown()))
+}
+
+/// A text as it would be typed in a test, the middle of a long one left out.
+pub fn typed(text: &[u8]) -> String {
+    match text.len() {
+        0..=800 => format!("\"{}\"", text.escape_ascii()),
+        length => {
+            let (front, end) = (text[..400].escape_ascii(), text[length - 200..].escape_ascii());
+            format!("\"{front} .. {end}\" ({length} bytes)")
+        }
+    }
 }
 
 /// Bytes in hexadecimal, the middle of a long row left out.

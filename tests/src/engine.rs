@@ -1,30 +1,41 @@
-//! The engine: the library, called through the crate `mungaite`, and the program `permit`, run as a process.
+//! The engine: the library, called through the crate `mungaite`, and the programs `permit` and `compile`, run as
+//! processes.
 
-use crate::numbers;
-use crate::subject::{Answer, Subject};
-use mungaite::{Query, Refusal, Run, Section};
+use crate::subject::{Answer, Subject, TextRefusal};
+use crate::text::row_number;
+use crate::{compiler, numbers};
+use mungaite::{BuildError, Query, Refusal, Run, Section};
 use std::io::{Read, Write};
 use std::ops::Range;
 use std::path::PathBuf;
 use std::process::{Child, Command, Stdio};
 use std::{env, thread};
 
-/// Where the program is unless the environment variable PERMIT names another place. Relative to this crate's folder.
+/// Where the programs are unless the environment variables PERMIT and COMPILE name other places. Relative to this
+/// crate's folder.
 const PERMIT: &str = "../target/bin/permit";
+const COMPILE: &str = "../target/bin/compile";
 
 pub struct Engine {
     permit: PathBuf,
+    compile: PathBuf,
 }
 
 impl Engine {
     pub fn new() -> Engine {
         let crate_folder = PathBuf::from(env!("CARGO_MANIFEST_DIR"));
-        Engine { permit: env::var_os("PERMIT").map_or(crate_folder.join(PERMIT), PathBuf::from) }
+        let path = |name: &str, place: &str| env::var_os(name).map_or(crate_folder.join(place), PathBuf::from);
+        Engine { permit: path("PERMIT", PERMIT), compile: path("COMPILE", COMPILE) }
     }
 
-    /// The program, to be started.
+    /// The program `permit`, to be started.
     pub fn program(&self) -> Command {
         Command::new(&self.permit)
+    }
+
+    /// The program `compile`, to be started.
+    pub fn compiler(&self) -> Command {
+        Command::new(&self.compile)
     }
 
     /// The program, started, with its input and output at hand.
@@ -79,11 +90,39 @@ impl Subject for Engine {
         assert!(status.code().is_some(), "the program was killed: {status}");
         output
     }
+
+    /// The image by the crate, and the same by the C function.
+    fn build(&self, text: &[u8], buffer: &mut [u8]) -> Result<usize, TextRefusal> {
+        let mut lent = buffer.to_vec();
+        let raw = numbers::build(text, &mut lent);
+        let front = buffer.as_ptr();
+        let said = match mungaite::build(text, buffer) {
+            Ok(image) => {
+                assert_eq!(image.as_ptr(), front, "the image is the buffer's front");
+                Ok(image.len())
+            }
+            Err(error) => Err(refused(text, error)),
+        };
+        assert!(raw == numbers::of_build(said) && lent == buffer, "{said:?} by the crate, {raw:#X} by the C function");
+        said
+    }
+
+    fn compile(&self, text: &[u8]) -> Result<Vec<u8>, String> {
+        compiler::compile(&mut self.compiler(), text)
+    }
+}
+
+/// The refusal of a text. The row that it names must be the one at its place.
+fn refused(text: &[u8], error: BuildError) -> TextRefusal {
+    let refused = TextRefusal { number: error.number, place: error.place };
+    let row = text[error.place..].split(|&byte| byte == b'\n').next().unwrap_or_default();
+    assert_eq!((error.row, error.text), (row_number(text, error.place), row), "the row of {refused:?}");
+    refused
 }
 
 /// Writes pieces of 1, 2, 4 and so on bytes, so that the program's reads end at many places. A program that refuses
-/// the image may end before it has read everything: a failed write is no fault.
-fn write_in_pieces(to: &mut impl Write, input: &[u8]) {
+/// the image or the text may end before it has read everything: a failed write is no fault.
+pub fn write_in_pieces(to: &mut impl Write, input: &[u8]) {
     let mut rest = input;
     let mut size = 1;
     while !rest.is_empty() {

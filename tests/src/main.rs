@@ -1,7 +1,8 @@
-//! Tests of two engines against an independent model of document 01. README.md says how to run them.
+//! Tests of two engines against an independent model of the documents. README.md says how to run them.
 
 mod by_hand;
 mod compare;
+mod compiler;
 mod engine;
 mod generate;
 mod model;
@@ -12,7 +13,7 @@ mod runner;
 mod subject;
 mod suite;
 
-use mungaite_tests::{draft, sample};
+use mungaite_tests::{draft, sample, text};
 use options::{Options, USAGE};
 use runner::Run;
 use std::process::ExitCode;

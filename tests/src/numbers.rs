@@ -1,7 +1,7 @@
-//! A run by the C function itself: rows and answers as numbers, by the table of `mungaite.h`.
+//! A run and a text by the C functions themselves: rows and answers as numbers, by the table of `mungaite.h`.
 
-use crate::subject::Answer;
-use mungaite::raw::mungaite_run;
+use crate::subject::{Answer, TextRefusal};
+use mungaite::raw::{mungaite_build, mungaite_run};
 use mungaite::{Decision, Nearest, Query, Refusal, Run};
 
 /// Slots on either side of a list of answers, which no call may touch.
@@ -18,6 +18,20 @@ pub fn run(image: &[u8], numbers: &[u16], slots: &mut [u64]) -> u64 {
     assert!(before == GUARD && behind == GUARD, "the run wrote outside of its answers");
     slots.copy_from_slice(lent);
     said
+}
+
+/// The answer to a text. The buffer's bounds are the caller's to guard.
+pub fn build(text: &[u8], buffer: &mut [u8]) -> u64 {
+    // SAFETY: each pointer and count are those of one slice, and the slice that is written overlaps no other.
+    unsafe { mungaite_build(text.as_ptr(), text.len(), buffer.as_mut_ptr(), buffer.len()) }
+}
+
+/// The image's length; or the refusal's number in the highest 16 bits, and its place.
+pub fn of_build(said: Result<usize, TextRefusal>) -> u64 {
+    match said {
+        Ok(length) => length as u64,
+        Err(TextRefusal { number, place }) => u64::from(number) << 48 | place as u64,
+    }
 }
 
 /// The four numbers of each row.

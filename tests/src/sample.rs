@@ -16,6 +16,16 @@ pub const SAMPLE: [u8; 80] = [
     0x0B, 0x04, 0x00, 0x05, 0x00, 0x02, 0x00, 0x14, 0x00, 0x1E, 0x01,
 ];
 
+/// The sample typed as text, a row for each record.
+pub const SAMPLE_TEXT: &str = "group 20 21
+allow 10 g0 5 1 on
+allow 20 30 5 2 on
+trans 12 20 5
+allow 13 21 5 1 off
+limit 5 1 10 21 2 10
+limit 5 2 20 30 1
+";
+
 /// The type field of group 0.
 pub const G0: u16 = 32768;
 

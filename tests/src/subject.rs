@@ -6,6 +6,13 @@ use std::ops::Range;
 /// What a query gets, alone or as a row.
 pub type Answer = Result<Decision, Refusal>;
 
+/// The refusal of a text: the cause's number, and the place of a row in the text.
+#[derive(Clone, Copy, Debug, PartialEq, Eq)]
+pub struct TextRefusal {
+    pub number: u16,
+    pub place: usize,
+}
+
 pub trait Subject: Sync {
     fn check(&self, image: &[u8]) -> Result<(), Refusal>;
 
@@ -19,6 +26,12 @@ pub trait Subject: Sync {
 
     fn add(&self, buffer: &mut [u8], record: &[u8]) -> Result<u16, Refusal>;
 
-    /// The program's whole output for its input.
+    /// The whole output of the program `permit` for its input.
     fn permit(&self, input: &[u8]) -> String;
+
+    /// The length of the image that a text builds in a buffer.
+    fn build(&self, text: &[u8], buffer: &mut [u8]) -> Result<usize, TextRefusal>;
+
+    /// What the program `compile` writes for a text: the image, or the line of a refusal.
+    fn compile(&self, text: &[u8]) -> Result<Vec<u8>, String>;
 }

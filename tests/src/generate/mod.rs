@@ -6,13 +6,17 @@
 //! - `damage`: images and records with something wrong
 //! - `pairs`: a policy and one that holds it
 //! - `cases`: the inputs of each call, put together
+//! - `text`, `damage_text`: texts, and texts with something wrong
 
 mod alphabet;
 mod cases;
 mod damage;
+mod damage_text;
 mod pairs;
 mod policy;
 mod query;
+mod text;
 
 pub use cases::{add_case, check_case, decide_case, draft_case, permit_case, policy_case, record_case, run_case};
 pub use pairs::{pair_case, HeldPair};
+pub use text::{build_case, compile_case};

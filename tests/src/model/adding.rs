@@ -55,7 +55,7 @@ impl Model {
     }
 
     /// The section that a record may be added to: causes 10 to 13.
-    fn addable(self, old: &Records, record: &[u8], image: usize, buffer: usize) -> Result<Section, Refusal> {
+    pub fn addable(self, old: &Records, record: &[u8], image: usize, buffer: usize) -> Result<Section, Refusal> {
         let section = self.shaped(record)?;
         let bad_field = self.fields(record, old.of(Section::Groups).len() as u16).err();
         let is_full = |section: Section| old.of(section).len() >= self.limit(section);

@@ -40,6 +40,11 @@ impl Records {
         self
     }
 
+    /// The length of the image that holds these records.
+    pub fn image_length(&self) -> usize {
+        HEADER + self.lists.iter().flatten().map(Vec::len).sum::<usize>()
+    }
+
     /// The image that holds these records.
     pub fn image(&self) -> Vec<u8> {
         let records: Vec<u8> = self.lists.iter().flatten().flatten().copied().collect();

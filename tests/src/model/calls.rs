@@ -1,10 +1,10 @@
-//! The engine's calls and the program, with the causes 8, 9, 14 and 15.
+//! The engine's calls and the programs, with the causes 8, 9, 14 and 15.
 
 use super::bytes::{count_place, number};
 use super::decide::Verdict;
 use super::policy::Policy;
 use super::{refusal, Model, Slip};
-use crate::subject::{Answer, Subject};
+use crate::subject::{Answer, Subject, TextRefusal};
 use mungaite::{Decision, Nearest, Query, Refusal, Run, Section};
 use std::ops::Range;
 
@@ -74,6 +74,14 @@ impl Subject for Model {
             }
         }
         output
+    }
+
+    fn build(&self, text: &[u8], buffer: &mut [u8]) -> Result<usize, TextRefusal> {
+        self.built(text, buffer)
+    }
+
+    fn compile(&self, text: &[u8]) -> Result<Vec<u8>, String> {
+        self.compiled(text)
     }
 }
 

@@ -1,4 +1,4 @@
-//! A model of document 01, with requests [1] and [2] of document 02, written without a look at the engine's code: sets
+//! A model of document 01, with requests [1] to [3] of document 02, written without a look at the engine's code: sets
 //! of numbers, plain structs, nothing made fast.
 //!
 //! - `bytes`: numbers in bytes; an image as three lists of records
@@ -10,8 +10,10 @@
 //! - `nearest`: how near a denied query came
 //! - `rows`: many queries at once
 //! - `adding`: one more record in a buffer
-//! - `calls`: the engine's calls and the program
-//! - `slip`: mistakes that the model can be told to make
+//! - `text`: a policy from a text
+//! - `form`: a row of a text, and its record
+//! - `calls`: the engine's calls and the programs
+//! - `slip`, `text_slip`: mistakes that the model can be told to make; `mistaken_text`: what some of them do
 
 mod adding;
 mod bytes;
@@ -19,13 +21,18 @@ mod calls;
 mod check;
 mod decide;
 mod fields;
+mod form;
+mod mistaken_text;
 mod nearest;
 mod policy;
 mod predicate;
 mod rows;
 mod slip;
+mod text;
+mod text_slip;
 
 pub use slip::Slip;
+pub use text_slip::TextSlip;
 
 use mungaite::Refusal;
 
@@ -33,19 +40,29 @@ use mungaite::Refusal;
 #[derive(Clone, Copy)]
 pub struct Model {
     slip: Option<Slip>,
+    text_slip: Option<TextSlip>,
 }
 
 impl Model {
     /// The documents as they are written.
-    pub const RIGHT: Model = Model { slip: None };
+    pub const RIGHT: Model = Model { slip: None, text_slip: None };
 
     /// The model that makes one mistake.
     pub fn with(slip: Slip) -> Model {
-        Model { slip: Some(slip) }
+        Model { slip: Some(slip), ..Model::RIGHT }
+    }
+
+    /// The model that makes one mistake in building a policy from a text.
+    pub fn with_text(slip: TextSlip) -> Model {
+        Model { text_slip: Some(slip), ..Model::RIGHT }
     }
 
     fn slips(self, slip: Slip) -> bool {
         self.slip == Some(slip)
+    }
+
+    fn slips_in_text(self, slip: TextSlip) -> bool {
+        self.text_slip == Some(slip)
     }
 }
 

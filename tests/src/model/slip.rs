@@ -17,40 +17,38 @@ impl Predicate {
 /// The mistakes, each with what the mistaken model does. One with a kind in brackets is a mistake for each of that
 /// kind.
 macro_rules! slips {
-    ($($name:ident $(($kind:ident))? => $says:literal,)*) => {
+    ($slip:ident $($name:ident $(($kind:ident))? => $says:literal,)*) => {
         /// One mistake.
         #[derive(Clone, Copy, Debug, PartialEq, Eq)]
-        pub enum Slip {
+        pub enum $slip {
             $(#[doc = $says] $name $(($kind))?,)*
         }
 
-        impl Slip {
-            pub fn all() -> Vec<Slip> {
-                let mut all = Vec::new();
-                $(slips!(@put all $name $($kind)?);)*
-                all
+        impl $slip {
+            pub fn all() -> Vec<$slip> {
+                [$(slips!(@each $slip $name $($kind)?),)*].concat()
+            }
+
+            /// The mistake's name, in letters only.
+            pub fn name(self) -> String {
+                format!("{self:?}").replace(['(', ')'], "")
             }
 
             /// What the mistaken model does.
             pub fn says(self) -> &'static str {
                 match self {
-                    $(Slip::$name { .. } => $says,)*
+                    $($slip::$name { .. } => $says,)*
                 }
             }
         }
     };
-    (@put $all:ident $name:ident) => { $all.push(Slip::$name) };
-    (@put $all:ident $name:ident $kind:ident) => { $all.extend($kind::ALL.map(Slip::$name)) };
+    (@each $slip:ident $name:ident) => { vec![$slip::$name] };
+    (@each $slip:ident $name:ident $kind:ident) => { $kind::ALL.map($slip::$name).to_vec() };
 }
 
-impl Slip {
-    /// The mistake's name, in letters only.
-    pub fn name(self) -> String {
-        format!("{self:?}").replace(['(', ')'], "")
-    }
-}
+pub(super) use slips;
 
-slips! {
+slips! { Slip
     // The five misreadings of document 01.
     LastRuleSkipped => "the last rule is skipped, since nothing follows it",
     FailureLiftsUncovered => "a failing constraint lifts an uncovered query to UnKnown",

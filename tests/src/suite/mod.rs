@@ -2,16 +2,21 @@
 
 mod limits;
 mod mutation;
+mod mutation_text;
 mod order;
 mod random;
 mod reached;
 mod reached_steps;
+mod reached_text;
 mod round_trip;
 mod rows;
 mod steps;
 mod streams;
+mod streams_compile;
 mod sweep;
 mod tally;
+mod text_rows;
+mod texts;
 mod watched;
 mod worked;
 
@@ -24,18 +29,19 @@ fn differential() -> Vec<Cases> {
 
 /// The tests of any engine.
 fn of_any() -> Vec<Cases> {
-    [worked::TESTS, &differential(), rows::TESTS, steps::TESTS, round_trip::TESTS, order::TESTS, sweep::PROGRAM]
-        .concat()
+    let on_images =
+        [&differential(), rows::TESTS, steps::TESTS, round_trip::TESTS, order::TESTS, sweep::PROGRAM].concat();
+    [worked::TESTS, worked::TEXTS, &on_images, texts::TESTS, text_rows::TESTS].concat()
 }
 
 pub fn all(run: &mut Run) {
-    for test in of_any().iter().chain(worked::OF_THE_LIBRARY).chain(streams::TESTS) {
+    for test in of_any().iter().chain(worked::OF_THE_LIBRARY).chain(streams::TESTS).chain(streams_compile::TESTS) {
         run.cases(test);
     }
     for test in &of_any() {
         run.cases_by_hand(test);
     }
-    for test in reached::tests().iter().chain(&mutation::tests()) {
+    for test in reached::tests().iter().chain(&mutation::tests()).chain(&mutation_text::tests()) {
         run.whole(test);
     }
 }

@@ -35,46 +35,45 @@ const PROPERTIES: [(Cases, Slip); 22] = [
 pub fn tests() -> Vec<Whole> {
     let worked_out = Slip::all().into_iter().map(|slip| Whole {
         name: format!("mutation/worked/{}", slip.name()),
-        run: Box::new(move |run| worked_out(run, slip)),
+        run: Box::new(move |run| worked_out(run, worked::TESTS, Model::with(slip), slip.says())),
     });
     let compared = Slip::all().into_iter().map(|slip| Whole {
         name: format!("mutation/generated/{}", slip.name()),
-        run: Box::new(move |run| compared(run, slip)),
+        run: Box::new(move |run| noticed(run, &differential(), &run.pair(Model::with(slip)), slip.says())),
     });
     let alone = PROPERTIES.into_iter().map(|(test, slip)| Whole {
         name: format!("mutation/{}/{}", test.name, slip.name()),
-        run: Box::new(move |run| {
-            noticed(run, &[test], &Pair { engine: &Model::with(slip), model: Model::RIGHT }, slip)
-        }),
+        run: Box::new(move |run| alone(run, test, Model::with(slip), slip.says())),
     });
     worked_out.chain(compared).chain(alone).collect()
 }
 
 /// The worked tables, with the mistaken model in the engine's place.
-fn worked_out(run: &Run, slip: Slip) -> Finding {
-    let pair = Pair { engine: &Model::with(slip), model: Model::RIGHT };
-    for test in worked::TESTS {
+pub fn worked_out(run: &Run, tables: &[Cases], mistaken: Model, says: &str) -> Finding {
+    let pair = Pair { engine: &mistaken, model: Model::RIGHT };
+    for test in tables {
         for case in run.quick_seeds(test) {
             match run_case(test, &pair, case) {
                 Ok(()) => {}
                 Err(what) if what.starts_with(PANIC) => return Err(what),
-                Err(_) => return Ok(format!("{}: noticed by {}, row {}", slip.says(), test.name, case)),
+                Err(_) => return Ok(format!("{says}: noticed by {}, row {case}", test.name)),
             }
         }
     }
-    Err(format!("no worked row notices: {}", slip.says()))
+    Err(format!("no worked row notices: {says}"))
 }
 
-/// The engine against the mistaken model.
-fn compared(run: &Run, slip: Slip) -> Finding {
-    noticed(run, &differential(), &run.pair(Model::with(slip)), slip)
+/// A test of the engine's answers alone, with the mistaken model in the engine's place.
+pub fn alone(run: &Run, test: Cases, mistaken: Model, says: &str) -> Finding {
+    noticed(run, &[test], &Pair { engine: &mistaken, model: Model::RIGHT }, says)
 }
 
 /// Into how many parts a test's cases are split.
 const PARTS: usize = 100;
 
-/// Runs the tests, a part of each in turn, until a case fails.
-fn noticed(run: &Run, tests: &[Cases], pair: &Pair, slip: Slip) -> Finding {
+/// Runs the tests, a part of each in turn, until a case fails: the engine against a mistaken model, or a mistaken model
+/// in the engine's place.
+pub fn noticed(run: &Run, tests: &[Cases], pair: &Pair, says: &str) -> Finding {
     let seeds: Vec<Vec<u64>> = tests.iter().map(|test| run.quick_seeds(test).collect()).collect();
     for part in 0..PARTS {
         for (test, seeds) in tests.iter().zip(&seeds) {
@@ -83,10 +82,10 @@ fn noticed(run: &Run, tests: &[Cases], pair: &Pair, slip: Slip) -> Finding {
                 match run_case(test, pair, seed) {
                     Ok(()) => {}
                     Err(what) if what.starts_with(PANIC) => return Err(what),
-                    Err(_) => return Ok(format!("{}: noticed by {}, case {}", slip.says(), test.name, case + 1)),
+                    Err(_) => return Ok(format!("{says}: noticed by {}, case {}", test.name, case + 1)),
                 }
             }
         }
     }
-    Err(format!("not noticed: {}", slip.says()))
+    Err(format!("not noticed: {says}"))
 }

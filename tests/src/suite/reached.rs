@@ -2,8 +2,8 @@
 
 use super::order::{decisions, PAIRS};
 use super::random::{ADD, CHECK, DECIDE, RECORD, RUN};
-use super::reached_steps;
 use super::tally::Tally;
+use super::{reached_steps, reached_text};
 use crate::compare::unanswered;
 use crate::generate::{add_case, check_case, decide_case, pair_case, record_case, run_case};
 use crate::model::Model;
@@ -22,6 +22,9 @@ pub fn tests() -> Vec<Whole> {
         test("reached/run-steps", reached_steps::rows),
         test("reached/predicates", predicates),
         test("reached/order", order),
+        test("reached/build", reached_text::places),
+        test("reached/build-kinds", reached_text::kinds),
+        test("reached/build-ends", reached_text::ends),
     ]
 }
 

@@ -1,8 +1,14 @@
 //! Document 01's worked cases with its answers, and further rows whose answers were worked out by hand from its clauses
-//! and from requests [1] and [2]. Both engines and the model must give them.
+//! and from requests [1] to [3]. Both engines and the model must give them.
 
 mod add;
+mod build;
+mod build_buffers;
+mod build_numbers;
+mod build_refused;
+mod build_words;
 mod check;
+mod compile;
 mod constraints;
 mod decide;
 mod decide_numbers;
@@ -51,6 +57,30 @@ pub const TESTS: &[Cases] = &[
     Cases { name: "worked/permit-many", count: Count::Listed(1), run: permit::many },
 ];
 
+/// Texts, and what they build.
+pub const TEXTS: &[Cases] = &[
+    Cases { name: "worked/build", count: Count::Listed(build::ROWS.len() as u64), run: build::run },
+    Cases { name: "worked/build-sample", count: Count::Listed(2), run: build::sample },
+    Cases {
+        name: "worked/build-refused",
+        count: Count::Listed(build_refused::ROWS.len() as u64),
+        run: build_refused::run,
+    },
+    Cases {
+        name: "worked/build-words",
+        count: Count::Listed(build_words::ROWS.len() as u64),
+        run: build_refused::words,
+    },
+    Cases { name: "worked/build-members", count: Count::Listed(1), run: build_refused::members },
+    Cases {
+        name: "worked/build-buffers",
+        count: Count::Listed(build_buffers::ROWS.len() as u64),
+        run: build_buffers::run,
+    },
+    Cases { name: "worked/build-under-9", count: Count::Listed(9), run: build_buffers::under_9 },
+    Cases { name: "worked/compile", count: Count::Listed(compile::ROWS.len() as u64), run: compile::run },
+];
+
 /// Rows that only the library can be asked.
 pub const OF_THE_LIBRARY: &[Cases] = &[
     Cases { name: "worked/record-sections", count: Count::Listed(6), run: record::no_section },
@@ -62,6 +92,11 @@ pub const OF_THE_LIBRARY: &[Cases] = &[
     Cases { name: "worked/run-counts", count: Count::Listed(run_numbers::ROWS.len() as u64), run: run_numbers::counts },
     Cases { name: "worked/run-every-count", count: Count::Listed(4 * 67), run: run_numbers::every_count },
     Cases { name: "worked/run-kinds", count: Count::Listed(1), run: run_numbers::kinds },
+    Cases {
+        name: "worked/build-numbers",
+        count: Count::Listed(build_numbers::ROWS.len() as u64),
+        run: build_numbers::run,
+    },
 ];
 
 const fn no<T>(number: u16, place: u16) -> Result<T, Refusal> {
