@@ -1,8 +1,9 @@
-// The sample sheet of document 01, with request [2]'s steps, run through the C interface, and records given as parts of an
-// image, which C does not have: each line is a case and its answer. The file stdout beside src/ has what the document says.
+// The sample sheet of document 01, with request [2]'s steps and as request [3]'s text, run through the C interface, and records
+// given as parts of an image, which C does not have: each line is a case and its answer. The file stdout beside src/ has what the document says.
 mod batch; // batch.rt: runs of queries on the sample
 mod images; // images.rt: images that are longer than a line
 mod show; // show.rt: a case's line
+mod texts; // texts.rt: policies as text
 
 use batch::runs;
 use format::Section;
@@ -13,6 +14,7 @@ use samples::SAMPLE;
 use show::ask;
 use show::check;
 use show::give;
+use texts::texts;
 
 fn main() {
     queries();
@@ -24,6 +26,7 @@ fn main() {
     rules();
     records();
     runs();
+    texts();
 }
 
 fn queries() {

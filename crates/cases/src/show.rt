@@ -77,6 +77,21 @@ pub(crate) fn comes(label: &[u8], answer: u64) {
     io::write_all(STDOUT_FILENO, b"\n");
 }
 
+// What a text builds: the image's length, or the refusal; and whether the image is the one that is told.
+pub(crate) fn built(label: &[u8], answer: u64, same: bool) {
+    io::write_all(STDOUT_FILENO, label);
+    io::write_all(STDOUT_FILENO, b":");
+    if answer >> 48 != 0 {
+        number(b" R", answer >> 48);
+    }
+    number(b"", answer);
+    if same {
+        io::write_all(STDOUT_FILENO, b", same bytes\n");
+    } else {
+        io::write_all(STDOUT_FILENO, b", other bytes\n");
+    }
+}
+
 // What a run's slot holds.
 pub(crate) fn slot(answer: u64) {
     line(b"- slot", answer);

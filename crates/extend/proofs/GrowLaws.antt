@@ -14,6 +14,7 @@ use Rattle.format.specs.Format.{countPlace}
 use Rattle.format.specs.Policy.{Policy, imageOf, policyOf, startOf}
 use Rattle.format.specs.Check.{imageIn, checkFront}
 use Rattle.format.specs.Answers.{starts}
+use Rattle.format.proofs.ByCase.{count-place-groups, count-place-rules, count-place-constraints}
 use Rattle.format.proofs.Chain.{orElse-split, orElse-next}
 use Rattle.format.proofs.Front.{front-accepted, front-bytes}
 use Rattle.format.proofs.Images.{Sound, policy-sound, image-of-policy, start-rules, start-constraints}
@@ -43,15 +44,18 @@ places a b = record { rules = a; constraints = b }
 starts-with :
     (s : Section) (p : Policy) (r : List ℕ) → Sound p → Sound (withRecord s p r)
     → movedStarts (starts (imageOf p)) (countPlace s) (length r) ≡ starts (imageOf (withRecord s p r))
-unfolding movedStarts countPlace withRecord
+unfolding movedStarts withRecord
 starts-with Groups p r w v =
     let n = flatten-more (p .groups) r in
-    ap₂ places (omega (arith, start-rules p w, start-rules _ v, n)) (omega (arith, start-constraints p w, start-constraints _ v, n))
+    rw count-place-groups
+    (ap₂ places (omega (arith, start-rules p w, start-rules _ v, n)) (omega (arith, start-constraints p w, start-constraints _ v, n)))
 starts-with Rules p r w v =
     let n = flatten-more (p .rules) r in
-    ap₂ places (omega (arith, start-rules p w, start-rules _ v)) (omega (arith, start-constraints p w, start-constraints _ v, n))
+    rw count-place-rules
+    (ap₂ places (omega (arith, start-rules p w, start-rules _ v)) (omega (arith, start-constraints p w, start-constraints _ v, n)))
 starts-with Constraints p r w v =
-    ap₂ places (omega (arith, start-rules p w, start-rules _ v)) (omega (arith, start-constraints p w, start-constraints _ v))
+    rw count-place-constraints
+    (ap₂ places (omega (arith, start-rules p w, start-rules _ v)) (omega (arith, start-constraints p w, start-constraints _ v)))
 
 pub starts-moved :
     (b r : List ℕ) → Bytes b → Bytes r → addFault b r ≡ none

@@ -15,6 +15,7 @@ use lib.Seq.{take-suc-set, length-take-le, drop-append-le, drop-drop, drop-cons,
 use lib.Dec.{leb, ltb, eqb}
 use borrow.Author.Tests.{lt-ltb, le-ltb, ltb-true, ltb-false}
 use Rattle.format.specs.Bytes.{putWord}
+use Rattle.format.proofs.Bytes.{put-word}
 use Rattle.text.specs.declared.Field.{Field}
 use Rattle.text.specs.declared.Field.the-variants.{Member, AnyType, Number, Predicate, Condition}
 use Rattle.text.specs.Words.{ascii, split, same, named}
@@ -39,10 +40,10 @@ bytes-short Predicate n e = refl
 bytes-short Condition n e = refl
 
 bytes-long : (f : Field) (n : ℕ) → isShort f ≡ false → fieldBytes f n ≡ (n / 256) ∷ (n % 256) ∷ []
-unfolding isShort fieldBytes putWord
-bytes-long Member n e = refl
-bytes-long AnyType n e = refl
-bytes-long Number n e = refl
+unfolding isShort fieldBytes
+bytes-long Member n e = put-word n []
+bytes-long AnyType n e = put-word n []
+bytes-long Number n e = put-word n []
 bytes-long Predicate n e = absurd (let z : _≡_ {A = ℕ} 0 1 = cc in omega arith)
 bytes-long Condition n e = absurd (let z : _≡_ {A = ℕ} 0 1 = cc in omega arith)
 
@@ -70,10 +71,10 @@ module _ (l : List ℕ) (at : ℕ) (f : Field) (n : ℕ) where
       rw (bytes-long f n e, high, ← j) (q, omega arith)
 
 pub bytes-few : (f : Field) (n : ℕ) → length (fieldBytes f n) ≤ 2
-unfolding fieldBytes putWord
-bytes-few Member n = omega arith
-bytes-few AnyType n = omega arith
-bytes-few Number n = omega arith
+unfolding fieldBytes
+bytes-few Member n = omega (arith, ap length (put-word n []))
+bytes-few AnyType n = omega (arith, ap length (put-word n []))
+bytes-few Number n = omega (arith, ap length (put-word n []))
 bytes-few Predicate n = omega arith
 bytes-few Condition n = omega arith
 

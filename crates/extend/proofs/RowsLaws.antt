@@ -17,15 +17,12 @@ use Rattle.format.specs.declared.Starts.{Starts}
 use Rattle.format.specs.declared.Sections.{Sections}
 use Rattle.format.specs.declared.Sections.the-variants.{At, Refused}
 use Rattle.format.specs.Refusals.{refusal}
-use Rattle.format.specs.Bytes.{wordAt}
-use Rattle.format.specs.Format.{countPlace, countOf}
-use Rattle.format.specs.Policy.{startOf, placeAfter}
 use Rattle.format.specs.Sample.{empty}
 use Rattle.format.specs.Check.{imageIn, checkFront}
 use Rattle.format.specs.Answers.{refused, starts, sectionsOutcome}
 use Rattle.format.proofs.Chain.{outcome-gives, outcome-refused}
 use Rattle.format.proofs.Front.{front-of, image-in-of}
-use Rattle.format.proofs.Sample.{sample-accepted}
+use Rattle.format.proofs.Sample.{sample-accepted, empty-sections}
 use Rattle.extension.specs.Add.{addFault, bufferAfter, overwrite}
 use Rattle.text.specs.Words.{splitStep, split}
 use Rattle.text.specs.Rows.{recordOfRow}
@@ -144,10 +141,6 @@ pub empty-accepted : (b : List ℕ) {b₀ : List ℕ} → b₀ ≡ overwrite emp
 unfolding overwrite
 empty-accepted b e = rw e (front-of empty (drop (length empty) b) (sample-accepted .empty-passes))
 
-nine : starts empty ≡ record { rules = 9; constraints = 9 }
-unfolding startOf placeAfter countOf countPlace wordAt empty
-nine = refl
-
 pub empty-starts : (b : List ℕ) {b₀ : List ℕ} → b₀ ≡ overwrite empty b → _≡_ {A = Starts} (record { rules = 9; constraints = 9 }) (starts (imageIn b₀))
 unfolding overwrite
-empty-starts b e = rw (e, image-in-of empty (drop (length empty) b) (sample-accepted .empty-passes)) (sym nine)
+empty-starts b e = rw (e, image-in-of empty (drop (length empty) b) (sample-accepted .empty-passes)) (sym empty-sections)

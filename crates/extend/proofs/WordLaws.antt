@@ -16,9 +16,9 @@ use lib.Seq.{drop-cons, length-take-le, getD-take, getD-drop}
 use lib.Dec.{leb, eqb}
 use borrow.Author.Tests.{le-leb, lt-leb, leb-true, eq-eqb, ne-eqb}
 use Rattle.format.specs.Refusals.{_orElse_}
-use Rattle.format.proofs.Chain.{some-not-none}
+use Rattle.format.proofs.Chain.{some-not-none, orElse-none, orElse-next, orElse-first, orElse-nothing}
 use Rattle.text.specs.declared.Field.the-variants.{AnyType, Condition}
-use Rattle.text.specs.Words.{ascii, same, isDigit, digitsFrom, decimal, upTo, numberTo, named, above, lettered}
+use Rattle.text.specs.Words.{ascii, same, isDigit, digitsFrom, numberOf, upTo, numberTo, named, above, lettered}
 use Rattle.text.specs.Rows.{valueOf}
 use Rattle.text.specs.Inner.Read.{wordSize, wordOf}
 use Rattle.text.proofs.Read.{word-most, word-none, word-space, word-feed, word-next, word-byte, word-empty}
@@ -159,32 +159,32 @@ says-same w s e = rw e s
 
 -- ---- decimal numbers
 
-decimal-empty : (w : List ℕ) → length w ≡ 0 → decimal w ≡ none
-unfolding decimal
+decimal-empty : (w : List ℕ) → length w ≡ 0 → numberOf w ≡ none
+unfolding numberOf
 decimal-empty [] e = refl
 decimal-empty (c ∷ w) e = absurd (omega arith)
 
-decimal-one : (w : List ℕ) → length w ≡ 1 → decimal w ≡ digitsFrom 0 w
-unfolding decimal
+decimal-one : (w : List ℕ) → length w ≡ 1 → numberOf w ≡ digitsFrom 0 w
+unfolding numberOf
 decimal-one [] e = absurd (omega arith)
 decimal-one (c ∷ []) e = refl
 decimal-one (c ∷ d ∷ w) e = absurd (omega arith)
 
-decimal-zero : (w : List ℕ) → 1 < length w → getD w 0 0 ≡ 48 → decimal w ≡ none
-unfolding decimal
+decimal-zero : (w : List ℕ) → 1 < length w → getD w 0 0 ≡ 48 → numberOf w ≡ none
+unfolding numberOf
 decimal-zero [] h e = absurd (omega arith)
 decimal-zero (c ∷ []) h e = absurd (omega arith)
 decimal-zero (c ∷ d ∷ w) h e = rw (eq-eqb c 48 e)
 
-decimal-more : (w : List ℕ) → 1 < length w → (getD w 0 0 ≡ 48 → ⊥) → decimal w ≡ digitsFrom 0 w
-unfolding decimal
+decimal-more : (w : List ℕ) → 1 < length w → (getD w 0 0 ≡ 48 → ⊥) → numberOf w ≡ digitsFrom 0 w
+unfolding numberOf
 decimal-more [] h e = absurd (omega arith)
 decimal-more (c ∷ []) h e = absurd (omega arith)
 decimal-more (c ∷ d ∷ w) h e = rw (ne-eqb c 48 e)
 
 -- no number in range by the digits is none without leading zeros
 decimal-over : (most : ℕ) (w : List ℕ) → upTo most (digitsFrom 0 w) ≡ none → numberTo most w ≡ none
-unfolding numberTo decimal upTo
+unfolding numberTo numberOf upTo
 decimal-over most [] e = refl
 decimal-over most (c ∷ []) e = e
 decimal-over most (c ∷ d ∷ w) e = step (eqb c 48) where
@@ -255,25 +255,20 @@ upto-most most n (some m) e = step (leb m most) refl e where
 module _ (text : List ℕ) (from base most : ℕ) (x : List ℕ) (small : base + most < 65536) (w : Word) (s : Says (numberTo most x) text from w) where
   pub above-outside : w .number ≡ 65536 → Says (above base (numberTo most x)) text from w
   unfolding numberTo above
-  above-outside e = says-nothing w s e (rw (said-none (decimal x) most (omega arith) (sym (s .number) ∙ e)))
+  above-outside e = says-nothing w s e (rw (said-none (numberOf x) most (omega arith) (sym (s .number) ∙ e)))
 
   pub above-number : (w .number ≡ 65536 → ⊥) → Says (above base (numberTo most x)) text from (record { number = base + w .number; end = w .end })
   unfolding numberTo above
   above-number e =
       let few : w .number < 65536 = omega (arith, s .few) in
-      let o : upTo most (decimal x) ≡ some (w .number) = said-some (upTo most (decimal x)) (w .number) (s .number) few in
-      says-number text from (w .end) (base + w .number) (rw o) (omega (arith, upto-most most (w .number) (decimal x) o)) (s .end few)
+      let o : upTo most (numberOf x) ≡ some (w .number) = said-some (upTo most (numberOf x)) (w .number) (s .number) few in
+      says-number text from (w .end) (base + w .number) (rw o) (omega (arith, upto-most most (w .number) (numberOf x) o)) (s .end few)
 
 -- ---- types
 
-or-none : (o : Option ℕ) → (o orElse none) ≡ o
-unfolding _orElse_
-or-none none = refl
-or-none (some n) = refl
-
 -- `g` is no digit
 letter-none : (most : ℕ) (w : List ℕ) → numberTo most (103 ∷ w) ≡ none
-unfolding numberTo decimal digitsFrom isDigit upTo
+unfolding numberTo numberOf digitsFrom isDigit upTo
 letter-none most [] = refl
 letter-none most (d ∷ w) = refl
 
@@ -292,14 +287,14 @@ first-byte (c ∷ l) e = step (eqb c 32 || eqb c 10) e where
 
 module _ (text : List ℕ) (from : ℕ) where
   pub type-empty : length text ≤ from → Says (valueOf AnyType (wordOf (drop from text))) text from (record { number = 65536; end = from })
-  unfolding valueOf numberTo decimal upTo lettered _orElse_
-  type-empty h = says-outside text from from (rw (word-empty (drop from text) (word-none text from h)))
+  unfolding valueOf numberTo numberOf upTo lettered
+  type-empty h = says-outside text from from (rw (word-empty (drop from text) (word-none text from h)) (orElse-none refl refl))
 
   module _ (h : from < length text) where
     pub type-group :
         (w : Word) → getD text from 0 ≡ 103 → Says (above 32768 (numberTo 32767 (wordOf (drop (from + 1) text)))) text (from + 1) w
         → Says (valueOf AnyType (wordOf (drop from text))) text from w
-    unfolding valueOf lettered _orElse_
+    unfolding valueOf lettered
     type-group w e s =
         let q : suc from ≡ from + 1 = omega arith in
         let no-space : getD text from 0 ≡ 32 → ⊥ = λ x. absurd (omega arith) in
@@ -309,7 +304,7 @@ module _ (text : List ℕ) (from : ℕ) where
         let n : wordSize (drop from text) ≡ suc (wordSize (drop (from + 1) text)) =
         word-next text from h no-space no-feed ∙ rw q in
         let o : valueOf AnyType (wordOf (drop from text)) ≡ above 32768 (numberTo 32767 (wordOf (drop (from + 1) text))) =
-        rw (b, letter-none 32767 (wordOf (drop (from + 1) text))) in
+        rw b (orElse-next _ (letter-none 32767 (wordOf (drop (from + 1) text)))) in
         record { number = rw o (s .number); few = s .few; end = λ k. s .end k ∙ omega (arith, n) }
 
     pub type-basic :
@@ -319,7 +314,7 @@ module _ (text : List ℕ) (from : ℕ) where
     type-basic w e s =
         let first : getD (wordOf (drop from text)) 0 0 ≡ 103 → ⊥ =
         λ x. e (ap (λ (k : ℕ). getD text k 0) (omega arith) ∙ sym (getD-drop from text 0 0) ∙ first-byte (drop from text) x) in
-        says-same w s (rw (letter-other (wordOf (drop from text)) first) (or-none (numberTo 32767 (wordOf (drop from text)))))
+        says-same w s (rw (letter-other (wordOf (drop from text)) first) (orElse-nothing (numberTo 32767 (wordOf (drop from text)))))
 
 -- ---- conditions
 
@@ -331,18 +326,18 @@ module _ (text : List ℕ) (from end : ℕ) (e : end ≡ from + wordSize (drop f
   pub says-off :
       same (take (end - from) (drop from text)) (ascii "off") ≡ true
       → Says (valueOf Condition (wordOf (drop from text))) text from (record { number = 0; end = end })
-  unfolding valueOf named _orElse_
-  says-off h = says-number text from end 0 (rw (rw word-is at h)) (omega arith) e
+  unfolding valueOf named
+  says-off h = says-number text from end 0 (orElse-first _ (rw (rw word-is at h))) (omega arith) e
 
   module _ (f : same (take (end - from) (drop from text)) (ascii "off") ≡ false) where
     pub says-on :
         same (take (end - from) (drop from text)) (ascii "on") ≡ true
         → Says (valueOf Condition (wordOf (drop from text))) text from (record { number = 1; end = end })
-    unfolding valueOf named _orElse_
-    says-on h = says-number text from end 1 (rw (rw word-is at f, rw word-is at h)) (omega arith) e
+    unfolding valueOf named
+    says-on h = says-number text from end 1 (orElse-next _ (rw (rw word-is at f)) ∙ rw (rw word-is at h)) (omega arith) e
 
     pub says-neither :
         same (take (end - from) (drop from text)) (ascii "on") ≡ false
         → Says (valueOf Condition (wordOf (drop from text))) text from (record { number = 65536; end = end })
-    unfolding valueOf named _orElse_
-    says-neither h = says-outside text from end (rw (rw word-is at f, rw word-is at h))
+    unfolding valueOf named
+    says-neither h = says-outside text from end (orElse-none (rw (rw word-is at f)) (rw (rw word-is at h)))

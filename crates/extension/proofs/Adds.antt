@@ -50,7 +50,7 @@ section-of Rules k h =
     simp (ne-eqb k 1 (omega (arith, b .0)), ne-eqb k 4 (omega (arith, b .1)))
 section-of Constraints k h = let e = constraints-kind k h in simp (ne-eqb k 1 (omega arith), eq-eqb k 4 e)
 
-kind-of : (r : List ℕ) → shapeOk r ≡ true → kindIn (sectionOf (getD r 1 0)) (getD r 1 0) ≡ true
+pub kind-of : (r : List ℕ) → shapeOk r ≡ true → kindIn (sectionOf (getD r 1 0)) (getD r 1 0) ≡ true
 kind-of r e =
     let k : ℕ = getD r 1 0 in
     length-cases k (length r) (shape-kind r e)
@@ -67,7 +67,7 @@ pub record OwnPasses (b r : List ℕ) : Type 0 where
   pub few : countOf b (sectionOf (getD r 1 0)) < limitOf (sectionOf (getD r 1 0))
   pub room : wordAt b 1 + length r ≤ length b
 
-field-none : (f : Option ℕ) → fieldFault f ≡ none → f ≡ none
+pub field-none : (f : Option ℕ) → fieldFault f ≡ none → f ≡ none
 unfolding fieldFault
 field-none none e = refl
 field-none (some i) e = some-not-none e

@@ -1,3 +1,5 @@
 pub mod Splices
 pub mod Adds
+pub mod Causes
+pub mod Counts
 pub mod Trip

@@ -194,3 +194,11 @@ round-trip-exact l t b e n =
 pub overwrite-is : (new b : List ℕ) → overwrite new b ≡ new ++ drop (length new) b
 unfolding overwrite
 overwrite-is new b = refl
+
+pub add-all-none : (b : List ℕ) → addAll b [] ≡ b
+unfolding addAll
+add-all-none b = refl
+
+pub add-all-next : (b r : List ℕ) (rs : List (List ℕ)) → addAll b (r ∷ rs) ≡ addAll (bufferAfter b r) rs
+unfolding addAll
+add-all-next b r rs = refl

@@ -49,6 +49,10 @@ unfolding flatten
 bytes-flatten [] h = bytes-nil
 bytes-flatten (r ∷ rs) h = bytes-append r (flatten rs) (h r (List·Memᴰ·head refl)) (bytes-flatten rs (λ z m. h z (List·Memᴰ·tail m)))
 
+pub put-word : (n : ℕ) (l : List ℕ) → putWord n l ≡ n / 256 ∷ n % 256 ∷ l
+unfolding putWord
+put-word n l = refl
+
 pub bytes-word : (n : ℕ) (l : List ℕ) → n < 65536 → Bytes l → Bytes (putWord n l)
 unfolding putWord
 bytes-word n l h b = bytes-cons (n / 256) (n % 256 ∷ l) (omega arith) (bytes-cons (n % 256) l (omega arith) b)

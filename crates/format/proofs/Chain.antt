@@ -34,6 +34,11 @@ module _ {A : Type 0} where
   unfolding _orElse_
   orElse-first b h = rw h
 
+  pub orElse-nothing : (a : Option A) → a orElse none ≡ a
+  unfolding _orElse_
+  orElse-nothing none = refl
+  orElse-nothing (some x) = refl
+
   pub need-true : (t : Bool) (x : A) → need t x ≡ none → t ≡ true
   unfolding need
   need-true true x e = refl

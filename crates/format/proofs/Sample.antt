@@ -5,6 +5,7 @@ use Rattle.format.specs.Refusals.{need, _orElse_}
 use Rattle.format.specs.Format.{knownVersion, limitOf, countPlace, countOf, kindIn, lengthOk, isType, isCondition, listOk, firstRecord, shapeOk, badMember, badType, badGroup, badAllow, badTransition, badConstraint, badField}
 use Rattle.format.specs.Policy.{placeAfter, startOf, placeOf, endOf}
 use Rattle.format.specs.Check.{readFields, readOf, readFault, sectionFault, countFault, headerFault, bodyFault, check, Accepted}
+use Rattle.format.specs.Answers.{starts}
 use Rattle.format.specs.Sample.{sample, empty, SampleAccepted}
 use Rattle.format.proofs.Bytes.{bytes-of}
 
@@ -22,3 +23,7 @@ empty-bytes = bytes-of empty refl
 
 pub sample-accepted : SampleAccepted
 sample-accepted = record { sample-bytes = sample-bytes; sample-passes = both-pass .0; empty-bytes = empty-bytes; empty-passes = both-pass .1 }
+
+pub empty-sections : starts empty ≡ record { rules = 9; constraints = 9 }
+unfolding startOf placeAfter countOf countPlace wordAt empty
+empty-sections = refl

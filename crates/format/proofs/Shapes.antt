@@ -9,13 +9,13 @@ use Prim.Native.Nat.{ℕ, _+_, _-_, _%_, _≤_, _<_}
 use mathlib.Core.Path.{_≡_, refl, sym, ap, _∙_}
 use mathlib.Core.Bool.{Bool, true, false, _&&_, cond}
 use mathlib.Core.Option.{Option, none, some}
-use mathlib.Core.List.{List}
+use mathlib.Core.List.{List, _∷_}
 use native.Mathlib.Omega.{arith}
 use native.Mathlib.Nat.{add-zero, add-assoc}
 use lib.ListN.{length, getD, take, drop, length-take, length-drop}
 use lib.Seq.{getD-take, getD-drop, take-length}
 use lib.Dec.{eqb, leb}
-use borrow.Author.Tests.{eqb-true, leb-true}
+use borrow.Author.Tests.{eqb-true, leb-true, eq-eqb, le-leb}
 use Rattle.format.specs.declared.Section.{Section}
 use Rattle.format.specs.declared.Read.{Read}
 use Rattle.format.specs.declared.Read.the-variants.{Whole, Malformed, BadField}
@@ -24,7 +24,7 @@ use Rattle.format.specs.Format.{kindIn, lengthOk, firstRecord, shapeOk, 
 use Rattle.format.specs.Policy.{recordAt}
 use Rattle.format.specs.Check.{readFields, readOf, readFault}
 use Rattle.format.specs.Inner.Places.{Stands}
-use Rattle.format.proofs.Tests.{both, choose, false-not-true}
+use Rattle.format.proofs.Tests.{both, choose, false-not-true, and-true}
 use Rattle.format.proofs.Chain.{some-not-none}
 
 pub record Formed (s : Section) (g : ℕ) (r : List ℕ) : Type 0 where
@@ -155,3 +155,29 @@ pub read-malformed :
     (s : Section) (g : ℕ) (part : List ℕ) → readOf s g part ≡ Malformed → shapeOk (firstRecord part) ≡ true → kindIn s (getD (firstRecord part) 1 0) ≡ true → ⊥
 unfolding readOf
 read-malformed s g part e h k = fields-formed (badField g (firstRecord part)) (length (firstRecord part)) (simp (h, k) at e)
+
+-- ---- records that have their shape
+
+-- of a length byte, a kind and fields
+pub shape-of : (k : ℕ) (l : List ℕ) → lengthOk k (2 + length l) ≡ true → shapeOk ((2 + length l) ∷ k ∷ l) ≡ true
+unfolding shapeOk
+shape-of k l h =
+    let n : length ((2 + length l) ∷ k ∷ l) ≡ 2 + length l = omega arith in
+    and-true (eq-eqb (length ((2 + length l) ∷ k ∷ l)) (2 + length l) n) (ap (lengthOk k) n ∙ h)
+
+-- the length of a record, by its kind
+pub long-group : (n : ℕ) → 4 ≤ n → n ≤ 130 → n % 2 ≡ 0 → lengthOk 1 n ≡ true
+unfolding lengthOk
+long-group n a b c = and-true (and-true (le-leb 4 n a) (le-leb n 130 b)) (eq-eqb (n % 2) 0 c)
+
+pub long-allow : (n : ℕ) → n ≡ 11 → lengthOk 2 n ≡ true
+unfolding lengthOk
+long-allow n a = eq-eqb n 11 a
+
+pub long-transition : (n : ℕ) → n ≡ 8 → lengthOk 3 n ≡ true
+unfolding lengthOk
+long-transition n a = eq-eqb n 8 a
+
+pub long-constraint : (n : ℕ) → 11 ≤ n → n ≤ 43 → n % 2 ≡ 1 → lengthOk 4 n ≡ true
+unfolding lengthOk
+long-constraint n a b c = and-true (and-true (le-leb 11 n a) (le-leb n 43 b)) (eq-eqb (n % 2) 1 c)

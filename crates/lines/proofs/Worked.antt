@@ -1,17 +1,23 @@
--- The worked lines and outputs, by computation: claims WorkedLines and WorkedRuns. Assumes nothing.
+-- The worked lines and outputs, by computation: claims WorkedLines, WorkedRuns and WorkedCompiled. Assumes nothing.
 use mathlib.Core.Path.{refl}
-use Rattle.format.specs.Bytes.{wordAt, words}
-use Rattle.format.specs.Refusals.{need, _orElse_}
+use mathlib.Core.List.{flatten}
+use Rattle.format.specs.Bytes.{wordAt, words, putWord}
+use Rattle.format.specs.Refusals.{need, _orElse_, unlessRefused}
 use Rattle.format.specs.Format.{knownVersion, limitOf, countPlace, countOf, kindIn, lengthOk, isType, isCondition, listOk, firstRecord, shapeOk, badMember, badType, badGroup, badAllow, badTransition, badConstraint, badField}
-use Rattle.format.specs.Policy.{recordAt, placeAfter, recordsAt, startOf, placeOf, endOf, policyOf}
+use Rattle.format.specs.Policy.{bodyOf, imageOf, recordAt, placeAfter, recordsAt, startOf, placeOf, endOf, policyOf}
 use Rattle.format.specs.Check.{readFields, readOf, readFault, sectionFault, countFault, headerFault, bodyFault, check, imageIn, checkFront}
 use Rattle.format.specs.Sample.{sample, empty}
+use Rattle.extension.specs.Add.{sectionOf, withRecord, fieldFault, newNumber, ownFault, addFault, newImage, overwrite, bufferAfter}
+use Rattle.text.specs.Words.{ascii, splitStep, split, same, isDigit, digitsFrom, numberOf, upTo, numberTo, named, above, lettered}
+use Rattle.text.specs.Rows.{valueOf, fieldBytes, group, allow, transition, constraint, forms, asBytes, joined, fieldsOf, headed, recordBy, recordOfWords, recordOfRow}
+use Rattle.text.specs.Build.{movedTo, recordFault, afterRecord, rowFault, afterRow, onward, rowsFrom, built}
 use Rattle.decision.specs.Sets.{anyOf, allOf, isIn, setOf, unionOf, within, touches, sameSet}
 use Rattle.decision.specs.Reading.{asks, live, ruleOf, constraintOf, requestOf, rulesOf, constraintsOf}
 use Rattle.decision.specs.Decide.{tests, covers, passes, steps, nearestOf, greatest, nearestBy, nearest, reaches, separationBroken, rosterBroken, companionBroken, broken, applies, inside, fails, firstAt, decisionOf, judge, decide, queryFault, answerFault, answer}
 use Rattle.lines.specs.Lines.{widthFrom, width, linesFrom, lines}
 use Rattle.lines.specs.Output.{ending, printed}
-use Rattle.lines.specs.Worked.{ascii, workedLines, lineOf, lineSaid, WorkedLines, asked, workedRuns, runOf, runSaid, WorkedRuns}
+use Rattle.lines.specs.Compiled as compile
+use Rattle.lines.specs.Worked.{workedLines, lineOf, lineSaid, WorkedLines, asked, workedRuns, runOf, runSaid, WorkedRuns, workedCompiled, textGives, textWritten, WorkedCompiled}
 
 pub worked-lines : WorkedLines
 unfolding widthFrom width ascii workedLines lineOf lineSaid
@@ -29,3 +35,17 @@ unfolding
     widthFrom width linesFrom lines ending printed
     ascii asked workedRuns runOf runSaid
 worked-runs = refl
+
+pub worked-compiled : WorkedCompiled
+unfolding
+    flatten wordAt words putWord need _orElse_ unlessRefused
+    knownVersion limitOf countPlace countOf kindIn lengthOk isType isCondition listOk firstRecord shapeOk badMember badType badGroup badAllow badTransition badConstraint badField
+    bodyOf imageOf recordAt placeAfter recordsAt startOf placeOf endOf policyOf
+    readFields readOf readFault sectionFault countFault headerFault bodyFault check imageIn checkFront
+    sample empty sectionOf withRecord fieldFault newNumber ownFault addFault newImage overwrite bufferAfter
+    ascii splitStep split same isDigit digitsFrom numberOf upTo numberTo named above lettered
+    valueOf fieldBytes group allow transition constraint forms asBytes joined fieldsOf headed recordBy recordOfWords recordOfRow
+    movedTo recordFault afterRecord rowFault afterRow onward rowsFrom built
+    widthFrom width compile.feeds compile.rowFault compile.written compile.front compile.compiled
+    workedCompiled textGives textWritten
+worked-compiled = refl

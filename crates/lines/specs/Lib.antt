@@ -1,4 +1,5 @@
 pub mod Lines
 pub mod Output
+pub mod Compiled
 pub mod Claims
 pub mod Worked

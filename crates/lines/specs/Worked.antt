@@ -1,10 +1,9 @@
--- Lines and whole outputs, written out from document 01 and from request [2].
---     ascii s        the bytes of a text
+-- Lines and whole outputs, written out from document 01 and from the requests [2] and [3].
 --     WorkedLines    the lines of some outcomes, a place of 5 digits among them
 --     WorkedRuns     the outputs of some inputs
+--     WorkedCompiled what is written for some texts, built in a buffer of 100 bytes
 use Prim.Native.Nat.{ℕ}
-use Prim.Native.Char.{code}
-use Prim.Native.String.{String, [] as none, _∷_ as _then_}
+use Prim.Native.String.{String}
 use mathlib.Core.Path.{_≡_}
 use mathlib.Core.List.{List, [], _∷_, _++_, map}
 use lib.ListN.{take, replicate}
@@ -13,12 +12,10 @@ use Rattle.format.specs.Answers.{Outcome, refused, gives}
 use Rattle.format.specs.Sample.{sample, empty}
 use Rattle.decision.specs.declared.Nearest.the-variants.{NoRules, Near}
 use Rattle.decision.specs.Decide.{Decision, notPermitted, permitted, unknown}
+use Rattle.text.specs.Words.{ascii}
 use Rattle.lines.specs.Lines.{line}
 use Rattle.lines.specs.Output.{printed}
-
-unfoldable pub ascii : String → List ℕ
-ascii none = []
-ascii (c then s) = code c ∷ ascii s
+use Rattle.lines.specs.Compiled.{Written, compiled}
 
 pub record WorkedLine : Type 0 where
   pub outcome : Outcome Decision
@@ -83,3 +80,33 @@ runSaid w = ascii (w .says)
 
 abbrev pub WorkedRuns : Type 0
 WorkedRuns = map runOf workedRuns ≡ map runSaid workedRuns
+
+pub record WorkedText : Type 0 where
+  pub text : String
+  pub output : List ℕ
+  pub errors : String
+
+unfoldable pub workedCompiled : List WorkedText
+workedCompiled =
+    record {
+      text =
+          "group 20 21\nallow 10 g0 5 1 on\nallow 20 30 5 2 on\ntrans 12 20 5\nallow 13 21 5 1 off\nlimit 5 1 10 21 2 10\nlimit 5 2 20 30 1";
+      output = sample;
+      errors = "";
+    }
+    ∷ record { text = ""; output = empty; errors = "" }
+    ∷ record { text = "\n\n"; output = empty; errors = "" }
+    ∷ record { text = "\n\nx"; output = []; errors = "R 18 2 3\n" }
+    ∷ record { text = "x\ny"; output = []; errors = "R 18 0 1\n" }
+    ∷ record { text = "trans 12 20 5\ngroup g0\n"; output = []; errors = "R 18 14 2\n" }
+    ∷ record { text = "\ntrans 1 g0 3"; output = []; errors = "R 11 1 2\n" }
+    ∷ []
+
+unfoldable pub textGives : WorkedText → Written
+textGives w = compiled (ascii (w .text)) (replicate 100 0)
+
+unfoldable pub textWritten : WorkedText → Written
+textWritten w = record { output = w .output; errors = ascii (w .errors) }
+
+abbrev pub WorkedCompiled : Type 0
+WorkedCompiled = map textGives workedCompiled ≡ map textWritten workedCompiled

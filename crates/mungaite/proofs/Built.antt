@@ -12,6 +12,7 @@ use Rattle.format.specs.Check.{imageIn}
 use Rattle.format.specs.Refusals.{refusal}
 use Rattle.format.specs.Answers.{Outcome, refused, gives}
 use Rattle.format.proofs.Front.{front-accepted}
+use Rattle.format.proofs.Accepted.{accepted-header}
 use Rattle.format.proofs.Images.{longest-image}
 use Rattle.text.specs.Build.{Made, built}
 use Rattle.text.proofs.Follow.{refused-short, refused-keeps}
@@ -39,7 +40,8 @@ build-whole text b h = size (ltb (length b) 9) refl where
   long k (gives n) e =
       let a = built-accepted text b k .accepted in
       let m : length (imageIn (built text b .buffer)) ≤ 55561 = longest-image _ (front-accepted (built text b .buffer) a) in
-      omega (arith, each-row-added text b n e .image-length, m)
+      let l = accepted-header (imageIn (built text b .buffer)) (front-accepted (built text b .buffer) a) .long in
+      (omega (arith, each-row-added text b n e .image-length, l), omega (arith, each-row-added text b n e .image-length, m))
   long k (refused f) e =
       let q = own-most (f .number) (own-numbers text b f e) in
       (q .0, q .1, omega (arith, refused-keeps text b f k e .inside))
@@ -53,8 +55,8 @@ build-whole text b h = size (ltb (length b) 9) refl where
 built-back : (o : Outcome ℕ) → BuiltFits o → hostBuilt (buildCode o) ≡ o
 unfolding hostBuilt buildCode
 built-back (gives n) h =
-    let a : n / placeSpan ≡ 0 = omega arith in
-    let b : n % placeSpan ≡ n = omega arith in
+    let a : n / placeSpan ≡ 0 = omega (arith, h .1) in
+    let b : n % placeSpan ≡ n = omega (arith, h .1) in
     rw (a, b)
 built-back (refused f) h =
     let a : (f .number * placeSpan + f .place % placeSpan) / placeSpan ≡ f .number = omega (arith, h .2) in

@@ -8,7 +8,7 @@
 --     RecordWhole         record n of any section of any image; and where there is no such section
 --     AddWhole            the refusal or the new record's number, of any buffer and any record
 --     RunWhole            what any run on any image comes to
---     BuiltFits o         the image's length is at most 55,561; a refusal's number is at most 18, and its place below 2^48
+--     BuiltFits o         the image's length is 9 to 55,561; a refusal's number is at most 18, and its place below 2^48
 --     BuildWhole          what any text below 2^48 bytes builds in any buffer
 -- So what a host reads from the number is the answer itself, of every image of bytes:
 --     CheckRead, RecordRead, AddRead   by each of the other functions
@@ -85,7 +85,7 @@ RunRead =
     ≡ answer l (queryOf (getD ns (4 * i) 0) (getD ns (4 * i + 1) 0) (getD ns (4 * i + 2) 0) (getD ns (4 * i + 3) 0)))
 
 abbrev pub BuiltFits : Outcome ℕ → Type 0
-BuiltFits (gives n) = n ≤ 55561
+BuiltFits (gives n) = (9 ≤ n) × (n ≤ 55561)
 BuiltFits (refused f) = (0 < f .number) × (f .number ≤ 18) × (f .place < placeSpan)
 
 abbrev pub BuildWhole : Type 0

@@ -4,7 +4,7 @@
 --                         which is 14 where there is no such section
 --     addCode b r         0, 1, 0, number of the new record, or the refusal
 -- What a text builds is a number of two parts, the highest 16 bits and the other 48:
---     buildCode o         0 and the length of the image, or the refusal's number and its place in the text
+--     buildCode o         0 and the length of the image, or the refusal's number and the low 48 bits of its place in the text
 use Prim.Native.Nat.{ℕ, _+_, _*_, _%_}
 use mathlib.Core.Bool.{cond}
 use mathlib.Core.Option.{Option, none, some}

@@ -1,11 +1,10 @@
--- Laws of the lines, and of what is put into a buffer. Assumes nothing.
-use Prim.Native.Nat.{ℕ, suc, _+_, _-_, _*_, _/_, _%_, _^_, _≤_, _<_}
-use native.Mathlib.Numerals.{add-one}
+-- Laws of the lines. Assumes nothing.
+use Prim.Native.Nat.{ℕ, suc, _+_, _-_, _*_, _/_, _%_, _≤_, _<_}
 use native.Mathlib.Omega.{arith}
 use mathlib.Core.Path.{_≡_, refl, sym, subst, ap, _∙_}
-use mathlib.Core.List.{List, [], _∷_, _++_, append-assoc, append-nil}
-use lib.ListN.{length, set, take, drop, length-append, length-drop}
-use lib.Seq.{take-suc-set, take-add, take-append-add, take-length, length-take-le, take-at, drop-at}
+use mathlib.Core.List.{List, _++_, append-assoc, append-nil}
+use lib.ListN.{length, take, drop, length-drop}
+use lib.Seq.{take-add, length-take-le, drop-at}
 use borrow.Author.Tests.{eq-eqb, ne-eqb}
 use Rattle.format.specs.Refusals.{refusal}
 use Rattle.format.specs.Check.{Accepted}
@@ -14,58 +13,12 @@ use Rattle.decision.specs.Decide.{Decision, answer}
 use Rattle.decision.specs.Numbers.{decisionCode, hostDecision}
 use Rattle.decision.specs.Rows.{queryAt}
 use Rattle.decision.proofs.Numbers.{accepted-read}
-use Rattle.io.specs.Digits.{digits, Fewest}
-use Rattle.lines.proofs.Numbers.{decimal-fewest, fewest-same, decimal-one}
-use Rattle.lines.specs.Lines.{width, decimal, line, linesFrom, lines}
+use Rattle.lines.specs.Lines.{line, linesFrom, lines}
 use Rattle.lines.specs.Output.{restOf, ending}
-use Rattle.permit.specs.Inner.Put.{Put, Front}
-
--- ---- what is put
-
-pub put-then : {l l' l'' : List ℕ} {at m to : ℕ} {s t : List ℕ} → Put l l' at m s → Put l' l'' m to t → Put l l'' at to (s ++ t)
-put-then {l} {l'} {l''} {at} {m} {to} {s} {t} p q =
-    record {
-      ends = omega (arith, p .ends, q .ends, length-append s t);
-      bytes = q .bytes ∙ ap (λ x. x ++ t) (p .bytes) ∙ append-assoc (take at l) s t;
-    }
-
-pub put-one : (l : List ℕ) (at b : ℕ) → at < length l → Put l (set l at b) at (at + 1) (b ∷ [])
-put-one l at b h = record { ends = refl; bytes = ap (λ k. take k (set l at b)) (add-one at) ∙ take-suc-set l at b h }
+use Rattle.streams.specs.Put.{Put, Front}
 
 pub put-said : {l l' : List ℕ} {at to : ℕ} {o o' : Outcome Decision} → o ≡ o' → Put l l' at to (line o') → Put l l' at to (line o)
 put-said {l} {l'} {at} {to} e p = subst (λ x. Put l l' at to (line x)) (sym e) p
-
--- the part of a buffer from a place on
-pub part-long : (l : List ℕ) (at : ℕ) → length (take (length l - at) (drop at l)) ≡ length l - at
-part-long l at = length-take-le (length l - at) (drop at l) (omega (arith, length-drop at l))
-
--- what was copied to the front of a buffer
-pub copied-front : (s rest l : List ℕ) (n : ℕ) → n ≡ length s → l ≡ take (length s) s ++ rest → take n l ≡ s
-copied-front s rest l n e is = ap (take n) (is ∙ ap (λ x. x ++ rest) (take-length s)) ∙ take-at s rest n (sym e)
-
--- and to the front of a part of it
-pub put-copied : (l s rest part post : List ℕ) (at n : ℕ) → at ≤ length l → n ≡ length s → part ≡ take (length s) s ++ rest → Put l (take at l ++ (part ++ post)) at (at + n) s
-put-copied l s rest part post at n h e is =
-    record {
-      ends = ap (λ k. at + k) e;
-      bytes = ap (λ k. take (k + n) (take at l ++ (part ++ post))) (sym (length-take-le at l h))
-          ∙ take-append-add (take at l) (part ++ post) n
-          ∙ ap (λ x. take at l ++ x) (copied-front s (rest ++ post) (part ++ post) n e (ap (λ x. x ++ post) is ∙ append-assoc (take (length s) s) rest post));
-    }
-
-pub put-digit : {l l' : List ℕ} {at to : ℕ} (n : ℕ) → n < 10 → Put l l' at to ((48 + n) ∷ []) → Put l l' at to (decimal n)
-put-digit {l} {l'} {at} {to} n h p = subst (λ x. Put l l' at to x) (sym (decimal-one n h)) p
-
--- a number, where its digits are the fewest
-pub put-decimal :
-    {l l' : List ℕ} {at to : ℕ} (s : List ℕ) (n k : ℕ) → n < 10 ^ 20 → Fewest 10 1 n k → s ≡ digits 10 k n → Put l l' at to s → Put l l' at to (decimal n)
-put-decimal {l} {l'} {at} {to} s n k h f e p =
-    let w : k ≡ width n = fewest-same n k (width n) f (decimal-fewest n h) in
-    subst (λ x. Put l l' at to x) (e ∙ ap (λ x. digits 10 x n) w) p
-
--- at the front
-pub put-front : {l l' : List ℕ} {n : ℕ} {s : List ℕ} → n ≤ length l' → Put l l' 0 n s → Front l' n s
-put-front h p = record { fits = h; bytes = p .bytes }
 
 -- the bytes past the last whole query
 pub rest-taken : (l : List ℕ) (have : ℕ) → have ≤ length l → restOf (take have l) ≡ take (have - (have - have % 8)) (drop (have - have % 8) l)

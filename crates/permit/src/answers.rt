@@ -8,7 +8,7 @@ ghost use Rattle.format.specs.Check.{Accepted};
 ghost use Rattle.format.specs.Answers.{refused};
 ghost use Rattle.lines.specs.Lines.{line, lines};
 ghost use Rattle.lines.specs.Output.{ending};
-ghost use Rattle.permit.specs.Inner.Put.{Front};
+ghost use Rattle.streams.specs.Put.{Front};
 
 // Puts the lines of the input's whole queries at the front of the output, one behind the other, and tells how many bytes they
 // are. All are decided in one call, whose numbers stand in the slots that are lent for them. A line has at most 44 bytes, fewer

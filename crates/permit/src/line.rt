@@ -1,42 +1,13 @@
 // An answer as a line: a letter, the numbers in decimal with one space before each, and a line feed. Each function puts
 // bytes into a buffer, from a place on, and tells the place past them.
-ghost use mathlib.Core.Path.{_≡_};
+use streams::put_byte;
+use streams::put_field;
 ghost use mathlib.Core.List.{[], _∷_, _++_};
-ghost use Prim.Native.Nat.{_+_, _≤_, _<_};
+ghost use Prim.Native.Nat.{_+_, _≤_};
 ghost use lib.ListN.{length};
 ghost use Rattle.decision.specs.Numbers.{hostNearest, hostDecision};
-ghost use Rattle.lines.specs.Lines.{decimal, field, pairLine, nearestLine, line};
-ghost use Rattle.permit.specs.Inner.Put.{Put};
-
-fn put_byte(byte: u8, output: &mut [u8], at: usize) -> usize
-    requires { ⌜ at < length (now output) ⌝ }
-    ensures { λ r. ⌜ Put (now (output .entry)) (now (output .exit)) at r (byte ∷ []) × (r ≡ at + 1) ⌝ }
-{
-    output[at] = byte;
-    at + 1
-}
-
-// A number in decimal. Most have one digit, and that is put at once.
-fn put_number(n: usize, output: &mut [u8], at: usize) -> usize
-    requires { ⌜ at + 20 ≤ length (now output) ⌝ }
-    ensures { λ r. ⌜ Put (now (output .entry)) (now (output .exit)) at r (decimal n) × (r ≤ at + 20) ⌝ }
-{
-    if n < 10 {
-        return put_byte(b'0' + n as u8, output, at);
-    }
-    let mut digits = [0u8; 20];
-    let count = io::decimal(n as u64, &mut digits);
-    at + bytes::copy(&digits[..count], &mut output[at..])
-}
-
-// A space and a number.
-fn put_field(n: usize, output: &mut [u8], at: usize) -> usize
-    requires { ⌜ at + 21 ≤ length (now output) ⌝ }
-    ensures { λ r. ⌜ Put (now (output .entry)) (now (output .exit)) at r (field n) × (r ≤ at + 21) ⌝ }
-{
-    let from = put_byte(b' ', output, at);
-    put_number(n, output, from)
-}
+ghost use Rattle.lines.specs.Lines.{field, pairLine, nearestLine, line};
+ghost use Rattle.streams.specs.Put.{Put};
 
 // A line of a letter and two numbers.
 pub(crate) fn put_pair(letter: u8, a: usize, b: usize, output: &mut [u8], at: usize) -> usize

@@ -4,7 +4,6 @@
 // answered is `decide`'s; here are only the reads, the writes and the lines. An input that cannot be read, or an output
 // that cannot be written, ends the program, which says so on standard error.
 mod line; // line.rt: an answer as a line
-mod again; // again.rt: a call that failed
 mod source; // source.rt: what standard input holds
 mod sink; // sink.rt: standard output
 mod answers; // answers.rt: the lines of queries and of what is left

@@ -2,16 +2,17 @@
 use crate::answers::put_answers;
 use crate::answers::put_ending;
 use crate::answers::put_refusal;
-use crate::sink::write_all;
-use crate::source::Got;
+use crate::sink::write_due;
 use crate::source::keep_rest;
-use crate::source::read_between;
 use format::Refusal;
+use libc::STDIN_FILENO;
+use streams::Got;
+use streams::read_between;
 ghost use mathlib.Core.Path.{_≡_};
 ghost use Prim.Native.Nat.{_+_, _-_, _<_};
 ghost use lib.ListN.{length, take};
 ghost use Rattle.format.specs.Check.{Accepted};
-ghost use Rattle.permit.specs.Inner.Input.{Brings};
+ghost use Rattle.streams.specs.Input.{Brings};
 ghost use Rattle.permit.specs.Inner.Turn.{came, Turned, Faulty};
 
 // What a turn leaves: how many bytes of the input are kept, and how many of the output are to be written.
@@ -83,10 +84,16 @@ pub(crate) fn serve(image: &[u8])
     let mut kept: usize = 0;
     let mut turns = u64::MAX;
     while 0 < turns {
-        let got = read_between(&mut input, kept, 16384);
+        let got = read_between(
+            STDIN_FILENO,
+            b"permit: standard input",
+            &mut input,
+            kept,
+            16384,
+        );
         let t = take_turn(image, got, &mut input, kept, &mut numbers, &mut output);
         let end = t.end;
-        if !write_all(&output[..end]) {
+        if !write_due(&output[..end]) {
             return;
         }
         match got {
@@ -107,5 +114,5 @@ pub(crate) fn refuse(f: Refusal)
 {
     let mut text = [0u8; 44];
     let end = put_refusal(f, &mut text);
-    write_all(&text[..end]);
+    write_due(&text[..end]);
 }

@@ -1,20 +1,14 @@
 // What standard input holds: the image's bytes, then what each read brings.
-use crate::again::retry;
 use format::header;
 use libc::STDIN_FILENO;
+use streams::Got;
+use streams::read_between;
 ghost use mathlib.Core.Path.{_≡_};
-ghost use Prim.Native.Nat.{_-_, _≤_, _<_};
+ghost use Prim.Native.Nat.{_≤_, _<_};
 ghost use lib.ListN.{length, take};
 ghost use Rattle.lines.specs.Output.{imageSize, restOf};
-ghost use Rattle.permit.specs.Inner.Put.{Front};
-ghost use Rattle.permit.specs.Inner.Input.{broughtBy, Brings, ImageRead};
-
-// What a read brought: some bytes, the end of the input, or an error.
-pub(crate) enum Got {
-    Bytes(usize),
-    Ended,
-    Failed,
-}
+ghost use Rattle.streams.specs.Put.{Front};
+ghost use Rattle.permit.specs.Inner.Input.{ImageRead};
 
 // Why the reading of an image stopped.
 pub(crate) enum Stop {
@@ -27,53 +21,6 @@ pub(crate) enum Stop {
 pub(crate) struct Taken {
     pub have: usize,
     pub why: Stop,
-}
-
-// What an answer of `read` says.
-fn brought(answer: isize, part: &[u8]) -> Got
-    ensures { λ r. ⌜ r ≡ broughtBy answer (length (now (part .entry))) ⌝ }
-{
-    let n = io::count(answer, part);
-    if answer > 0 {
-        return Got::Bytes(n);
-    }
-    if answer == 0 {
-        return Got::Ended;
-    }
-    Got::Failed
-}
-
-// Reads once into a part, and says on standard error why it could not. A proved loop has to end, so it counts its tries
-// down, from a number that no run uses up.
-fn read_some(part: &mut [u8]) -> Got
-    requires { ⌜ 0 < length (now part) ⌝ }
-    ensures { λ r. ⌜ Brings (length (now (part .entry))) r ⌝ }
-{
-    let mut tries = u64::MAX;
-    while 0 < tries {
-        let got = brought(libc::read(STDIN_FILENO, part), part);
-        match got {
-            Got::Failed => {
-                if !retry(os::errno()) {
-                    os::fail(b"permit: standard input");
-                    return got;
-                }
-            }
-            _ => {
-                return got;
-            }
-        }
-        tries -= 1;
-    }
-    Got::Failed
-}
-
-// Reads once into a buffer, from a place up to another. What stands before the first place stays.
-pub(crate) fn read_between(buffer: &mut [u8], from: usize, to: usize) -> Got
-    requires { ⌜ (from < to) × (to ≤ length (now buffer)) ⌝ }
-    ensures { λ r. ⌜ Brings (to - from) r × (take from (now (buffer .exit)) ≡ take from (now (buffer .entry))) ⌝ }
-{
-    read_some(&mut buffer[from..to])
 }
 
 // How many bytes the image takes, as far as these tell.
@@ -104,7 +51,7 @@ pub(crate) fn read_image(space: &mut [u8]) -> Taken
                 why: Stop::Whole,
             };
         }
-        match read_between(space, have, size) {
+        match read_between(STDIN_FILENO, b"permit: standard input", space, have, size) {
             Got::Bytes(n) => {
                 have += n;
             }

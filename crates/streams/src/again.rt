@@ -1,6 +1,6 @@
 // A call of the C library that failed: whether to make it again.
 ghost use mathlib.Core.Path.{_≡_};
-ghost use Rattle.permit.specs.Inner.Input.{tryAgain};
+ghost use Rattle.streams.specs.Input.{tryAgain};
 
 // An interrupted call is made again, and so is one that found nothing there yet.
 fn is_again(error: i32) -> bool

@@ -20,10 +20,13 @@ use Rattle.format.specs.Check.{checkFront}
 use Rattle.format.specs.Answers.{Outcome, refused, gives}
 use Rattle.format.specs.Sample.{empty}
 use Rattle.format.proofs.Chain.{some-not-none, orElse-next, orElse-refuses, need-none, need-refuses}
+use Rattle.format.specs.Policy.{imageOf}
 use Rattle.format.proofs.Images.{sound-well-formed}
 use Rattle.format.proofs.Front.{front-length}
 use Rattle.extension.specs.Add.{sectionOf, fieldFault, newNumber, ownFault, addFault, bufferAfter, overwrite}
 use Rattle.extension.specs.Claims.{addAll}
+use Rattle.extension.proofs.Causes.{formed-refused}
+use Rattle.extension.proofs.Trip.{overwrite-is, add-all-none, add-all-next}
 use Rattle.text.specs.Words.{split}
 use Rattle.text.specs.Rows.{recordOfRow}
 use Rattle.text.specs.Build.{Made, movedTo, recordFault, rowFault, afterRow, onward, rowsFrom, built}
@@ -41,12 +44,11 @@ built-imaged text b h =
     subst (λ (m : Made). Imaged b (m .buffer)) (sym (built-long text b h)) (imaged-rows b (split 10 text) 0 (overwrite empty b) (imaged-empty b h))
 
 holds : (b after : List ℕ) → Imaged b after → Holds b after
-unfolding overwrite
 holds b after k =
     record {
       policy = k .policy;
       well-formed = sound-well-formed (k .policy) (k .sound);
-      image = k .image;
+      image = k .image ∙ sym (overwrite-is (imageOf (k .policy)) b);
       accepted = imaged-accepted b after k;
       same-length = imaged-length b after k;
     }
@@ -69,21 +71,21 @@ module _ (b₀ : List ℕ) where
       (c : ℕ) (row : List ℕ) (rows : List (List ℕ)) (at : ℕ) (b : List ℕ) → Imaged b₀ b → (a : RowAdded (c ∷ row) b)
       → rowsFrom at ((c ∷ row) ∷ rows) b ≡ rowsFrom (at + suc (suc (length row))) rows (bufferAfter b (a .stands))
       → RowsAdded rows (at + suc (suc (length row))) (bufferAfter b (a .stands)) → RowsAdded ((c ∷ row) ∷ rows) at b
-  unfolding recordsIn withFirst addAll allAdded
+  unfolding recordsIn withFirst allAdded
   first-added c row rows at b k a q m =
       let one = add-one b₀ b (a .stands) k (record-bytes (c ∷ row) (a .stands) (a .from-row)) (a .passes) in
       record {
         records = a .stands ∷ m .records;
         from-rows = rw (a .from-row, m .from-rows);
         none-refused = (a .passes, m .none-refused);
-        buffer = ap (λ (x : Made). x .buffer) q ∙ m .buffer;
+        buffer = ap (λ (x : Made). x .buffer) q ∙ m .buffer ∙ sym (add-all-next b (a .stands) (m .records));
         count = ap (λ (x : Made). recordCount (x .buffer)) q ∙ m .count ∙ omega (arith, one .count);
       }
 
   rows-added :
       (rows : List (List ℕ)) (at n : ℕ) (b : List ℕ) → Imaged b₀ b → rowsFrom at rows b .answer ≡ gives n → RowsAdded rows at b
-  unfolding rowsFrom recordsIn addAll allAdded rowFault afterRow onward
-  rows-added [] at n b k e = record { records = []; from-rows = refl; none-refused = tt; buffer = refl; count = omega arith }
+  unfolding rowsFrom recordsIn allAdded rowFault afterRow onward
+  rows-added [] at n b k e = record { records = []; from-rows = refl; none-refused = tt; buffer = sym (add-all-none b); count = omega arith }
   rows-added ([] ∷ rows) at n b k e =
       let m = rows-added rows (at + 1) n b k e in
       record { records = m .records; from-rows = m .from-rows; none-refused = m .none-refused; buffer = m .buffer; count = m .count }
@@ -163,24 +165,8 @@ last-row-counts row b alone some-bytes = (only-row row b alone some-bytes, behin
 abbrev pub OwnNumber : ℕ → Type 0
 OwnNumber n = (eqb n 11 || eqb n 12 || eqb n 13 || eqb n 18) ≡ true
 
-field-number : (o : Option ℕ) (f : Refusal) → fieldFault o ≡ some f → OwnNumber (f .number)
-unfolding fieldFault
-field-number none f e = some-not-none (sym e)
-field-number (some i) f e = let z : refusal 11 i ≡ f = cc in subst (λ (x : Refusal). OwnNumber (x .number)) z refl
-
 add-number : (b r : List ℕ) → checkFront b ≡ none → shapeOk r ≡ true → (f : Refusal) → addFault b r ≡ some f → OwnNumber (f .number)
-unfolding addFault ownFault
-add-number b r ok shape f e =
-    let P : Refusal → Type 0 = λ x. OwnNumber (x .number) in
-    let s = sectionOf (getD r 1 0) in
-    let few = need (ltb (newNumber b r) (limitOf s)) (refusal 12 0) in
-    let room = need (leb (wordAt b 1 + length r) (length b)) (refusal 13 0) in
-    let own : ownFault b r ≡ fieldFault (badField (countOf b Groups) r) orElse (few orElse room) =
-    orElse-next (fieldFault (badField (countOf b Groups) r) orElse (few orElse room)) (need-none (refusal 10 0) shape) in
-    orElse-refuses P (fieldFault (badField (countOf b Groups) r)) (few orElse room) (field-number (badField (countOf b Groups) r))
-    (λ _. orElse-refuses P few room (need-refuses P (ltb (newNumber b r) (limitOf s)) (refusal 12 0) refl)
-    (λ _. need-refuses P (leb (wordAt b 1 + length r) (length b)) (refusal 13 0) refl))
-    f (sym own ∙ sym (orElse-next (ownFault b r) ok) ∙ e)
+add-number b r ok shape f e = formed-refused b r ok OwnNumber refl refl refl shape f e
 
 moved-number :
     (at : ℕ) (o : Option Refusal) (f : Refusal) → ((g : Refusal) → o ≡ some g → OwnNumber (g .number)) → movedTo at o ≡ some f

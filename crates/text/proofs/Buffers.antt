@@ -29,6 +29,9 @@ use Rattle.format.proofs.Front.{front-accepted, front-bytes, front-length, fron
 use Rattle.format.proofs.Written.{image-empty, length-empty, sound-empty}
 use Rattle.extension.specs.Add.{sectionOf, withRecord, ownFault, addFault, bufferAfter, overwrite}
 use Rattle.extension.specs.Claims.{allRecords}
+use Rattle.extension.proofs.Causes.{add-own}
+use Rattle.extension.proofs.Counts.{with-count, count-none}
+use Rattle.extension.proofs.Trip.{overwrite-is}
 use Rattle.extension.proofs.Adds.{OwnPasses, own-passes, with-sound, with-length, add-image, buffer-refused}
 use Rattle.text.specs.Rows.{recordOfRow}
 use Rattle.text.specs.Build.{Made, afterRecord, afterRow, rowsFrom}
@@ -43,8 +46,7 @@ module _ (p : Policy) (t r : List ℕ) (w : Sound p) (by : Bytes r) (e : addFaul
   s = sectionOf (getD r 1 0)
 
   own : OwnPasses (imageOf p ++ t) r
-  unfolding addFault
-  own = own-passes (imageOf p ++ t) r (orElse-split (checkFront (imageOf p ++ t)) (ownFault (imageOf p ++ t) r) e .1)
+  own = add-own (imageOf p ++ t) r e
 
   counts : (x : Section) → countOf (imageOf p ++ t) x ≡ length (recordsOf p x)
   counts x = front-of-count (imageOf p) t (image-accepted p w) x ∙ image-count p x
@@ -68,31 +70,6 @@ module _ (p : Policy) (t r : List ℕ) (w : Sound p) (by : Bytes r) (e : addFaul
 
   one-more : bufferAfter (imageOf p ++ t) r ≡ imageOf (withRecord s p r) ++ drop (length r) t
   one-more = add-image p t s r w formed few room
-
-with-count : (s : Section) (p : Policy) (r : List ℕ) → length (allRecords (withRecord s p r)) ≡ suc (length (allRecords p))
-unfolding allRecords withRecord
-with-count Groups p r =
-    rw (
-      length-append (p .groups ++ (r ∷ [])) (p .rules ++ p .constraints),
-      length-append (p .groups) (r ∷ []),
-      length-append (p .groups) (p .rules ++ p .constraints),
-    ) (omega arith)
-with-count Rules p r =
-    rw (
-      length-append (p .groups) ((p .rules ++ (r ∷ [])) ++ p .constraints),
-      length-append (p .rules ++ (r ∷ [])) (p .constraints),
-      length-append (p .rules) (r ∷ []),
-      length-append (p .groups) (p .rules ++ p .constraints),
-      length-append (p .rules) (p .constraints),
-    ) (omega arith)
-with-count Constraints p r =
-    rw (
-      length-append (p .groups) (p .rules ++ (p .constraints ++ (r ∷ []))),
-      length-append (p .rules) (p .constraints ++ (r ∷ [])),
-      length-append (p .constraints) (r ∷ []),
-      length-append (p .groups) (p .rules ++ p .constraints),
-      length-append (p .rules) (p .constraints),
-    ) (omega arith)
 
 -- ---- the image with the old bytes behind it
 
@@ -146,18 +123,17 @@ imaged-front b e by =
     }
 
 pub imaged-empty : (b : List ℕ) → 9 ≤ length b → Imaged b (overwrite empty b)
-unfolding overwrite
 imaged-empty b h =
     record {
       policy = record { version = 1; groups = []; rules = []; constraints = [] };
       sound = sound-empty;
-      image = rw image-empty;
+      image = overwrite-is empty b ∙ rw image-empty;
       fits = rw (image-empty, length-empty) h;
     }
 
 pub count-empty : (b : List ℕ) → 9 ≤ length b → recordCount (overwrite empty b) ≡ 0
-unfolding imaged-empty allRecords
-count-empty b h = imaged-count b (overwrite empty b) (imaged-empty b h)
+unfolding imaged-empty
+count-empty b h = imaged-count b (overwrite empty b) (imaged-empty b h) ∙ count-none 1
 
 -- ---- records and rows
 

@@ -8,24 +8,24 @@ use Rattle.format.specs.Policy.{bodyOf, imageOf, recordAt, placeAfter, recordsA
 use Rattle.format.specs.Check.{readFields, readOf, readFault, sectionFault, countFault, headerFault, bodyFault, check, imageIn, checkFront}
 use Rattle.format.specs.Sample.{sample, empty}
 use Rattle.extension.specs.Add.{sectionOf, withRecord, fieldFault, newNumber, ownFault, addFault, newImage, overwrite, bufferAfter}
-use Rattle.text.specs.Words.{ascii, splitStep, split, same, isDigit, digitsFrom, decimal, upTo, numberTo, named, above, lettered}
+use Rattle.text.specs.Words.{ascii, splitStep, split, same, isDigit, digitsFrom, numberOf, upTo, numberTo, named, above, lettered}
 use Rattle.text.specs.Rows.{valueOf, fieldBytes, group, allow, transition, constraint, forms, asBytes, joined, fieldsOf, headed, recordBy, recordOfWords, recordOfRow}
 use Rattle.text.specs.Build.{movedTo, recordFault, afterRecord, rowFault, afterRow, onward, rowsFrom, built}
-use Rattle.text.specs.Cases.{workedRows, rowGives, rowStands, WorkedRows, outsideRows, rowNamed, members, groupOf, WorkedOutside, oneTransition, workedTexts, textGives, textMakes, WorkedTexts}
+use Rattle.text.specs.Cases.{workedRows, rowGives, rowStands, WorkedRows, outsideRows, rowNamed, members, groupOf, WorkedOutside, oneTransition, workedTexts, textGives, textMakes, WorkedTexts, fullGroups, fullFault, WorkedFull}
 
 pub worked-rows : WorkedRows
 unfolding
-    putWord _orElse_ ascii splitStep split same isDigit digitsFrom decimal upTo numberTo named above lettered
+    putWord _orElse_ ascii splitStep split same isDigit digitsFrom numberOf upTo numberTo named above lettered
     valueOf fieldBytes group allow transition constraint forms asBytes joined fieldsOf headed recordBy recordOfWords recordOfRow
     workedRows rowGives rowStands
 worked-rows = refl
 
 pub worked-outside : WorkedOutside
 unfolding
-    putWord _orElse_ ascii splitStep split same isDigit digitsFrom decimal upTo numberTo named above lettered
+    putWord _orElse_ ascii splitStep split same isDigit digitsFrom numberOf upTo numberTo named above lettered
     valueOf fieldBytes group allow transition constraint forms asBytes joined fieldsOf headed recordBy recordOfWords recordOfRow
     outsideRows rowNamed members groupOf
-worked-outside = record { rows = refl; members-65 = refl; members-64 = refl }
+worked-outside = record { rows = refl; zero-byte = refl; high-byte = refl; members-65 = refl; members-64 = refl }
 
 pub worked-texts : WorkedTexts
 unfolding
@@ -34,8 +34,21 @@ unfolding
     bodyOf imageOf recordAt placeAfter recordsAt startOf placeOf endOf policyOf
     readFields readOf readFault sectionFault countFault headerFault bodyFault check imageIn checkFront
     sample empty sectionOf withRecord fieldFault newNumber ownFault addFault newImage overwrite bufferAfter
-    ascii splitStep split same isDigit digitsFrom decimal upTo numberTo named above lettered
+    ascii splitStep split same isDigit digitsFrom numberOf upTo numberTo named above lettered
     valueOf fieldBytes group allow transition constraint forms asBytes joined fieldsOf headed recordBy recordOfWords recordOfRow
     movedTo recordFault afterRecord rowFault afterRow onward rowsFrom built
     oneTransition workedTexts textGives textMakes
 worked-texts = refl
+
+pub worked-full : WorkedFull
+unfolding
+    flatten wordAt words putWord need _orElse_ unlessRefused
+    knownVersion limitOf countPlace countOf kindIn lengthOk isType isCondition listOk firstRecord shapeOk badMember badType badGroup badAllow badTransition badConstraint badField
+    bodyOf imageOf recordAt placeAfter recordsAt startOf placeOf endOf policyOf
+    readFields readOf readFault sectionFault countFault headerFault bodyFault check imageIn checkFront
+    sample empty sectionOf withRecord fieldFault newNumber ownFault addFault newImage overwrite bufferAfter
+    ascii splitStep split same isDigit digitsFrom numberOf upTo numberTo named above lettered
+    valueOf fieldBytes group allow transition constraint forms asBytes joined fieldsOf headed recordBy recordOfWords recordOfRow
+    movedTo recordFault afterRecord rowFault afterRow onward rowsFrom built
+    groupOf fullGroups fullFault
+worked-full = refl

@@ -8,29 +8,31 @@
 --     rows-place              that place lies within the rows
 --     rows-all                rows whose records are added without a refusal are not refused
 use Prim.Native.Nat.{ℕ, zero, suc, _+_, _≤_, _<_}
-use mathlib.Core.Path.{_≡_, refl, sym, subst, ap, _∙_}
+use mathlib.Core.Path.{_≡_, refl, sym, subst, ap, ap₂, _∙_}
 use mathlib.Core.Bool.{Bool, true, false}
 use mathlib.Core.Option.{Option, none, some}
 use mathlib.Core.List.{List, [], _∷_, _++_, append-assoc}
 use native.Mathlib.Omega.{arith}
 use lib.ListN.{length, take, drop, length-append, length-drop}
-use lib.Seq.{length-take-le, take-append-add}
+use lib.Seq.{length-take-le, take-append-add, drop-drop}
 use lib.Dec.{ltb}
 use borrow.Author.Tests.{lt-ltb, le-ltb, ltb-true, ltb-false}
 use Rattle.format.specs.declared.Refusal.{Refusal}
 use Rattle.format.specs.Answers.{Outcome, refused, gives}
 use Rattle.format.specs.Sample.{empty}
 use Rattle.format.proofs.Chain.{some-not-none}
-use Rattle.extension.specs.Add.{bufferAfter, overwrite}
+use Rattle.format.specs.Refusals.{refusal}
+use Rattle.extension.specs.Add.{addFault, bufferAfter, overwrite}
 use Rattle.extension.specs.Claims.{addAll}
+use Rattle.extension.proofs.Trip.{add-all-none, add-all-next}
 use Rattle.text.specs.Words.{split}
 use Rattle.text.specs.Rows.{recordOfRow}
 use Rattle.text.specs.Build.{Made, movedTo, recordFault, afterRecord, rowFault, afterRow, onward, rowsFrom, built}
-use Rattle.text.specs.Claims.{withFirst, recordsIn, complete, allAdded, RowAt, first, behind, Kept}
+use Rattle.text.specs.Claims.{withFirst, recordsIn, complete, allAdded, RowAt, first, behind, Cause, outside, not-added, Kept}
 use Rattle.text.specs.Claims.{LastLineFeed, NextRows, RefusedStops, RefusedShort, RefusedKeeps, RowsEnough}
-use Rattle.text.specs.Inner.Parts.{runOf}
+use Rattle.text.specs.Inner.Parts.{runOf, rest}
 use Rattle.text.proofs.Parts.{run-most, split-run, rest-end, rest-more, split-append, run-part, run-alone}
-use Rattle.text.proofs.Rows.{answerOf, gives-not-refused, row-fault-place, row-fault-some, rows-complete, rows-chain-gives, rows-chain-refused}
+use Rattle.text.proofs.Rows.{answerOf, gives-not-refused, row-fault-place, row-fault-some, row-record, rows-complete, rows-chain-gives, rows-chain-refused}
 
 -- ---- a buffer that holds a header, and one that does not
 
@@ -104,14 +106,16 @@ with-first (some r) (some qs) rs e = let i : r ∷ qs ≡ rs = cc in record { he
 pub rows-all :
     (rows : List (List ℕ)) (at : ℕ) (b : List ℕ) (rs : List (List ℕ)) → recordsIn rows ≡ some rs → allAdded b rs
     → rowsFrom at rows b ≡ complete (addAll b rs)
-unfolding recordsIn rowsFrom addAll allAdded rowFault afterRow onward recordFault afterRecord movedTo
-rows-all [] at b rs e a = let h : [] ≡ rs = cc in ap (λ (x : List (List ℕ)). complete (addAll b x)) h
+unfolding recordsIn rowsFrom allAdded rowFault afterRow onward recordFault afterRecord movedTo
+rows-all [] at b rs e a =
+    let h : [] ≡ rs = cc in ap complete (sym (add-all-none b)) ∙ ap (λ (x : List (List ℕ)). complete (addAll b x)) h
 rows-all ([] ∷ rows) at b rs e a = rows-all rows (at + 1) b rs e a
 rows-all ((c ∷ row) ∷ rows) at b rs e a =
     let q = with-first (recordOfRow (c ∷ row)) (recordsIn rows) rs e in
     let i : allAdded b (q .head ∷ q .tail) = subst (allAdded b) (sym (q .whole)) a in
     let m = rows-all rows (at + suc (suc (length row))) (bufferAfter b (q .head)) (q .tail) (q .tail-is) (i .1) in
-    rw (q .head-is, i .0) (m ∙ ap (λ (x : List (List ℕ)). complete (addAll b x)) (q .whole))
+    rw (q .head-is, i .0)
+    (m ∙ ap complete (sym (add-all-next b (q .head) (q .tail))) ∙ ap (λ (x : List (List ℕ)). complete (addAll b x)) (q .whole))
 
 pub rows-enough : RowsEnough
 rows-enough text b rs h e a = built-long text b h ∙ rows-all (split 10 text) 0 (overwrite empty b) rs e a
@@ -139,6 +143,10 @@ pub record Stopped (at : ℕ) (l b : List ℕ) (f : Refusal) : Type 0 where
   pub inside : ahead < length l
   pub row : RowAt l ahead
   pub kept : rowsFrom at (split 10 (take ahead l)) b ≡ complete (rowsFrom at (split 10 l) b .buffer)
+  pub own : List ℕ
+  pub later : List (List ℕ)
+  pub rows : split 10 (drop ahead l) ≡ own ∷ later
+  pub fault : rowFault (f .place) own (rowsFrom at (split 10 l) b .buffer) ≡ some f
 
 module _ (l b : List ℕ) (at : ℕ) (f : Refusal) where
   row : List ℕ
@@ -156,12 +164,17 @@ module _ (l b : List ℕ) (at : ℕ) (f : Refusal) where
       let m : rowsFrom at (split 10 l) b ≡ record { answer = refused g; buffer = b } = rw (split-run 10 l, p) in
       let k : refused g ≡ refused f = sym (ap answerOf m) ∙ e in
       let i : g ≡ f = cc in
+      let at-row : f .place ≡ at = ap (λ (x : Refusal). x .place) (sym i) ∙ row-fault-place at row b g p in
       record {
         ahead = 0;
-        place = ap (λ (x : Refusal). x .place) (sym i) ∙ row-fault-place at row b g p ∙ omega arith;
+        place = at-row ∙ omega arith;
         inside = omega (arith, row-fault-some at row b g p, length-take-le (runOf 10 l) l (run-most 10 l), run-most 10 l);
         row = first refl;
         kept = ap (λ (x : Made). complete (x .buffer)) (sym m);
+        own = row;
+        later = rest 10 l;
+        rows = split-run 10 l;
+        fault = ap₂ (λ (n : ℕ) (x : List ℕ). rowFault n row x) at-row (ap (λ (x : Made). x .buffer) m) ∙ p ∙ ap some i;
       }
 
   -- a place behind the first row
@@ -184,6 +197,10 @@ module _ (l b : List ℕ) (at : ℕ) (f : Refusal) where
         inside = omega (arith, s .inside, length-drop (suc (runOf 10 l)) l);
         row = row-later (s .ahead) (run-part 10 l d) n (s .row);
         kept = rw (take-rows l (s .ahead) d, p) (s .kept ∙ ap (λ (x : Made). complete (x .buffer)) (sym m));
+        own = s .own;
+        later = s .later;
+        rows = ap (split 10) (sym (drop-drop (s .ahead) (suc (runOf 10 l)) l)) ∙ s .rows;
+        fault = ap (λ (x : Made). rowFault (f .place) (s .own) (x .buffer)) m ∙ s .fault;
       }
 
   stop-later :
@@ -219,14 +236,37 @@ rows-stopped at l b f e = stops (length l) l b at f (omega arith) e
 pub rows-place : (at : ℕ) (l b : List ℕ) (f : Refusal) → rowsFrom at (split 10 l) b .answer ≡ refused f → (at ≤ f .place) × (f .place < at + length l)
 rows-place at l b f e = let s = rows-stopped at l b f e in (omega (arith, s .place), omega (arith, s .place, s .inside))
 
+-- why a row is refused
+row-cause : (at : ℕ) (row b : List ℕ) (f : Refusal) → rowFault at row b ≡ some f → Cause row b (f .number)
+unfolding recordFault movedTo
+row-cause at row b f e = step (recordOfRow row) refl where
+  added : (r : List ℕ) → recordOfRow row ≡ some r → (o : Option Refusal) → addFault b r ≡ o → movedTo at o ≡ some f → Cause row b (f .number)
+  added r k none p q = some-not-none (sym q)
+  added r k (some g) p q =
+      let z : refusal (g .number) at ≡ f = cc in not-added r g k p (ap (λ (x : Refusal). x .number) (sym z))
+
+  step : (o : Option (List ℕ)) → recordOfRow row ≡ o → Cause row b (f .number)
+  step none k =
+      let z : some (refusal 18 at) ≡ some f = sym (row-record at row b none (row-fault-some at row b f e) k .0) ∙ e in
+      let y : refusal 18 at ≡ f = cc in
+      outside k (ap (λ (x : Refusal). x .number) (sym y))
+  step (some r) k = added r k (addFault b r) refl (sym (row-record at row b (some r) (row-fault-some at row b f e) k .0) ∙ e)
+
 pub refused-keeps : RefusedKeeps
 refused-keeps text b f long e =
     let q = built-long text b long in
     let s : Stopped 0 text (overwrite empty b) f = rows-stopped 0 text (overwrite empty b) f (sym (ap answerOf q) ∙ e) in
     let k : s .ahead ≡ f .place = sym (s .place ∙ (omega arith)) in
-    subst (Kept text b) k
-    (record {
-      row = s .row;
-      inside = s .inside;
-      before = built-long (take (s .ahead) text) b long ∙ s .kept ∙ ap (λ (x : Made). complete (x .buffer)) (sym q);
-    })
+    let h : rowFault (f .place) (s .own) (built text b .buffer) ≡ some f = ap (λ (x : Made). rowFault (f .place) (s .own) (x .buffer)) q ∙ s .fault in
+    record {
+      row = subst (RowAt text) k (s .row);
+      inside = omega (arith, s .inside, k);
+      before =
+          ap (λ (n : ℕ). built (take n text) b) (sym k) ∙ built-long (take (s .ahead) text) b long ∙ s .kept
+          ∙ ap (λ (x : Made). complete (x .buffer)) (sym q);
+      own = s .own;
+      later = s .later;
+      rows = ap (λ (n : ℕ). split 10 (drop n text)) (sym k) ∙ s .rows;
+      not-empty = row-fault-some (f .place) (s .own) (built text b .buffer) f h;
+      cause = row-cause (f .place) (s .own) (built text b .buffer) f h;
+    }

@@ -6,5 +6,7 @@ pub mod Rows
 pub mod Follow
 pub mod Buffers
 pub mod Accepted
+pub mod Moved
 pub mod Chunks
 pub mod Read
+pub mod Space

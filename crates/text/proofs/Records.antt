@@ -14,10 +14,9 @@ use lib.ListN.{length, replicate, take, length-append}
 use borrow.Author.Tests.{le-leb, eq-eqb}
 use Rattle.format.specs.Bytes.{Bytes, putWord}
 use Rattle.format.specs.Format.{lengthOk, shapeOk}
-use Rattle.format.proofs.Tests.{and-true}
 use Rattle.format.proofs.Chain.{some-not-none, orElse-refuses}
-use Rattle.format.proofs.Bytes.{bytes-nil, bytes-cons, bytes-append, bytes-word}
-use Rattle.format.proofs.Shapes.{shape-most}
+use Rattle.format.proofs.Bytes.{bytes-nil, bytes-cons, bytes-append, bytes-word, put-word}
+use Rattle.format.proofs.Shapes.{shape-most, shape-of, long-group, long-allow, long-transition, long-constraint}
 use Rattle.text.specs.declared.Field.{Field}
 use Rattle.text.specs.declared.Field.the-variants.{Member, AnyType, Number, Predicate, Condition}
 use Rattle.text.specs.Words.{ascii, same, numberTo, named, lettered}
@@ -77,10 +76,10 @@ pub value-most : (f : Field) (w : List ℕ) (n : ℕ) → valueOf f w ≡ some n
 value-most f w n e = value-says f w n e .most
 
 field-length : (f : Field) (n : ℕ) → length (fieldBytes f n) ≡ fieldLength f
-unfolding fieldBytes fieldLength putWord
-field-length Member n = refl
-field-length AnyType n = refl
-field-length Number n = refl
+unfolding fieldBytes fieldLength
+field-length Member n = ap length (put-word n [])
+field-length AnyType n = ap length (put-word n [])
+field-length Number n = ap length (put-word n [])
 field-length Predicate n = refl
 field-length Condition n = refl
 
@@ -211,12 +210,6 @@ record RowRecord (w : List ℕ) (ws : List (List ℕ)) (r : List ℕ) : Type 0 w
   bytes : Bytes r
   narrow : width (w ∷ ws) ≤ 461
 
-shape-of : (k : ℕ) (l : List ℕ) → lengthOk k (2 + length l) ≡ true → shapeOk ((2 + length l) ∷ k ∷ l) ≡ true
-unfolding shapeOk
-shape-of k l h =
-    let n : length ((2 + length l) ∷ k ∷ l) ≡ 2 + length l = omega arith in
-    and-true (eq-eqb (length ((2 + length l) ∷ k ∷ l)) (2 + length l) n) (ap (lengthOk k) n ∙ h)
-
 form-record :
     (f : Form) (w : List ℕ) (ws : List (List ℕ)) (r : List ℕ) (b : RecordBy f w ws r) → f .kind < 256 → length (f .word) ≡ 5
     → length (f .fields) + length (f .more) ≤ 64 → lengthOk (f .kind) (2 + length (b .fields)) ≡ true → RowRecord w ws r
@@ -233,23 +226,6 @@ form-record f w ws r b kind word most long =
           (bytes-cons (2 + length l) (f .kind ∷ l) (omega (arith, ap length (b .is))) (bytes-cons (f .kind) l kind (q .bytes)));
       narrow = omega (arith, q .narrow, ap length (b .word));
     }
-
--- the length of a record, by its kind
-long-group : (n : ℕ) → 4 ≤ n → n ≤ 130 → n % 2 ≡ 0 → lengthOk 1 n ≡ true
-unfolding lengthOk
-long-group n a b c = and-true (and-true (le-leb 4 n a) (le-leb n 130 b)) (eq-eqb (n % 2) 0 c)
-
-long-allow : (n : ℕ) → n ≡ 11 → lengthOk 2 n ≡ true
-unfolding lengthOk
-long-allow n a = eq-eqb n 11 a
-
-long-transition : (n : ℕ) → n ≡ 8 → lengthOk 3 n ≡ true
-unfolding lengthOk
-long-transition n a = eq-eqb n 8 a
-
-long-constraint : (n : ℕ) → 11 ≤ n → n ≤ 43 → n % 2 ≡ 1 → lengthOk 4 n ≡ true
-unfolding lengthOk
-long-constraint n a b c = and-true (and-true (le-leb 11 n a) (le-leb n 43 b)) (eq-eqb (n % 2) 1 c)
 
 module _ (w : List ℕ) (ws : List (List ℕ)) (r : List ℕ) where
   of-group : RecordBy group w ws r → RowRecord w ws r

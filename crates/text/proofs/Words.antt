@@ -15,7 +15,7 @@ use lib.Dec.{leb, eqb}
 use borrow.Author.Tests.{leb-true, eq-eqb, eqb-true, eqb-false}
 use Rattle.format.proofs.Tests.{both, and-true, false-not-true}
 use Rattle.format.proofs.Chain.{some-not-none}
-use Rattle.text.specs.Words.{same, isDigit, digitsFrom, decimal, upTo, numberTo, named, above, lettered}
+use Rattle.text.specs.Words.{same, isDigit, digitsFrom, numberOf, upTo, numberTo, named, above, lettered}
 
 pub same-equal : (a b : List ℕ) → same a b ≡ true → a ≡ b
 unfolding same
@@ -67,8 +67,8 @@ digits-five n m c₁ c₂ c₃ c₄ c₅ w e =
     let k = digits-least w _ m (d₅ .rest) in
     omega arith
 
-decimal-short : (w : List ℕ) (n : ℕ) → decimal w ≡ some n → n ≤ 65535 → length w ≤ 5
-unfolding decimal
+decimal-short : (w : List ℕ) (n : ℕ) → numberOf w ≡ some n → n ≤ 65535 → length w ≤ 5
+unfolding numberOf
 decimal-short [] n e h = omega arith
 decimal-short (_ ∷ []) n e h = omega arith
 decimal-short (_ ∷ _ ∷ []) n e h = omega arith
@@ -97,9 +97,9 @@ up-to most (some k) n e =
     chosen (leb k most) (some k) n e (λ t q. let h : k ≡ n = cc in let l = leb-true k most t in record { is = q; least = omega arith })
 
 module _ (most : ℕ) (w : List ℕ) (n : ℕ) (e : numberTo most w ≡ some n) where
-  within : Within most (decimal w) n
+  within : Within most (numberOf w) n
   unfolding numberTo
-  within = up-to most (decimal w) n e
+  within = up-to most (numberOf w) n e
 
   pub number-most : n ≤ most
   number-most = within .least

@@ -1,11 +1,14 @@
 -- What a text builds in a lent buffer (document 02, request [3]).
 --     Made                  an answer, the length of an image or a refusal, and a buffer
---     rowFault at row b     the refusal of a row that starts at a place of its text: 18, and else those of adding its record
+--     rowFault at row b     the refusal of a row that starts at a place of its text, which is the refusal's place: 18, and else
+--                           that of adding its record to b
 --     afterRow row b        the buffer after a row
+--     onward f b more       more; or the refusal f, with the buffer b
 --     rowsFrom at rows b    the rows one after the other, each added to what the rows before it left. The first that is
 --                           refused ends it, and the buffer stays as the rows before left it
 --     built text b          what a text builds in the buffer b
---     rowsAdded text b      what a text's rows do to the image that the buffer b starts with
+--     rowsAdded text b      what a text's rows do to the image that the buffer b starts with; that image's own refusals, 1 to 7,
+--                           come first, with their place in it
 --     builtOutcome r        what a `Built` says
 --     Builds text b r after, AddsRows text b r after   what a call answers and leaves
 use Prim.Native.Nat.{ℕ, suc, _+_}

@@ -1,6 +1,7 @@
 -- Rows and texts with what they give, worked out from document 02, request [3].
 --     WorkedRows      rows, and the records that they stand for
---     WorkedOutside   rows outside the form
+--     WorkedOutside   rows outside the form: 65 members too, but not the 64 that there may be, and bytes that no quoted text has
+--     WorkedFull      rows behind a section that is full
 --     WorkedTexts     texts in buffers of a size, filled with the byte 7: the answer, and the buffer
 use Prim.Native.Nat.{ℕ}
 use Prim.Native.String.{String}
@@ -8,12 +9,13 @@ use mathlib.Core.Path.{_≡_}
 use mathlib.Core.Option.{Option, none, some}
 use mathlib.Core.List.{List, [], _∷_, _++_, map}
 use lib.ListN.{replicate}
+use Rattle.format.specs.declared.Refusal.{Refusal}
 use Rattle.format.specs.Refusals.{refusal}
 use Rattle.format.specs.Answers.{Outcome, refused, gives}
 use Rattle.format.specs.Sample.{sample, empty}
 use Rattle.text.specs.Words.{ascii}
 use Rattle.text.specs.Rows.{recordOfRow}
-use Rattle.text.specs.Build.{Made, built}
+use Rattle.text.specs.Build.{Made, rowFault, built}
 
 pub record WorkedRow : Type 0 where
   pub row : String
@@ -29,6 +31,16 @@ workedRows =
     ∷ record { row = "trans 0 g256 65535"; stands = 8 ∷ 3 ∷ 0 ∷ 0 ∷ 129 ∷ 0 ∷ 255 ∷ 255 ∷ [] }
     ∷ record { row = "limit 1 2 3 4 0"; stands = 11 ∷ 4 ∷ 0 ∷ 1 ∷ 0 ∷ 2 ∷ 0 ∷ 3 ∷ 0 ∷ 4 ∷ 0 ∷ [] }
     ∷ record { row = "limit 256 2 g3 4 255"; stands = 11 ∷ 4 ∷ 1 ∷ 0 ∷ 0 ∷ 2 ∷ 128 ∷ 3 ∷ 0 ∷ 4 ∷ 255 ∷ [] }
+    ∷ record { row = "trans g1 0 9"; stands = 8 ∷ 3 ∷ 128 ∷ 1 ∷ 0 ∷ 0 ∷ 0 ∷ 9 ∷ [] }
+    ∷ record { row = "allow 1 2 3 65535 on"; stands = 11 ∷ 2 ∷ 0 ∷ 1 ∷ 0 ∷ 2 ∷ 0 ∷ 3 ∷ 255 ∷ 255 ∷ 1 ∷ [] }
+    ∷ record { row = "limit 65535 65535 8 g9 3"; stands = 11 ∷ 4 ∷ 255 ∷ 255 ∷ 255 ∷ 255 ∷ 0 ∷ 8 ∷ 128 ∷ 9 ∷ 3 ∷ [] }
+    ∷ record {
+      row = "limit 1 2 3 4 2 1 2 3 4 5 6 7 8 9 10 11 12 13 14 15 16";
+      stands =
+          43 ∷ 4 ∷ 0 ∷ 1 ∷ 0 ∷ 2 ∷ 0 ∷ 3 ∷ 0 ∷ 4 ∷ 2
+          ∷ 0 ∷ 1 ∷ 0 ∷ 2 ∷ 0 ∷ 3 ∷ 0 ∷ 4 ∷ 0 ∷ 5 ∷ 0 ∷ 6 ∷ 0 ∷ 7 ∷ 0 ∷ 8
+          ∷ 0 ∷ 9 ∷ 0 ∷ 10 ∷ 0 ∷ 11 ∷ 0 ∷ 12 ∷ 0 ∷ 13 ∷ 0 ∷ 14 ∷ 0 ∷ 15 ∷ 0 ∷ 16 ∷ [];
+    }
     ∷ record { row = "limit 1 2 3 4 2 g5 6"; stands = 15 ∷ 4 ∷ 0 ∷ 1 ∷ 0 ∷ 2 ∷ 0 ∷ 3 ∷ 0 ∷ 4 ∷ 2 ∷ 128 ∷ 5 ∷ 0 ∷ 6 ∷ [] }
     ∷ []
 
@@ -41,7 +53,7 @@ rowStands w = some (w .stands)
 abbrev pub WorkedRows : Type 0
 WorkedRows = map rowGives workedRows ≡ map rowStands workedRows
 
--- each line: words, numbers, ranges, types, conditions, counts, bytes that are no letters
+-- words, numbers, ranges, types, conditions, counts, control bytes; and then again, with words in other places
 unfoldable pub outsideRows : List String
 outsideRows =
     "x" ∷ "group" ∷ "group " ∷ " group 1" ∷ "group  1" ∷ "group 1 " ∷ " " ∷ "Group 1" ∷ "groups 1" ∷ "grou 1"
@@ -51,12 +63,16 @@ outsideRows =
     ∷ "allow 1 2 3 4 ON" ∷ "allow 1 2 3 4 1" ∷ "allow 1 2 3 4 onn" ∷ "allow 1 2 3 4 o" ∷ "allow 1 2 3 4 s0" ∷ "allow 1 2 3 4 of"
     ∷ "allow 1 2 3 4" ∷ "allow 1 2 3 4 on on" ∷ "trans 1 2" ∷ "trans 1 2 3 4" ∷ "limit 1 2 3 4"
     ∷ "limit 1 2 3 4 2 1 2 3 4 5 6 7 8 9 10 11 12 13 14 15 16 17"
-    ∷ "group\t1" ∷ "group 1\r" ∷ "\r" ∷ "\t" ∷ []
+    ∷ "group\t1" ∷ "group 1\r" ∷ "\r" ∷ "\t"
+    ∷ "group 1 g0" ∷ "group 1 32768" ∷ "allow 1 2 3 g4 on" ∷ "limit g1 2 3 4 0" ∷ "limit 1 g2 3 4 0" ∷ "limit 1 2 3 32768 0"
+    ∷ "limit 1 2 3 4 2 32768" ∷ "group :" ∷ "group /" ∷ "trans a1 2 3" ∷ "Allow 1 2 3 4 on" ∷ "Trans 1 2 3" ∷ "Limit 1 2 3 4 0"
+    ∷ "a 1 2 3 4 on" ∷ "t 1 2 3" ∷ "l 1 2 3 4 0" ∷ "allow 1 2 3 4 on 5" ∷ "trans 1 2 4294967301"
+    ∷ "trans 1 2 18446744073709551621" ∷ "# x" ∷ []
 
 unfoldable pub rowNamed : String → Option (List ℕ)
 rowNamed row = recordOfRow (ascii row)
 
--- 65 members, and the 64 that there may be
+-- n members
 unfoldable pub members : ℕ → List (List ℕ)
 members n = replicate n (ascii " 7")
 
@@ -65,7 +81,9 @@ groupOf [] = []
 groupOf (w ∷ ws) = w ++ groupOf ws
 
 pub record WorkedOutside : Type 0 where
-  pub rows : map rowNamed outsideRows ≡ replicate 46 none
+  pub rows : map rowNamed outsideRows ≡ replicate 66 none
+  pub zero-byte : recordOfRow (ascii "group 1" ++ (0 ∷ [])) ≡ none
+  pub high-byte : recordOfRow (ascii "group " ++ (177 ∷ [])) ≡ none
   pub members-65 : recordOfRow (ascii "group" ++ groupOf (members 65)) ≡ none
   pub members-64 : recordOfRow (ascii "group" ++ groupOf (members 64)) ≡ some (130 ∷ 1 ∷ groupOf (replicate 64 (0 ∷ 7 ∷ [])))
 
@@ -98,12 +116,18 @@ workedTexts =
     ∷ record { text = "trans 12 20 5\ngroup g0\n"; space = 20; answer = refused (refusal 18 14); buffer = oneTransition ++ replicate 3 7 }
     ∷ record { text = "trans 12 20 5\ntrans 1 2 3\nx"; space = 20; answer = refused (refusal 13 14); buffer = oneTransition ++ replicate 3 7 }
     ∷ record { text = "trans 12 20 5\nx\ntrans 1 2 3"; space = 20; answer = refused (refusal 18 14); buffer = oneTransition ++ replicate 3 7 }
+    ∷ record { text = "trans 12 20 5\nx"; space = 17; answer = refused (refusal 18 14); buffer = oneTransition }
     ∷ record { text = "\n\ntrans 1 1024 3"; space = 17; answer = refused (refusal 11 2); buffer = empty ++ replicate 8 7 }
     ∷ record { text = "trans 1 g0 3"; space = 17; answer = refused (refusal 11 0); buffer = empty ++ replicate 8 7 }
     ∷ record { text = "group 5 5"; space = 20; answer = refused (refusal 11 0); buffer = empty ++ replicate 11 7 }
     ∷ record { text = "limit 1 2 3 4 2"; space = 20; answer = refused (refusal 11 0); buffer = empty ++ replicate 11 7 }
     ∷ record { text = "limit 1 2 3 4 1 5"; space = 22; answer = refused (refusal 11 0); buffer = empty ++ replicate 13 7 }
     ∷ record { text = "limit 1 2 3 4 4"; space = 20; answer = refused (refusal 11 0); buffer = empty ++ replicate 11 7 }
+    ∷ record { text = "group 1\r\n"; space = 13; answer = refused (refusal 18 0); buffer = empty ++ replicate 4 7 }
+    ∷ record { text = " \n"; space = 9; answer = refused (refusal 18 0); buffer = empty }
+    ∷ record { text = "\r\n"; space = 9; answer = refused (refusal 18 0); buffer = empty }
+    ∷ record { text = "# x\n"; space = 9; answer = refused (refusal 18 0); buffer = empty }
+    ∷ record { text = "trans 1 1024 3"; space = 9; answer = refused (refusal 11 0); buffer = empty }
     ∷ []
 
 unfoldable pub textGives : WorkedText → Made
@@ -114,3 +138,15 @@ textMakes w = record { answer = w .answer; buffer = w .buffer }
 
 abbrev pub WorkedTexts : Type 0
 WorkedTexts = map textGives workedTexts ≡ map textMakes workedTexts
+
+-- 256 groups of type 0, and nothing behind them: 12 comes behind 18 and 11, and before 13
+unfoldable pub fullGroups : List ℕ
+fullGroups = 1 ∷ 4 ∷ 9 ∷ 1 ∷ 0 ∷ 0 ∷ 0 ∷ 0 ∷ 0 ∷ groupOf (replicate 256 (4 ∷ 1 ∷ 0 ∷ 0 ∷ []))
+
+unfoldable pub fullFault : String → Option Refusal
+fullFault row = rowFault 5 (ascii row) fullGroups
+
+abbrev pub WorkedFull : Type 0
+WorkedFull =
+    map fullFault ("group 1" ∷ "x" ∷ "group 1024" ∷ "trans 1 g255 3" ∷ [])
+    ≡ some (refusal 12 5) ∷ some (refusal 18 5) ∷ some (refusal 11 5) ∷ some (refusal 13 5) ∷ []

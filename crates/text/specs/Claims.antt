@@ -11,9 +11,11 @@
 --     LastRowCounts       a last row that is not empty is one record more, without a line feed behind it
 --     NextRows            what follows a line feed is added to what the text before it left
 --     RefusedStops        behind a refused row nothing is read
---     RefusedKeeps        a refused text leaves what the text before its place builds, which ends with a line feed or is empty
+--     RefusedKeeps        a refused text leaves what the text before its place builds. A row starts at that place, and it is
+--                         refused for its own cause: 18 where it is outside the form, else the number of adding its record
 --     RefusedShort        a buffer under 9 bytes is untouched, and 13 at place 0 comes before any row
 --     OwnNumbers          no other number than 11, 12, 13 and 18: 10 cannot occur
+--     SpaceEnough         a buffer that holds the longest image is never short
 use Prim.Native.Nat.{ℕ, suc, _+_, _≤_, _<_}
 use mathlib.Core.Path.{_≡_}
 use mathlib.Core.Bool.{true, _||_}
@@ -24,6 +26,7 @@ use lib.Dec.{eqb}
 use Rattle.format.specs.declared.Refusal.{Refusal}
 use Rattle.format.specs.Bytes.{wordAt}
 use Rattle.format.specs.Refusals.{refusal}
+use Rattle.format.specs.Format.{lengthPlace}
 use Rattle.format.specs.Policy.{Policy, imageOf, policyOf}
 use Rattle.format.specs.Check.{imageIn, checkFront}
 use Rattle.format.specs.Answers.{refused, gives}
@@ -49,7 +52,7 @@ abbrev pub recordCount : List ℕ → ℕ
 recordCount b = length (allRecords (policyOf (imageIn b)))
 
 abbrev pub complete : List ℕ → Made
-complete b = record { answer = gives (wordAt b 1); buffer = b }
+complete b = record { answer = gives (wordAt b lengthPlace); buffer = b }
 
 -- each is added without a refusal
 unfoldable pub allAdded : List ℕ → List (List ℕ) → Type 0
@@ -108,13 +111,24 @@ pub data RowAt (text : List ℕ) (at : ℕ) : Type 0 where
   first : at ≡ 0 → RowAt text at
   behind : (before more : List ℕ) → text ≡ before ++ (10 ∷ more) → at ≡ suc (length before) → RowAt text at
 
-pub record Kept (text b : List ℕ) (at : ℕ) : Type 0 where
-  pub row : RowAt text at
-  pub inside : at < length text
-  pub before : built (take at text) b ≡ complete (built text b .buffer)
+-- why a row is refused: it is outside the form, which comes first; else its record is not added
+pub data Cause (row b : List ℕ) (n : ℕ) : Type 0 where
+  outside : recordOfRow row ≡ none → n ≡ 18 → Cause row b n
+  not-added : (r : List ℕ) (f : Refusal) → recordOfRow row ≡ some r → addFault b r ≡ some f → n ≡ f .number → Cause row b n
+
+-- what a refused text leaves, and the row that is refused: `own`, at the refusal's place
+pub record Kept (text b : List ℕ) (f : Refusal) : Type 0 where
+  pub row : RowAt text (f .place)
+  pub inside : f .place < length text
+  pub before : built (take (f .place) text) b ≡ complete (built text b .buffer)
+  pub own : List ℕ
+  pub later : List (List ℕ)
+  pub rows : split 10 (drop (f .place) text) ≡ own ∷ later
+  pub not-empty : 0 < length own
+  pub cause : Cause own (built text b .buffer) (f .number)
 
 abbrev pub RefusedKeeps : Type 0
-RefusedKeeps = (text b : List ℕ) (f : Refusal) → 9 ≤ length b → built text b .answer ≡ refused f → Kept text b (f .place)
+RefusedKeeps = (text b : List ℕ) (f : Refusal) → 9 ≤ length b → built text b .answer ≡ refused f → Kept text b f
 
 abbrev pub RefusedShort : Type 0
 RefusedShort = (text b : List ℕ) → length b < 9 → built text b ≡ record { answer = refused (refusal 13 0); buffer = b }
@@ -123,3 +137,6 @@ abbrev pub OwnNumbers : Type 0
 OwnNumbers =
     (text b : List ℕ) (f : Refusal) → built text b .answer ≡ refused f
     → (eqb (f .number) 11 || eqb (f .number) 12 || eqb (f .number) 13 || eqb (f .number) 18) ≡ true
+
+abbrev pub SpaceEnough : Type 0
+SpaceEnough = (text b : List ℕ) (f : Refusal) → 55561 ≤ length b → built text b .answer ≡ refused f → f .number ≡ 13 → ⊥

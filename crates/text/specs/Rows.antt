@@ -17,8 +17,8 @@ use Rattle.text.specs.declared.Field.{Field}
 use Rattle.text.specs.declared.Field.the-variants.{Member, AnyType, Number, Predicate, Condition}
 use Rattle.text.specs.Words.{ascii, split, same, numberTo, named, lettered}
 
--- A member is a basic type. A type is a basic one, or `g` (103) and a group's number, which is 32768 above it. A number is a
--- class or an action.
+-- What the form allows: that a basic type is below 1024, and that a group is there, is adding's 11. A member is a basic type; any
+-- type is one, or `g` (103) and a group's number, which the field holds with 32768 added; a number is a class or an action.
 unfoldable pub valueOf : Field → List ℕ → Option ℕ
 valueOf Member w = numberTo 32767 w
 valueOf AnyType w = numberTo 32767 w orElse lettered 103 32768 32767 w

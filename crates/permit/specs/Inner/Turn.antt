@@ -14,9 +14,9 @@ use Rattle.format.specs.Check.{check}
 use Rattle.format.specs.Answers.{refused}
 use Rattle.lines.specs.Lines.{line, lines}
 use Rattle.lines.specs.Output.{restOf, ending}
-use Rattle.permit.specs.Inner.Put.{Front}
-use Rattle.permit.specs.declared.source.Got.{Got}
-use Rattle.permit.specs.declared.source.Got.the-variants as got
+use Rattle.streams.specs.Put.{Front}
+use Rattle.streams.specs.declared.Got.{Got}
+use Rattle.streams.specs.declared.Got.the-variants as got
 use Rattle.permit.specs.declared.serve.Turn.{Turn}
 
 abbrev pub came : Got → ℕ

@@ -74,12 +74,16 @@ returns-4 : tie.Need-returns-4 Inv-loop μ-loop
 returns-4 c = let d = c .before .before .before .before .before .before in rw (c .closed2 .ensures) (ended d (λ x. c .before .if4 .taken))
 
 loop-again : tie.Need-loop-again Inv-loop μ-loop
-loop-again c = let d = c .before .before .before .before .before in let l = d .before .before .before .before .before .before .before .before .loop in let a = d .before .before .before .before .before .before .before .before .before .before .before .args in
-    (omega arith, place-few d .2, place-few d .1, same-part d,
-    filling-on _ (a .kind) (l .i) (now (a .text)) (l .part) (d .put .last .0) (l .start) (l .at) (d .put .result) (d .before .before .before .before .before .field-at .result) (d .before .before .before .before .value .result)
-    (l .inv .4) (word-few d) (d .before .before .before .before .before .field-at .ensures) (word-is d) (omega arith) (omega arith) (omega (arith, place-few d .0, l .inv .3)) (d .put .ensures .0) (omega arith) (c .if4 .left),
-    l .inv .5 ∙ row-on _ (a .kind) (l .i) (now (a .text)) (l .part) (d .put .last .0) (l .start) (l .at) (d .put .result) (d .before .before .before .before .before .field-at .result) (d .before .before .before .before .value .result)
-    (l .inv .4) (word-few d) (d .before .before .before .before .before .field-at .ensures) (word-is d) (omega arith) (omega arith) (omega (arith, place-few d .0, l .inv .3)) (d .put .ensures .0) (omega arith) (c .if4 .left))
+loop-again c = let d = c .before .before .before .before .before in let l = d .before .before .before .before .before .before .before .before .loop in let a = d .before .before .before .before .before .before .before .before .before .before .before .args in (
+  omega arith,
+  place-few d .2,
+  place-few d .1,
+  same-part d,
+  filling-on _ (a .kind) (l .i) (now (a .text)) (l .part) (d .put .last .0) (l .start) (l .at) (d .put .result) (d .before .before .before .before .before .field-at .result) (d .before .before .before .before .value .result)
+      (l .inv .4) (word-few d) (d .before .before .before .before .before .field-at .ensures) (word-is d) (omega arith) (omega arith) (omega (arith, place-few d .0, l .inv .3)) (d .put .ensures .0) (omega arith) (c .if4 .left),
+  l .inv .5 ∙ row-on _ (a .kind) (l .i) (now (a .text)) (l .part) (d .put .last .0) (l .start) (l .at) (d .put .result) (d .before .before .before .before .before .field-at .result) (d .before .before .before .before .value .result)
+      (l .inv .4) (word-few d) (d .before .before .before .before .before .field-at .ensures) (word-is d) (omega arith) (omega arith) (omega (arith, place-few d .0, l .inv .3)) (d .put .ensures .0) (omega arith) (c .if4 .left),
+)
 
 pub fill-spec : {M : Type 1} → statement M
 fill-spec =

@@ -51,13 +51,14 @@ loop-less-2 c = let g = c .before .before .before .before .before .grow in let d
     omega (arith, h .0, h .1)
 
 loop-again-2 : tie.Need-loop-again-2 Inv-loop μ-loop
-loop-again-2 c = let g = c .before .before .before .before .before .grow in let d = c .before .before .before .before .before .before .before .before .before .before .record-at in let l = c .before .before .before .before .before .before .before .before .before .before .before .before .before .before .before .loop in let a = c .before .before .before .before .before .before .before .before .before .before .before .before .before .before .before .before .before .before .args in
-    (rows-ahead (now (a .text)) (l .at) (l .buffer) (omega arith) (c .before .before .before .before .before .before .before .before .before .before .before .before .if1 .left) (d .result) (d .last .1 .1 .0) (d .ensures) (c .before .before .before .before .before .before .before .before .if2 .left) (c .before .s .given .1) (g .ensures) .1,
-    g .kept .0 ∙ l .inv .1,
-    l .inv .2 ∙ rows-added (now (a .text)) (l .at) (l .buffer) (omega arith) (c .before .before .before .before .before .before .before .before .before .before .before .before .if1 .left) (d .result) (d .last .1 .1 .0) (d .ensures) (c .before .before .before .before .before .before .before .before .if2 .left) (c .before .s .given .1) (g .ensures),
-    g .ensures .accepted,
-    rows-starts (now (a .text)) (l .at) (l .buffer) (omega arith) (c .before .before .before .before .before .before .before .before .before .before .before .before .if1 .left) (d .result) (d .last .1 .1 .0) (d .ensures) (c .before .before .before .before .before .before .before .before .if2 .left) (c .before .s .given .1) (g .ensures),
-    omega (arith, d .kept .1 .1 .0, l .inv .5))
+loop-again-2 c = let g = c .before .before .before .before .before .grow in let d = c .before .before .before .before .before .before .before .before .before .before .record-at in let l = c .before .before .before .before .before .before .before .before .before .before .before .before .before .before .before .loop in let a = c .before .before .before .before .before .before .before .before .before .before .before .before .before .before .before .before .before .before .args in (
+  rows-ahead (now (a .text)) (l .at) (l .buffer) (omega arith) (c .before .before .before .before .before .before .before .before .before .before .before .before .if1 .left) (d .result) (d .last .1 .1 .0) (d .ensures) (c .before .before .before .before .before .before .before .before .if2 .left) (c .before .s .given .1) (g .ensures) .1,
+  g .kept .0 ∙ l .inv .1,
+  l .inv .2 ∙ rows-added (now (a .text)) (l .at) (l .buffer) (omega arith) (c .before .before .before .before .before .before .before .before .before .before .before .before .if1 .left) (d .result) (d .last .1 .1 .0) (d .ensures) (c .before .before .before .before .before .before .before .before .if2 .left) (c .before .s .given .1) (g .ensures),
+  g .ensures .accepted,
+  rows-starts (now (a .text)) (l .at) (l .buffer) (omega arith) (c .before .before .before .before .before .before .before .before .before .before .before .before .if1 .left) (d .result) (d .last .1 .1 .0) (d .ensures) (c .before .before .before .before .before .before .before .before .if2 .left) (c .before .s .given .1) (g .ensures),
+  omega (arith, d .kept .1 .1 .0, l .inv .5),
+)
 
 returns-3 : tie.Need-returns-3 Inv-loop μ-loop
 returns-3 c = let l = c .before .before .before .loop in let a = c .before .before .before .before .before .before .args in

@@ -55,10 +55,13 @@ returns-5 c = let d = c .before .before .before in let l = d .before .before .be
     ∙ upto-over _ _ _ (omega arith))
 
 loop-again : tie.Need-loop-again Inv-loop μ-loop
-loop-again c = let d = c .before .before .before in let l = d .before .before .before in let text = now (l .before .before .args .text) in
-    (omega arith, omega arith, omega arith,
-    end-next text _ (l .loop .i) (l .loop .inv .3) (omega arith) (λ x. absurd (omega (arith, x, d .wide .ensures .0))) (λ x. absurd (omega (arith, x, d .wide .ensures .0))),
-    l .loop .inv .4 ∙ digits-next text (l .loop .i) (l .loop .n) (d .wide .result) (d .wide .ensures .0) (omega arith) (omega arith) (omega arith))
+loop-again c = let d = c .before .before .before in let l = d .before .before .before in let text = now (l .before .before .args .text) in (
+  omega arith,
+  omega arith,
+  omega arith,
+  end-next text _ (l .loop .i) (l .loop .inv .3) (omega arith) (λ x. absurd (omega (arith, x, d .wide .ensures .0))) (λ x. absurd (omega (arith, x, d .wide .ensures .0))),
+  l .loop .inv .4 ∙ digits-next text (l .loop .i) (l .loop .n) (d .wide .result) (d .wide .ensures .0) (omega arith) (omega arith) (omega arith),
+)
 
 returns-6 : tie.Need-returns-6 Inv-loop μ-loop
 returns-6 c = let l = c .before in let text = now (l .before .before .args .text) in

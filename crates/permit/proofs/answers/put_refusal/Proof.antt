@@ -1,7 +1,7 @@
 -- `put_refusal` meets its contract. Assumes nothing.
 use borrow.Author.Needs.{needs}
 use native.Mathlib.Omega.{arith}
-use Rattle.permit.proofs.Laws.{put-front}
+use Rattle.streams.proofs.Puts.{put-front}
 use Rattle.permit.proofs.answers.put_refusal.Statement.{statement}
 use Rattle.permit.proofs.answers.put_refusal.Tie as tie
 

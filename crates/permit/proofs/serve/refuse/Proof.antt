@@ -7,11 +7,11 @@ use borrow.Author.Needs.{needs}
 use Rattle.permit.proofs.serve.refuse.Statement.{statement}
 use Rattle.permit.proofs.serve.refuse.Tie as tie
 
-slice-aggregate-write-all : tie.Need-slice-aggregate-write-all
-slice-aggregate-write-all c = sym (length-take-le (c .before .before .put-refusal .result) (c .before .before .put-refusal .last .1 .0) (omega arith))
+slice-aggregate-write-due : tie.Need-slice-aggregate-write-due
+slice-aggregate-write-due c = sym (length-take-le (c .before .before .put-refusal .result) (c .before .before .put-refusal .last .1 .0) (omega arith))
 
-write-all-requires : tie.Need-write-all-requires
-write-all-requires c κs = due-fault _ (c .before .before .before .before .pre) (c .before .before .put-refusal .ensures .bytes)
+write-due-requires : tie.Need-write-due-requires
+write-due-requires c κs = due-fault _ (c .before .before .before .before .pre) (c .before .before .put-refusal .ensures .bytes)
 
 pub refuse-spec : {M : Type 1} → statement M
 refuse-spec =
@@ -20,6 +20,6 @@ refuse-spec =
     (λ c. search needs)
     (λ c κs. search needs)
     (λ c. search needs)
-    slice-aggregate-write-all
-    write-all-requires
+    slice-aggregate-write-due
+    write-due-requires
     (λ c. search needs))

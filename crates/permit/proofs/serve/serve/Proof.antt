@@ -10,28 +10,25 @@ use Rattle.permit.proofs.serve.serve.Statement.{statement}
 use Rattle.permit.proofs.serve.serve.Tie as tie
 
 abbrev Inv-loop : tie.InvT-loop
-Inv-loop image input₀ numbers₀ output₀ kept₀ turns₀ input numbers output kept turns = (kept < 8) × (16384 ≡ length input) × (2048 ≡ length numbers) × (98304 ≡ length output)
+Inv-loop image input₀ numbers₀ output₀ kept₀ turns₀ t10 input numbers output kept turns = (kept < 8) × (16384 ≡ length input) × (2048 ≡ length numbers) × (98304 ≡ length output)
 
 abbrev μ-loop : tie.MeasureT-loop
-μ-loop image input₀ numbers₀ output₀ kept₀ turns₀ input numbers output kept turns = turns
+μ-loop image input₀ numbers₀ output₀ kept₀ turns₀ t10 input numbers output kept turns = turns
 
 loop-holds : tie.Need-loop-holds Inv-loop μ-loop
 loop-holds c = (omega arith, omega arith, omega arith, omega arith)
 
-read-between-requires : tie.Need-read-between-requires Inv-loop μ-loop
-read-between-requires c κs = (omega arith, omega arith)
-
 take-turn-requires : tie.Need-take-turn-requires Inv-loop μ-loop
-take-turn-requires c κs = (c .before .before .before .before .before .before .before .before .before .before .before .before .pre, omega arith, omega arith, omega arith, omega arith, c .before .before .before .before .read-between .ensures .0)
+take-turn-requires c κs = (c .before .before .before .before .before .before .before .before .before .before .before .before .before .pre, omega arith, omega arith, omega arith, omega arith, c .before .before .before .before .read-between .ensures .brings)
 
 array-share-prefix-output : tie.Need-array-share-prefix-output Inv-loop μ-loop
 array-share-prefix-output c = omega (arith, c .before .before .before .take-turn .ensures .written .fits)
 
-slice-aggregate-write-all : tie.Need-slice-aggregate-write-all Inv-loop μ-loop
-slice-aggregate-write-all c = sym (length-take-le (c .before .before .before .before .take-turn .result .end) (c .before .before .before .before .take-turn .last .1 .1 .1 .1 .1 .0) (omega (arith, c .before .before .before .before .take-turn .ensures .written .fits)))
+slice-aggregate-write-due : tie.Need-slice-aggregate-write-due Inv-loop μ-loop
+slice-aggregate-write-due c = sym (length-take-le (c .before .before .before .before .take-turn .result .end) (c .before .before .before .before .take-turn .last .1 .1 .1 .1 .1 .0) (omega (arith, c .before .before .before .before .take-turn .ensures .written .fits)))
 
-write-all-requires : tie.Need-write-all-requires Inv-loop μ-loop
-write-all-requires c κs = due-turn (c .before .before .before .before .take-turn .ensures)
+write-due-requires : tie.Need-write-due-requires Inv-loop μ-loop
+write-due-requires c κs = due-turn (c .before .before .before .before .take-turn .ensures)
 
 loop-again : tie.Need-loop-again Inv-loop μ-loop
 loop-again c = (omega (arith, c .before .before .before .before .before .before .before .before .take-turn .ensures .few), omega arith, omega arith, omega arith)
@@ -47,14 +44,15 @@ serve-spec =
     (λ c κs. search needs)
     loop-holds
     (λ c. search needs)
-    read-between-requires
+    (λ c. search needs)
+    (λ c κs. search needs)
     (λ c. search needs)
     (λ c. search needs)
     (λ c. search needs)
     take-turn-requires
     array-share-prefix-output
-    slice-aggregate-write-all
-    write-all-requires
+    slice-aggregate-write-due
+    write-due-requires
     (λ c. tt)
     (λ c. search needs)
     (λ c. tt)

@@ -4,7 +4,7 @@ use native.Mathlib.Omega.{arith}
 use Prim.Native.Nat.{_+_, _-_, _≤_, _<_}
 use mathlib.Core.Path.{sym}
 use lib.Seq.{length-take-le}
-use Rattle.permit.proofs.Inputs.{bytes-brought}
+use Rattle.streams.proofs.Inputs.{bytes-brought}
 use Rattle.permit.proofs.Turns.{turn-more, turn-ended, turn-failed}
 use Rattle.permit.proofs.serve.take_turn.Statement.{statement}
 use Rattle.permit.proofs.serve.take_turn.Tie as tie

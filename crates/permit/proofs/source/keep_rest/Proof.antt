@@ -5,7 +5,8 @@ use Prim.Native.Nat.{_%_}
 use mathlib.Core.Path.{sym, _∙_}
 use lib.ListN.{length-take}
 use lib.Seq.{length-take-le}
-use Rattle.permit.proofs.Laws.{copied-front, rest-taken, rest-long}
+use Rattle.streams.proofs.Puts.{copied-front}
+use Rattle.permit.proofs.Laws.{rest-taken, rest-long}
 use Rattle.permit.proofs.source.keep_rest.Statement.{statement}
 use Rattle.permit.proofs.source.keep_rest.Tie as tie
 
