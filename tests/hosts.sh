@@ -1,5 +1,5 @@
 #!/usr/bin/env bash
-# The hosts in C and in Rust build without a warning and print what the documents say.
+# The hosts in C and in Rust build without a warning and print what the documents say, and so do the commands of README.md.
 set -euo pipefail
 cd "$(dirname "$0")/.."
 library=${MUNGAITE_LIB:-$PWD/target/staticlib}
@@ -12,6 +12,15 @@ for source in examples/*.c; do
     cc -std=c99 -Wall -Wextra -Werror -pedantic -I include "$source" "$library/libmungaite.a" -o "$folder/$host"
     "$folder/$host" | diff - "examples/$host.stdout"
 done
+
+# The first example of README.md: a policy as text, turned into an image and asked.
+bin=$PWD/target/bin
+"${COMPILE:-$bin/compile}" < examples/sample.policy > "$folder/sample.image"
+head -c 80 crates/permit/stdin | cmp - "$folder/sample.image"
+answer=$({ cat "$folder/sample.image"; printf '\0\12\0\25\0\5\0\1'; } | "${PERMIT:-$bin/permit}")
+[ "$answer" = "P 0" ]
+refused=$(sed '2s/on/On/' examples/sample.policy | "${COMPILE:-$bin/compile}" 2>&1)
+[ "$refused" = "R 18 12 2" ]
 
 cd rust
 RUSTFLAGS='-D warnings' cargo test --release --offline --quiet -j1 > "$folder/tests" 2>&1 || { cat "$folder/tests"; exit 1; }
