@@ -6,7 +6,7 @@
 #   image those of format, extend of extension and text, decide and numbers of decision, permit, compile and streams of lines. All else is cited by laws.
 #   Free are values that are written out (the sample, the empty policy, the marked cases' records), and the tables of worked
 #   cases, whose proof is that they are computed.
-# - what meets the claims' terms (crates/claims/proofs, *Terms.antt and Cases.antt) cites no claim's own proof, but the
+# - what meets the claims' terms (crates/claims/proofs, *Terms.antt, Cases.antt and Worked.antt) cites no claim's own proof, but the
 #   statement's fields.
 # Prints file:line for each place that breaks one of these.
 bad=0
@@ -89,5 +89,5 @@ fails "$(awk -v claims="$claims" '
         n = split(part, names, /, */)
         for (i = 1; i <= n; i++) if (names[i] in claim) print FILENAME ":" FNR ": cites the proof of " names[i]
     }
-' crates/claims/proofs/*Terms.antt crates/claims/proofs/Cases.antt)"
+' crates/claims/proofs/*Terms.antt crates/claims/proofs/Cases.antt crates/claims/proofs/Worked.antt)"
 exit "$bad"

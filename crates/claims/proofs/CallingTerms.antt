@@ -1,11 +1,11 @@
 -- What meets the terms of the claims of the program's output and of the C interface, from the statement: no claim's own proof is
 -- cited. Assumes nothing.
 use native.Mathlib.Omega.{arith}
-use Prim.Native.Nat.{ℕ, suc, _*_, _≤_}
+use Prim.Native.Nat.{ℕ, suc, _*_, _≤_, _<_}
 use mathlib.Core.Option.{some}
 use mathlib.Core.Path.{_≡_, subst, refl, sym, ap, ap₂, _∙_}
-use mathlib.Core.List.{List, [], _∷_, map}
-use lib.ListN.{length, take}
+use mathlib.Core.List.{List, [], _∷_, _++_, map}
+use lib.ListN.{length, take, replicate, length-append, length-replicate}
 use Rattle.format.specs.declared.Section.the-variants.{Groups, Rules, Constraints}
 use Rattle.format.specs.Bytes.{Bytes}
 use Rattle.format.specs.Answers.{refused, outcome, extent}
@@ -19,14 +19,22 @@ use Rattle.decision.specs.Decide.{answer}
 use Rattle.decision.specs.Cases.{companion, withSpace, extended}
 use Rattle.decision.proofs.Cases.{Answers, marked-answers}
 use Rattle.decision.specs.Numbers.{OutcomeFits, DecisionFits}
-use Rattle.mungaite.specs.Claims.{FaultFits, ExtentFits, NumberFits, RowFits}
-use Rattle.mungaite.specs.Host.{hostRun}
+use Rattle.text.specs.Words.{ascii}
+use Rattle.text.proofs.Rows.{answerOf}
+use Rattle.lines.specs.Compiled.{compiled, reads, begun}
+use Rattle.mungaite.specs.Claims.{FaultFits, ExtentFits, NumberFits, RowFits, BuiltFits}
+use Rattle.mungaite.specs.Code.{buildCode}
+use Rattle.mungaite.specs.Host.{hostRun, hostBuilt}
 use Rattle.runs.specs.Runs.{runOf}
 use Rattle.runs.specs.Numbers.{numbersOf, numbersFault, numbersRun, rowCode, runCode}
 use Rattle.runs.specs.Cases.{member, transition, offRule}
 use Rattle.claims.specs.Promises.{Promises}
-use Rattle.claims.specs.Terms.{query, PrintingMet, CallingMet}
-use Rattle.claims.proofs.Cases.{companion-space, cut-bytes, row-answers, fitNumbers, unfitNumbers, run-numbers, inputs, near-line, no-rules-line, unknown-line, empty-printed, short-printed, three-printed}
+use Rattle.claims.specs.Terms.{query, byBytes, sampleText, outsideBehind, PrintingMet, CallingMet}
+use Rattle.claims.proofs.Cases.{companion-space, cut-bytes, row-answers, fitNumbers, unfitNumbers, run-numbers, inputs}
+use Rattle.claims.proofs.Worked.{near-line, no-rules-line, unknown-line, empty-printed, short-printed, three-printed}
+use Rattle.claims.proofs.Worked.{texts, reads-bytes, reads-once, reads-in-two, sample-compiled, refused-compiled, sample-built}
+use Rattle.claims.proofs.Worked.{length-code, build-refusal-code}
+use Rattle.claims.proofs.TextTerms.{far-outside}
 use Rattle.claims.proofs.ReadingTerms.{companion-after}
 use Rattle.claims.proofs.RunningTerms.{two-fit, two-unfit}
 
@@ -35,6 +43,10 @@ module _ (p : Promises) where
   answers = marked-answers (p .deciding .marked-cases)
 
   -- ---- printing
+
+  -- a text that comes byte by byte, in a buffer of 100 bytes
+  by-bytes : (text : List ℕ) → reads (begun (replicate 100 0)) (byBytes text) ≡ compiled text (replicate 100 0)
+  by-bytes text = p .printing .any-compiled text (replicate 100 0) (byBytes text) (omega (arith, length-replicate {A = ℕ} 100 0)) (reads-bytes text)
 
   pub printing-met : PrintingMet
   printing-met =
@@ -55,6 +67,13 @@ module _ (p : Promises) where
         no-rules-line = no-rules-line (p .printing .worked-lines);
         unknown-line = unknown-line (p .printing .worked-lines);
         three-printed = three;
+        compiled-by-bytes = λ text b h. p .printing .any-compiled text b (byBytes text) h (reads-bytes text);
+        compiled-at-once = λ text b h. p .printing .any-compiled text b (text ∷ []) h (reads-once text);
+        compiled-in-two = λ text more b h. p .printing .any-compiled (text ++ more) b (text ∷ [] ∷ more ∷ []) h (reads-in-two text more);
+        compiled-unread = λ b e. p .printing .any-compiled [] b [] (omega (arith, e)) (reads-bytes []);
+        compiled-all = texts .compiled;
+        sample-compiled = by-bytes sampleText ∙ sample-compiled (p .printing .worked-compiled);
+        refused-compiled = by-bytes (ascii "\n\nx") ∙ refused-compiled (p .printing .worked-compiled);
       }
 
   -- ---- calling
@@ -72,6 +91,9 @@ module _ (p : Promises) where
   refused-17 :
       (l ns : List ℕ) (slots : ℕ) → Accepted l → 4 ≤ length ns → length ns ≤ 259 → (length ns ≡ 4 * slots → ⊥) → numbersRun l ns slots ≡ refused (refusal 17 0)
   refused-17 l ns slots a h k z = p .calling .numbers-refused l ns slots (refusal 17 0) .0 (p .calling .numbers-faults l .1 a .2 (length ns) slots h k z)
+
+  outside-fits : (n : ℕ) → n ≤ 281474976710653 → length (outsideBehind n) < 281474976710656
+  outside-fits n h = omega (arith, h, length-append (replicate n 10) (10 ∷ ascii "x"), length-replicate {A = ℕ} n 10, texts .outside-length)
 
   pub calling-met : CallingMet
   calling-met =
@@ -112,6 +134,16 @@ module _ (p : Promises) where
         slot-read = c .run-read sample sample-bytes fitNumbers (7 ∷ 8 ∷ []) .1 1 (c .numbers-faults sample .1 passes .3 2 (omega arith) (omega arith)) (omega arith)
             ∙ ap (answer sample) (run-numbers .second)
             ∙ row-answers answers .transition-is;
+        built-fits = λ text b n h e. subst BuiltFits e (c .build-whole text b (omega (arith, h)));
+        built-refusal-fits = λ text b f h e.
+            (let k = subst BuiltFits e (c .build-whole text b (omega (arith, h))) in
+            (omega (arith, k .0), omega (arith, k .1), omega (arith, k .2)));
+        any-build-read = λ text b o h e. subst (λ x. hostBuilt (buildCode x) ≡ x) e (c .build-read text b (omega (arith, h)));
+        sample-build-read =
+            c .build-read sampleText (replicate 83 7) (omega (arith, texts .sample-length)) ∙ ap answerOf (sample-built (p .building .worked-texts));
+        far-build-read = λ n b h k. c .build-read (outsideBehind n) b (outside-fits n k) ∙ ap answerOf (far-outside p n b h);
+        length-code = length-code;
+        build-refusal-code = build-refusal-code;
         queries-run = λ l qs ys. c .numbers-run l qs ys .0;
         queries-codes = λ l qs ys e. c .numbers-run l qs ys .1 ∙ unless-accepted (map (rowCode l) qs) ys e;
         four-numbers = λ s d k a. c .numbers-whole (s ∷ d ∷ k ∷ a ∷ []) 1 refl;

@@ -1,8 +1,8 @@
 -- Facts of values that are written out, by computation. Assumes nothing.
 use Prim.Native.Nat.{ℕ}
 use native.Mathlib.Omega.{arith}
-use mathlib.Core.Path.{_≡_, refl, sym, ap, _∙_}
-use mathlib.Core.List.{List, [], _∷_, _++_, flatten, map}
+use mathlib.Core.Path.{_≡_, refl, sym, _∙_}
+use mathlib.Core.List.{List, [], _∷_, _++_, flatten}
 use lib.ListN.{length, getD, take, drop, replicate}
 use Rattle.format.specs.declared.Section.the-variants.{Rules, Constraints}
 use Rattle.format.specs.Bytes.{Bytes, wordAt, words}
@@ -15,18 +15,17 @@ use Rattle.format.proofs.Front.{image-in-of}
 use Rattle.extension.specs.Add.{sectionOf}
 use Rattle.extension.proofs.Adds.{section-of}
 use Rattle.format.specs.Answers.{refused, gives}
-use Rattle.decision.specs.declared.Nearest.the-variants.{NoRules, Near}
-use Rattle.decision.specs.Decide.{notPermitted, permitted, unknown, answer}
+use Rattle.decision.specs.declared.Nearest.the-variants.{Near}
+use Rattle.decision.specs.Decide.{notPermitted, permitted, answer}
 use Rattle.decision.specs.Cases.{g0, allow, companion, withSpace}
 use Rattle.decision.specs.Rows.{queryAt}
 use Rattle.format.specs.Refusals.{refusal}
 use Rattle.decision.proofs.Cases.{Answers}
 use Rattle.runs.specs.Numbers.{rowsOf, numbersOf}
 use Rattle.runs.specs.Cases.{member, group, transition, offRule, noSource, runCases, numberCases}
-use Rattle.lines.specs.Lines.{line}
-use Rattle.lines.specs.Output.{imageSize, printed}
-use Rattle.lines.specs.Worked.{ascii, workedLines, lineOf, lineSaid, WorkedLines, asked, workedRuns, runOf, runSaid, WorkedRuns}
-use Rattle.claims.specs.Terms.{query, threeQueries, twoAndPart, threeSaid, byBytes, tooShort}
+use Rattle.lines.specs.Output.{imageSize}
+use Rattle.lines.specs.Worked.{workedLines, asked, workedRuns}
+use Rattle.claims.specs.Terms.{query, threeQueries, twoAndPart, byBytes, tooShort}
 
 pub empty-nine : length empty ≡ 9
 unfolding empty
@@ -144,32 +143,3 @@ pub record RunNumbers : Type 0 where
 pub run-numbers : RunNumbers
 unfolding member transition offRule rowsOf numbersOf runCases numberCases
 run-numbers = record { fit = refl; unfit = refl; second = refl; cases = refl; number-cases = refl }
-
-module _ (e : WorkedLines) where
-  pub unknown-line : line (gives (unknown 1023 255)) ≡ ascii "U 1023 255\n"
-  unfolding workedLines lineOf lineSaid
-  unknown-line = ap (λ (xs : List (List ℕ)). getD xs 6 []) e
-
-  pub near-line : line (gives (notPermitted (Near 4 1023))) ≡ ascii "N 4 1023\n"
-  unfolding workedLines lineOf lineSaid
-  near-line = ap (λ (xs : List (List ℕ)). getD xs 2 []) e
-
-  pub no-rules-line : line (gives (notPermitted NoRules)) ≡ ascii "N -\n"
-  unfolding workedLines lineOf lineSaid
-  no-rules-line = ap (λ (xs : List (List ℕ)). getD xs 0 []) e
-
-module _ (e : WorkedRuns) where
-  run-row : (n : ℕ) → getD (map runOf workedRuns) n [] ≡ getD (map runSaid workedRuns) n []
-  run-row n = ap (λ (xs : List (List ℕ)). getD xs n []) e
-
-  pub empty-printed : printed empty ≡ []
-  unfolding workedRuns runOf runSaid ascii
-  empty-printed = run-row 2
-
-  pub short-printed : printed tooShort ≡ ascii "R 3 0\n"
-  unfolding workedRuns runOf runSaid
-  short-printed = run-row 12
-
-  pub three-printed : printed (sample ++ threeQueries) ≡ ascii threeSaid
-  unfolding workedRuns runOf runSaid
-  three-printed = run-row 14

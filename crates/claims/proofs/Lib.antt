@@ -1,8 +1,11 @@
 pub mod Promises
 pub mod Cases
+pub mod Worked
 pub mod ReadingTerms
 pub mod DecidingTerms
 pub mod RunningTerms
 pub mod NearingTerms
+pub mod TextTerms
+pub mod BuildingTerms
 pub mod CallingTerms
 pub mod Terms

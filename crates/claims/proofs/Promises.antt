@@ -20,11 +20,17 @@ use Rattle.runs.proofs.Faults as faults
 use Rattle.runs.proofs.Holds as holds
 use Rattle.runs.proofs.Numbered as numbered
 use Rattle.runs.proofs.Cases as runs
+use Rattle.text.proofs.Follow as follow
+use Rattle.text.proofs.Accepted as built
+use Rattle.text.proofs.Space as space
+use Rattle.text.proofs.Cases as texts
 use Rattle.lines.proofs.Numbers as numbers
 use Rattle.lines.proofs.Output as output
+use Rattle.lines.proofs.Compiled as compiled
 use Rattle.lines.proofs.Worked as worked
 use Rattle.mungaite.proofs.Whole as whole
 use Rattle.mungaite.proofs.Host as host
+use Rattle.mungaite.proofs.Built as number
 use Rattle.claims.specs.Promises.{Promises}
 
 pub promises : Promises
@@ -106,12 +112,31 @@ promises =
         decisions-stay = before.decisions-stay;
         step-cases = cases.step-cases;
       };
+      building = record {
+        each-row-added = built.each-row-added;
+        rows-enough = follow.rows-enough;
+        built-accepted = built.built-accepted;
+        last-line-feed = follow.last-line-feed;
+        last-row-counts = built.last-row-counts;
+        next-rows = follow.next-rows;
+        refused-stops = follow.refused-stops;
+        refused-keeps = follow.refused-keeps;
+        refused-short = follow.refused-short;
+        own-numbers = built.own-numbers;
+        space-enough = space.space-enough;
+        worked-rows = texts.worked-rows;
+        worked-outside = texts.worked-outside;
+        worked-full = texts.worked-full;
+        worked-texts = texts.worked-texts;
+      };
       printing = record {
         decimal-fewest = numbers.decimal-fewest;
         decimal-read = numbers.decimal-read;
         any-reads = output.any-reads;
+        any-compiled = compiled.any-compiled;
         worked-lines = worked.worked-lines;
         worked-runs = worked.worked-runs;
+        worked-compiled = worked.worked-compiled;
       };
       calling = record {
         check-whole = whole.check-whole;
@@ -119,6 +144,7 @@ promises =
         record-whole = whole.record-whole;
         add-whole = whole.add-whole;
         run-whole = whole.run-whole;
+        build-whole = number.build-whole;
         parts-whole = coded.parts-whole;
         parts-read = coded.parts-read;
         check-read = host.check-read;
@@ -126,6 +152,7 @@ promises =
         record-read = host.record-read;
         add-read = host.add-read;
         run-read = host.run-read;
+        build-read = number.build-read;
         numbers-run = numbered.numbers-run;
         numbers-faults = faults.numbers-faults;
         numbers-whole = numbered.numbers-whole;

@@ -2,9 +2,9 @@
 -- it says beside it. The one proof of all is `promises` (proofs/Promises.antt), and specs/Terms.antt says what meets the claims' terms.
 --
 -- What is not here: that the code answers what the definitions say. That is each function's contract, above its body in src/:
--- `check`, `record`, `add`, `decide`, `run` and those for C each give, for every input, the answer and the bytes that a definition
--- gives (`check`, `givenRecord`, `bufferAfter`, `answer`, `runOf`, `answersAfter`, `decisionCode`, ..). docs/CLAIMS.md leads from each
--- sentence of the documents to its claim or its contract.
+-- `check`, `record`, `add`, `decide`, `run`, `build` and those for C each give, for every input, the answer and the bytes that a
+-- definition gives (`check`, `givenRecord`, `bufferAfter`, `answer`, `runOf`, `answersAfter`, `built`, `decisionCode`, ..).
+-- docs/CLAIMS.md leads from each sentence of the documents to its claim or its contract.
 use Rattle.format.specs.Claims.{AcceptedIsWellFormed, WellFormedIsAccepted, RecordsGiven, AllGiven, NoneGiven, EmptyTells, ReferencesHeld}
 use Rattle.format.specs.Longest.{LongestImage, LongestReached}
 use Rattle.format.specs.Sample.{SampleAccepted}
@@ -23,9 +23,12 @@ use Rattle.decision.specs.Rows.{RowsAnswered, SlotsStay, RowsWhole, RowAlone}
 use Rattle.runs.specs.Claims.{FitExactly, UnfitFirst, LastCounts, RunRefused, RunFaults, EachAnswered, SlotsLeft, OwnRow, OneRow, AnswerSaid}
 use Rattle.runs.specs.Claims.{NumbersRun, NumbersWhole, NumbersAnswered, NumbersRefused, NumbersLeft, NumbersFaults}
 use Rattle.runs.specs.Cases.{RunCases, NumberCases}
-use Rattle.lines.specs.Claims.{DecimalFewest, DecimalRead, AnyReads}
-use Rattle.lines.specs.Worked.{WorkedLines, WorkedRuns}
-use Rattle.mungaite.specs.Claims.{CheckWhole, RecordWhole, AddWhole, RunWhole, CheckRead, RecordRead, AddRead, RunRead}
+use Rattle.text.specs.Claims.{EachRowAdded, RowsEnough, BuiltAccepted, LastLineFeed, LastRowCounts, NextRows, RefusedStops, RefusedKeeps}
+use Rattle.text.specs.Claims.{RefusedShort, OwnNumbers, SpaceEnough}
+use Rattle.text.specs.Cases.{WorkedRows, WorkedOutside, WorkedFull, WorkedTexts}
+use Rattle.lines.specs.Claims.{DecimalFewest, DecimalRead, AnyReads, AnyCompiled}
+use Rattle.lines.specs.Worked.{WorkedLines, WorkedRuns, WorkedCompiled}
+use Rattle.mungaite.specs.Claims.{CheckWhole, RecordWhole, AddWhole, RunWhole, BuildWhole, CheckRead, RecordRead, AddRead, RunRead, BuildRead}
 
 -- Demand 1: every policy that meets the layout is accepted with all its records, the last included; everything else is refused.
 pub record Reading : Type 0 where
@@ -171,16 +174,51 @@ pub record Nearing : Type 0 where
   -- cases worked out from the request
   pub step-cases : StepCases
 
--- The program's output.
+-- Request 3: policies as text.
+pub record Building : Type 0 where
+  -- a text that is not refused leaves what adding each row's record in order to the empty policy leaves, answers that image's length,
+  -- and adds as many records as it has rows that are not empty
+  pub each-row-added : EachRowAdded
+  -- where each row's record is added without a refusal, the text is not refused
+  pub rows-enough : RowsEnough
+  -- refused or not, the buffer starts with the image of a policy that meets the layout, and the bytes past it stay
+  pub built-accepted : BuiltAccepted
+  -- a line feed at the end changes nothing
+  pub last-line-feed : LastLineFeed
+  -- a last row counts without a line feed behind it
+  pub last-row-counts : LastRowCounts
+  -- what follows a line feed is added to what the text before it left, with its places in the whole text
+  pub next-rows : NextRows
+  -- behind a refused row nothing is read
+  pub refused-stops : RefusedStops
+  -- a refusal's place is its row's first byte, the buffer is what the text before that place builds, and the number is the row's own:
+  -- 18 where it is outside the form, else that of adding its record
+  pub refused-keeps : RefusedKeeps
+  -- a buffer under 9 bytes is untouched, and 13 at place 0 comes before any row
+  pub refused-short : RefusedShort
+  -- no other number than 11, 12, 13 and 18
+  pub own-numbers : OwnNumbers
+  -- a buffer that holds the longest image is never short
+  pub space-enough : SpaceEnough
+  -- rows with their records, rows outside the form and behind a full section, texts in buffers of a size, worked out from the request
+  pub worked-rows : WorkedRows
+  pub worked-outside : WorkedOutside
+  pub worked-full : WorkedFull
+  pub worked-texts : WorkedTexts
+
+-- The programs' output.
 pub record Printing : Type 0 where
   -- a number has the fewest digits that hold it, and they read back as that number
   pub decimal-fewest : DecimalFewest
   pub decimal-read : DecimalRead
   -- however reads cut the input, the output is the same
   pub any-reads : AnyReads
-  -- lines and whole outputs, written out from document 01
+  -- however reads cut a text, what `compile` writes is the same
+  pub any-compiled : AnyCompiled
+  -- lines and whole outputs, written out from the documents
   pub worked-lines : WorkedLines
   pub worked-runs : WorkedRuns
+  pub worked-compiled : WorkedCompiled
 
 -- The C interface's numbers.
 pub record Calling : Type 0 where
@@ -190,6 +228,7 @@ pub record Calling : Type 0 where
   pub record-whole : RecordWhole
   pub add-whole : AddWhole
   pub run-whole : RunWhole
+  pub build-whole : BuildWhole
   -- parts that fit are in the number as they are, and are read back from it
   pub parts-whole : PartsWhole
   pub parts-read : PartsRead
@@ -199,6 +238,7 @@ pub record Calling : Type 0 where
   pub record-read : RecordRead
   pub add-read : AddRead
   pub run-read : RunRead
+  pub build-read : BuildRead
   -- a run over the numbers of rows is the run over the rows, and every list of whole rows is such numbers
   pub numbers-run : NumbersRun
   pub numbers-whole : NumbersWhole
@@ -218,5 +258,6 @@ pub record Promises : Type 0 where
   pub ordering : Ordering
   pub running : Running
   pub nearing : Nearing
+  pub building : Building
   pub printing : Printing
   pub calling : Calling

@@ -7,8 +7,11 @@
 --     threeQueries        document 01's first, third and fourth query, and what the program prints for them
 --     twoAndPart          two of them, and 7 bytes
 --     byBytes b           reads that bring one byte each
---     ReadingMet, AddingMet, DecidingMet, OrderingMet, RunningMet, NearingMet, PrintingMet, CallingMet   by the parts of the
---                                statement
+--     sampleText, trans   document 01's sample as text, and a row by itself
+--     left text b         what a text leaves of the buffer b
+--     outsideBehind n     n line feeds and one more, and a row outside the form
+--     ReadingMet, AddingMet, DecidingMet, OrderingMet, RunningMet, NearingMet, BuildingMet, PrintingMet, CallingMet   by the parts of
+--                                the statement
 use Prim.Native.Nat.{ℕ, suc, _+_, _*_, _/_, _%_, _<_, _≤_}
 use Prim.Native.String.{String}
 use mathlib.Core.Path.{_≡_}
@@ -23,14 +26,19 @@ use Rattle.format.specs.Bytes.{Bytes}
 use Rattle.format.specs.Refusals.{refusal}
 use Rattle.format.specs.Format.{limitOf}
 use Rattle.format.specs.Policy.{Policy, recordsOf, imageOf, policyOf, placeOf}
-use Rattle.format.specs.Check.{check, Accepted, imageIn}
+use Rattle.format.specs.Check.{check, Accepted, imageIn, checkFront}
 use Rattle.format.specs.Answers.{Outcome, refused, gives, outcome, extent}
 use Rattle.format.specs.Give.{giveFault, givenRecord}
 use Rattle.format.specs.Claims.{IsType, typeFields, WellFormed, givenFrom}
 use Rattle.format.specs.Sample.{sample, empty}
 use Rattle.format.specs.Longest.{longest}
-use Rattle.extension.specs.Add.{addFault, newNumber, bufferAfter}
+use Rattle.extension.specs.Add.{addFault, newNumber, bufferAfter, overwrite}
 use Rattle.extension.specs.Claims.{addAll, allRecords}
+use Rattle.text.specs.Words.{ascii, split}
+use Rattle.text.specs.Rows.{recordOfRow}
+use Rattle.text.specs.Build.{rowFault, rowsFrom, built}
+use Rattle.text.specs.Claims.{recordsIn, recordCount, complete, allAdded}
+use Rattle.text.specs.Cases.{workedRows, outsideRows, members, groupOf, fullGroups, oneTransition, workedTexts}
 use Rattle.decision.specs.declared.Query.{Query}
 use Rattle.decision.specs.declared.Nearest.{Nearest}
 use Rattle.decision.specs.declared.Nearest.the-variants.{NoRules, Near}
@@ -54,12 +62,13 @@ use Rattle.runs.specs.Claims.{Permits}
 use Rattle.runs.specs.Cases.{member, group, transition, offRule, noSource, runCases, numberCases}
 use Rattle.lines.specs.Lines.{width, decimal, line}
 use Rattle.lines.specs.Output.{imageSize, printed, ran}
+use Rattle.lines.specs.Compiled.{compiled, reads, begun}
 use Rattle.lines.specs.Claims.{readFrom}
-use Rattle.lines.specs.Worked.{ascii, workedLines, asked, workedRuns}
+use Rattle.lines.specs.Worked.{workedLines, asked, workedRuns, workedCompiled}
 use Rattle.decision.specs.Numbers.{partsOf, decisionCode, hostDecision}
 use Rattle.decision.specs.Rows.{rowsIn, answered, rowAt}
-use Rattle.mungaite.specs.Code.{faultCode, recordCode, addCode}
-use Rattle.mungaite.specs.Host.{hostChecked, hostFound, hostAdded, hostRun}
+use Rattle.mungaite.specs.Code.{faultCode, recordCode, addCode, buildCode}
+use Rattle.mungaite.specs.Host.{hostChecked, hostFound, hostAdded, hostRun, hostBuilt}
 
 abbrev pub query : ℕ → ℕ → ℕ → ℕ → Query
 query s d c a = record { source = s; dest = d; class = c; action = a }
@@ -81,6 +90,20 @@ threeSaid = "P 0\nN 1 0\nP 2\n"
 
 abbrev pub byBytes : List ℕ → List (List ℕ)
 byBytes = map (λ b. b ∷ [])
+
+abbrev pub sampleText : List ℕ
+sampleText =
+    ascii
+    "group 20 21\nallow 10 g0 5 1 on\nallow 20 30 5 2 on\ntrans 12 20 5\nallow 13 21 5 1 off\nlimit 5 1 10 21 2 10\nlimit 5 2 20 30 1"
+
+abbrev pub trans : List ℕ
+trans = ascii "trans 12 20 5"
+
+abbrev pub left : List ℕ → List ℕ → List ℕ
+left text b = built text b .buffer
+
+abbrev pub outsideBehind : ℕ → List ℕ
+outsideBehind n = replicate n 10 ++ (10 ∷ ascii "x")
 
 -- a length field of 8, and more
 abbrev pub tooShort : List ℕ
@@ -387,6 +410,122 @@ pub record NearingMet : Type 0 where
   pub lowest-near : answer (extended (extended empty (allow 10 21 5 1)) (allow 10 21 5 2)) (query 10 21 5 3) ≡ gives (notPermitted (Near 4 0))
   pub last-rule-near : answer (sampleAnd (allow 14 21 5 7)) (query 14 21 5 8) ≡ gives (notPermitted (Near 4 4))
 
+pub record BuildingMet : Type 0 where
+  -- EachRowAdded: the answer is the image's length; the records of the rows, each added, the buffer and the count of them; a text with a
+  -- row outside the form is refused; the sample has 7 rows
+  pub answer-length : (text b : List ℕ) (n : ℕ) → built text b .answer ≡ gives n → n ≡ length (imageIn (left text b))
+  pub rows-left :
+      (text b : List ℕ) (n : ℕ) (rs : List (List ℕ)) → built text b .answer ≡ gives n → recordsIn (split 10 text) ≡ some rs
+      → (left text b ≡ addAll (overwrite empty b) rs) × (recordCount (left text b) ≡ length rs) × allAdded (overwrite empty b) rs
+  pub outside-refused : (text b : List ℕ) (n : ℕ) → recordsIn (split 10 text) ≡ none → built text b .answer ≡ gives n → ⊥
+  pub sample-seven : recordCount (sample ++ replicate 3 7) ≡ 7
+  -- RowsEnough: no record, one, any; in a buffer of 9 bytes too
+  pub no-record :
+      (text b : List ℕ) → 9 ≤ length b → recordsIn (split 10 text) ≡ some [] → built text b ≡ complete (overwrite empty b)
+  pub one-record :
+      (text b r : List ℕ) → 9 ≤ length b → recordsIn (split 10 text) ≡ some (r ∷ []) → addFault (overwrite empty b) r ≡ none
+      → built text b ≡ complete (bufferAfter (overwrite empty b) r)
+  pub no-record-refused :
+      (text b : List ℕ) (rs : List (List ℕ)) (f : Refusal) → 9 ≤ length b → recordsIn (split 10 text) ≡ some rs
+      → allAdded (overwrite empty b) rs → built text b .answer ≡ refused f → ⊥
+  pub nine-bytes : (b : List ℕ) → length b ≡ 9 → built [] b ≡ complete (overwrite empty b)
+  -- BuiltAccepted: of every text; the bytes past the image are those of before, and none is added or lost; in a buffer of 9 bytes too
+  pub left-accepted : (text b : List ℕ) → 9 ≤ length b → checkFront (left text b) ≡ none
+  pub left-well-formed : (text b : List ℕ) → 9 ≤ length b → WellFormed (policyOf (imageIn (left text b)))
+  pub left-behind :
+      (text b : List ℕ) → 9 ≤ length b
+      → (drop (length (imageIn (left text b))) (left text b) ≡ drop (length (imageIn (left text b))) b) × (length (left text b) ≡ length b)
+  pub nine-accepted : (text b : List ℕ) → length b ≡ 9 → checkFront (left text b) ≡ none
+  -- LastLineFeed: behind no byte, behind any text, and one more, in any buffer
+  pub feed-alone : (b : List ℕ) → built (10 ∷ []) b ≡ built [] b
+  pub feed-behind : (text b : List ℕ) → left (text ++ (10 ∷ [])) b ≡ left text b
+  pub feeds-behind : (text b : List ℕ) → built (text ++ (10 ∷ 10 ∷ [])) b ≡ built text b
+  -- LastRowCounts: any row alone, `trans 12 20 5` alone, and behind any text
+  pub row-counts :
+      (row b : List ℕ) (n : ℕ) → split 10 row ≡ row ∷ [] → 1 ≤ length row → built row b .answer ≡ gives n → recordCount (left row b) ≡ 1
+  pub trans-counts : (b : List ℕ) (n : ℕ) → built trans b .answer ≡ gives n → recordCount (left trans b) ≡ 1
+  pub trans-behind :
+      (text b : List ℕ) (n : ℕ) → built (text ++ (10 ∷ trans)) b .answer ≡ gives n
+      → recordCount (left (text ++ (10 ∷ trans)) b) ≡ suc (recordCount (left text b))
+  -- NextRows: behind an empty row; a row outside the form, with its place, behind any text and behind any number of empty rows; no
+  -- place before it
+  pub next-first : (more b : List ℕ) → 9 ≤ length b → built (10 ∷ more) b ≡ rowsFrom 1 (split 10 more) (overwrite empty b)
+  pub next-outside :
+      (text b : List ℕ) (n : ℕ) → built text b .answer ≡ gives n
+      → built (text ++ (10 ∷ ascii "x")) b ≡ record { answer = refused (refusal 18 (suc (length text))); buffer = left text b }
+  pub far-outside :
+      (n : ℕ) (b : List ℕ) → 9 ≤ length b
+      → built (outsideBehind n) b ≡ record { answer = refused (refusal 18 (suc n)); buffer = overwrite empty b }
+  pub next-place :
+      (text more b : List ℕ) (n : ℕ) (f : Refusal) → built text b .answer ≡ gives n → built (text ++ (10 ∷ more)) b .answer ≡ refused f
+      → suc (length text) ≤ f .place
+  -- RefusedStops: whatever follows, of the answer and of the buffer; a first row outside the form
+  pub refused-whatever :
+      (text more b : List ℕ) (f : Refusal) → built text b .answer ≡ refused f
+      → (built (text ++ (10 ∷ more)) b .answer ≡ refused f) × (left (text ++ (10 ∷ more)) b ≡ left text b)
+  pub first-outside :
+      (more b : List ℕ) → 9 ≤ length b
+      → built (ascii "x" ++ (10 ∷ more)) b ≡ record { answer = refused (refusal 18 0); buffer = overwrite empty b }
+  -- RefusedKeeps: the place is one of the text, the first or behind a line feed; the text before it is not refused, and leaves the same;
+  -- in a buffer of 9 bytes too
+  pub place-inside : (text b : List ℕ) (f : Refusal) → 9 ≤ length b → built text b .answer ≡ refused f → suc (f .place) ≤ length text
+  pub place-behind :
+      (text b : List ℕ) (f : Refusal) (n : ℕ) → 9 ≤ length b → built text b .answer ≡ refused f → f .place ≡ suc n → getD text n 0 ≡ 10
+  pub before-builds :
+      (text b : List ℕ) (f : Refusal) → 9 ≤ length b → built text b .answer ≡ refused f
+      → ((n : ℕ) × (built (take (f .place) text) b .answer ≡ gives n)) × (left (take (f .place) text) b ≡ left text b)
+  pub nine-refused : (text b : List ℕ) (f : Refusal) → length b ≡ 9 → built text b .answer ≡ refused f → f .place < length text
+  -- and the row there is the cause, whichever it is: outside the form, so 18; else its record, with the number of adding it
+  pub row-refused :
+      (text b : List ℕ) (f : Refusal) → 9 ≤ length b → built text b .answer ≡ refused f
+      → (row : List ℕ) × (rows : List (List ℕ)) × (split 10 (drop (f .place) text) ≡ row ∷ rows) × (1 ≤ length row)
+  pub row-outside :
+      (text b row : List ℕ) (rows : List (List ℕ)) (f : Refusal) → 9 ≤ length b → built text b .answer ≡ refused f
+      → split 10 (drop (f .place) text) ≡ row ∷ rows → recordOfRow row ≡ none → f .number ≡ 18
+  pub row-not-added :
+      (text b row r : List ℕ) (rows : List (List ℕ)) (f : Refusal) → 9 ≤ length b → built text b .answer ≡ refused f
+      → split 10 (drop (f .place) text) ≡ row ∷ rows → recordOfRow row ≡ some r
+      → (g : Refusal) × (addFault (left text b) r ≡ some g) × (f .number ≡ g .number)
+  -- RefusedShort: 8 bytes, none, any below 9
+  pub eight-bytes : (text b : List ℕ) → length b ≡ 8 → built text b ≡ record { answer = refused (refusal 13 0); buffer = b }
+  pub no-bytes : (text : List ℕ) → built text [] ≡ record { answer = refused (refusal 13 0); buffer = [] }
+  pub short-left : (text b : List ℕ) → length b ≤ 8 → left text b ≡ b
+  -- OwnNumbers: one of the four; so neither 10, nor 14, nor 0
+  pub own-alone :
+      (text b : List ℕ) (f : Refusal) → built text b .answer ≡ refused f → (f .number ≡ 11 → ⊥) → (f .number ≡ 12 → ⊥)
+      → (f .number ≡ 13 → ⊥) → (f .number ≡ 18 → ⊥) → ⊥
+  pub never-10 : (text b : List ℕ) (f : Refusal) → built text b .answer ≡ refused f → f .number ≡ 10 → ⊥
+  pub never-14 : (text b : List ℕ) (f : Refusal) → built text b .answer ≡ refused f → f .number ≡ 14 → ⊥
+  pub never-0 : (text b : List ℕ) (f : Refusal) → built text b .answer ≡ refused f → f .number ≡ 0 → ⊥
+  -- SpaceEnough: a buffer of 55,561 bytes, and of more; so what is refused there is a row's own, 11, 12 or 18
+  pub longest-enough : (text b : List ℕ) (f : Refusal) → length b ≡ 55561 → built text b .answer ≡ refused f → f .number ≡ 13 → ⊥
+  pub space-own :
+      (text b : List ℕ) (f : Refusal) → 55561 ≤ length b → built text b .answer ≡ refused f → (f .number ≡ 11 → ⊥) → (f .number ≡ 12 → ⊥)
+      → (f .number ≡ 18 → ⊥) → ⊥
+  -- WorkedRows, WorkedOutside, WorkedFull, WorkedTexts: all of them, and some by themselves
+  pub worked-all : (length workedRows ≡ 13) × (length outsideRows ≡ 66) × (length workedTexts ≡ 23)
+  pub off-row :
+      recordOfRow (ascii "allow g32767 32767 65535 0 off") ≡ some (11 ∷ 2 ∷ 255 ∷ 255 ∷ 127 ∷ 255 ∷ 255 ∷ 255 ∷ 0 ∷ 0 ∷ 0 ∷ [])
+  pub list-row :
+      recordOfRow (ascii "limit 1 2 3 4 2 g5 6") ≡ some (15 ∷ 4 ∷ 0 ∷ 1 ∷ 0 ∷ 2 ∷ 0 ∷ 3 ∷ 0 ∷ 4 ∷ 2 ∷ 128 ∷ 5 ∷ 0 ∷ 6 ∷ [])
+  pub return-outside : recordOfRow (ascii "group 1\r") ≡ none
+  pub zero-outside : recordOfRow (ascii "group 01") ≡ none
+  pub class-outside : recordOfRow (ascii "allow 1 2 65536 4 on") ≡ none
+  pub zero-byte : recordOfRow (ascii "group 1" ++ (0 ∷ [])) ≡ none
+  pub high-byte : recordOfRow (ascii "group " ++ (177 ∷ [])) ≡ none
+  pub members-outside : recordOfRow (ascii "group" ++ groupOf (members 65)) ≡ none
+  pub members-most : recordOfRow (ascii "group" ++ groupOf (members 64)) ≡ some (130 ∷ 1 ∷ groupOf (replicate 64 (0 ∷ 7 ∷ [])))
+  pub full-12 : rowFault 5 (ascii "group 1") fullGroups ≡ some (refusal 12 5)
+  pub full-18 : rowFault 5 (ascii "x") fullGroups ≡ some (refusal 18 5)
+  pub full-11 : rowFault 5 (ascii "group 1024") fullGroups ≡ some (refusal 11 5)
+  pub full-13 : rowFault 5 (ascii "trans 1 g255 3") fullGroups ≡ some (refusal 13 5)
+  pub sample-built : built sampleText (replicate 83 7) ≡ record { answer = gives 80; buffer = sample ++ replicate 3 7 }
+  pub trans-built : built trans (replicate 17 7) ≡ record { answer = gives 17; buffer = oneTransition }
+  pub trans-short : built trans (replicate 16 7) ≡ record { answer = refused (refusal 13 0); buffer = empty ++ replicate 7 7 }
+  pub outside-full :
+      built (ascii "trans 12 20 5\nx") (replicate 17 7) ≡ record { answer = refused (refusal 18 14); buffer = oneTransition }
+  pub return-refused : built (ascii "group 1\r\n") (replicate 13 7) ≡ record { answer = refused (refusal 18 0); buffer = empty ++ replicate 4 7 }
+
 pub record PrintingMet : Type 0 where
   -- DecimalFewest, DecimalRead: the largest usize
   pub largest-fewest : Fewest 10 1 18446744073709551615 (width 18446744073709551615)
@@ -406,6 +545,15 @@ pub record PrintingMet : Type 0 where
   pub no-rules-line : line (gives (notPermitted NoRules)) ≡ ascii "N -\n"
   pub unknown-line : line (gives (unknown 1023 255)) ≡ ascii "U 1023 255\n"
   pub three-printed : printed (sample ++ threeQueries) ≡ ascii threeSaid
+  -- AnyCompiled: byte by byte, in one read, in two with one between that brings nothing, in none; in a buffer of 9 bytes too
+  pub compiled-by-bytes : (text b : List ℕ) → 9 ≤ length b → reads (begun b) (byBytes text) ≡ compiled text b
+  pub compiled-at-once : (text b : List ℕ) → 9 ≤ length b → reads (begun b) (text ∷ []) ≡ compiled text b
+  pub compiled-in-two : (text more b : List ℕ) → 9 ≤ length b → reads (begun b) (text ∷ [] ∷ more ∷ []) ≡ compiled (text ++ more) b
+  pub compiled-unread : (b : List ℕ) → length b ≡ 9 → reads (begun b) [] ≡ compiled [] b
+  -- WorkedCompiled: all of them; the sample's text and a refused row, byte by byte
+  pub compiled-all : length workedCompiled ≡ 7
+  pub sample-compiled : reads (begun (replicate 100 0)) (byBytes sampleText) ≡ record { output = sample; errors = [] }
+  pub refused-compiled : reads (begun (replicate 100 0)) (byBytes (ascii "\n\nx")) ≡ record { output = []; errors = ascii "R 18 2 3\n" }
 
 pub record CallingMet : Type 0 where
   -- CheckWhole, DecideWhole, RecordWhole, AddWhole: the limits of what is answered
@@ -452,6 +600,21 @@ pub record CallingMet : Type 0 where
   pub fit-read : hostRun (runCode (numbersRun sample (10 ∷ 21 ∷ 5 ∷ 1 ∷ 12 ∷ 20 ∷ 9 ∷ 9 ∷ []) 2)) ≡ gives none
   pub unfit-read : hostRun (runCode (numbersRun sample (10 ∷ 21 ∷ 5 ∷ 1 ∷ 13 ∷ 21 ∷ 5 ∷ 1 ∷ []) 2)) ≡ gives (some 1)
   pub slot-read : hostDecision (getD (codesAfter sample (10 ∷ 21 ∷ 5 ∷ 1 ∷ 12 ∷ 20 ∷ 9 ∷ 9 ∷ []) (7 ∷ 8 ∷ [])) 1 0) ≡ gives (permitted 2)
+  -- BuildWhole: the limits of what is answered; BuildRead: whatever a text builds; the sample's text; a row outside the form at every
+  -- place, past 65,535 too
+  pub built-fits : (text b : List ℕ) (n : ℕ) → length text ≤ 281474976710655 → built text b .answer ≡ gives n → (9 ≤ n) × (n ≤ 55561)
+  pub built-refusal-fits :
+      (text b : List ℕ) (f : Refusal) → length text ≤ 281474976710655 → built text b .answer ≡ refused f
+      → (1 ≤ f .number) × (f .number ≤ 18) × (f .place ≤ 281474976710655)
+  pub any-build-read :
+      (text b : List ℕ) (o : Outcome ℕ) → length text ≤ 281474976710655 → built text b .answer ≡ o → hostBuilt (buildCode o) ≡ o
+  pub sample-build-read : hostBuilt (buildCode (built sampleText (replicate 83 7) .answer)) ≡ gives 80
+  pub far-build-read :
+      (n : ℕ) (b : List ℕ) → 9 ≤ length b → n ≤ 281474976710653
+      → hostBuilt (buildCode (built (outsideBehind n) b .answer)) ≡ refused (refusal 18 (suc n))
+  -- and the numbers that include/mungaite.h gives
+  pub length-code : (n : ℕ) → buildCode (gives n) ≡ n
+  pub build-refusal-code : (f : Refusal) → f .place ≤ 281474976710655 → buildCode (refused f) ≡ f .number * 281474976710656 + f .place
   -- NumbersRun, NumbersWhole: the numbers of queries, and four numbers that are one
   pub queries-run : (l : List ℕ) (qs : List Query) (ys : List ℕ) → numbersRun l (numbersOf qs) (length ys) ≡ runOf l qs (length ys)
   pub queries-codes :
@@ -494,5 +657,6 @@ pub record TermsMet : Type 0 where
   pub ordering : OrderingMet
   pub running : RunningMet
   pub nearing : NearingMet
+  pub building : BuildingMet
   pub printing : PrintingMet
   pub calling : CallingMet

@@ -30,22 +30,22 @@ use Rattle.text.proofs.Rows.{answerOf}
 use Rattle.text.proofs.Buffers.{Imaged, imaged-accepted, imaged-empty}
 use Rattle.text.proofs.Chunks.{added-place, built-added}
 use Rattle.lines.specs.declared.RowRefusal.{RowRefusal}
-use Rattle.lines.specs.Compiled.{feeds, refusedRow, rowFault, Written, written, front, compiled, Reading, cut, rowSpace, turnFault, turned, unlessTurned, reads, begun, rowLine}
+use Rattle.lines.specs.Compiled.{feeds, refusedRow, partFault, Written, written, front, compiled, Reading, cut, rowSpace, turnFault, turned, unlessTurned, reads, begun, rowLine}
 use Rattle.lines.specs.Claims.{AnyCompiled}
 use Rattle.lines.proofs.Feeds.{feeds-append, cut-is}
 use Rattle.text.proofs.Moved.{moved-buffer, moved-gives, moved-refused}
 use Rattle.lines.proofs.Pieces.{added-size, whole-refused, whole-gives, rest-refused, pieces-imaged}
 
 abbrev pub said : ℕ → ℕ → List ℕ → List ℕ → Written
-said at row t b = written (rowFault at row t (rowsAdded t b .answer)) (front (rowsAdded t b .buffer))
+said at row t b = written (partFault at row t (rowsAdded t b .answer)) (front (rowsAdded t b .buffer))
 
 module _ (at row : ℕ) (part : List ℕ) where
-  pub fault-some : (o : Outcome ℕ) (f : Refusal) → o ≡ refused f → rowFault at row part o ≡ some (refusedRow at row part f)
-  unfolding rowFault
+  pub fault-some : (o : Outcome ℕ) (f : Refusal) → o ≡ refused f → partFault at row part o ≡ some (refusedRow at row part f)
+  unfolding partFault
   fault-some o f e = rw e refl
 
-  pub fault-none : (o : Outcome ℕ) (n : ℕ) → o ≡ gives n → rowFault at row part o ≡ none
-  unfolding rowFault
+  pub fault-none : (o : Outcome ℕ) (n : ℕ) → o ≡ gives n → partFault at row part o ≡ none
+  unfolding partFault
   fault-none o n e = rw e refl
 
 module _ (at row : ℕ) (t b : List ℕ) where
@@ -259,4 +259,4 @@ unfolding compiled begun
 any-compiled text b cs h e =
     reads-all b cs (begun b) (imaged-empty b h)
     ∙ ap (λ x. said 0 1 x (overwrite empty b)) e
-    ∙ ap (λ (m : Made). written (rowFault 0 1 text (m .answer)) (front (m .buffer))) (sym (built-added text b h))
+    ∙ ap (λ (m : Made). written (partFault 0 1 text (m .answer)) (front (m .buffer))) (sym (built-added text b h))

@@ -2,7 +2,7 @@
 --     feeds l             how many line feeds there are in l
 --     refusedRow at row part f   the refusal f of a row in a part of a text, which starts at a place of it with the row of this
 --                         number; with the number of the refused row
---     rowFault at row part a     the refusal that an answer a has for such a part
+--     partFault at row part a    the refusal that an answer a has for such a part
 --     Written             what is written to standard output and to standard error
 --     written f image     the image; or nothing, and the line of a refused row: R, the number, the place, the row's number
 --     compiled text b     what is written for a text, which is built in the buffer b. Rows are counted from 1
@@ -10,7 +10,8 @@
 --     rowSpace            how many bytes of rows there is space for
 --     Reading             the place and the number of the row that is read, its bytes so far, and the buffer of the rows before
 --     cut l               how many bytes of l there are up to its last line feed, which is one of them
---     turnFault s l       the refusal among the rows of l that have their line feed; or 18, where what is left fills the space
+--     turnFault s l       the refusal among the rows of l that have their line feed; or 18, where what is left fills the space (no
+--                         row in the form has more than 460 bytes)
 --     turned s l          the reading after those rows
 --     reads s cs          what is written from here on, where the next reads bring the bytes cs, and then the input ends
 use Prim.Native.Nat.{ℕ, zero, suc, _+_}
@@ -37,9 +38,9 @@ feeds (c ∷ l) = cond (eqb c 10) (suc (feeds l)) (feeds l)
 abbrev pub refusedRow : ℕ → ℕ → List ℕ → Refusal → RowRefusal
 refusedRow at row part f = record { number = f .number; place = at + f .place; row = row + feeds (take (f .place) part) }
 
-unfoldable pub rowFault : ℕ → ℕ → List ℕ → Outcome ℕ → Option RowRefusal
-rowFault at row part (gives n) = none
-rowFault at row part (refused f) = some (refusedRow at row part f)
+unfoldable pub partFault : ℕ → ℕ → List ℕ → Outcome ℕ → Option RowRefusal
+partFault at row part (gives n) = none
+partFault at row part (refused f) = some (refusedRow at row part f)
 
 pub record Written : Type 0 where
   pub output : List ℕ
@@ -57,7 +58,7 @@ unfoldable pub front : List ℕ → List ℕ
 front b = take (wordAt b lengthPlace) b
 
 unfoldable pub compiled : List ℕ → List ℕ → Written
-compiled text b = written (rowFault 0 1 text (built text b .answer)) (front (built text b .buffer))
+compiled text b = written (partFault 0 1 text (built text b .answer)) (front (built text b .buffer))
 
 pub record Reading : Type 0 where
   pub at : ℕ
@@ -65,7 +66,7 @@ pub record Reading : Type 0 where
   pub kept : List ℕ
   pub buffer : List ℕ
 
--- a byte before those of the last line feed counts, and so does a line feed
+-- a line feed counts, and so does any byte with a line feed behind it
 unfoldable pub cutStep : Bool → ℕ → ℕ
 cutStep true n = suc n
 cutStep false zero = zero
@@ -80,7 +81,7 @@ rowSpace = 65536
 
 unfoldable pub turnFault : Reading → List ℕ → Option RowRefusal
 turnFault s l =
-    rowFault (s .at) (s .row) l (rowsAdded (take (cut l) l) (s .buffer) .answer)
+    partFault (s .at) (s .row) l (rowsAdded (take (cut l) l) (s .buffer) .answer)
     orElse need (ltb (length (drop (cut l) l)) rowSpace) (record { number = 18; place = s .at + cut l; row = s .row + feeds l })
 
 unfoldable pub turned : Reading → List ℕ → Reading
@@ -98,7 +99,7 @@ unlessTurned (some f) w = written (some f) []
 
 unfoldable pub reads : Reading → List (List ℕ) → Written
 reads s [] =
-    written (rowFault (s .at) (s .row) (s .kept) (rowsAdded (s .kept) (s .buffer) .answer))
+    written (partFault (s .at) (s .row) (s .kept) (rowsAdded (s .kept) (s .buffer) .answer))
     (front (rowsAdded (s .kept) (s .buffer) .buffer))
 reads s (c ∷ cs) = unlessTurned (turnFault s (s .kept ++ c)) (reads (turned s (s .kept ++ c)) cs)
 

@@ -30,7 +30,7 @@ use Rattle.extension.proofs.Trip.{overwrite-is, add-all-none, add-all-next}
 use Rattle.text.specs.Words.{split}
 use Rattle.text.specs.Rows.{recordOfRow}
 use Rattle.text.specs.Build.{Made, movedTo, recordFault, rowFault, afterRow, onward, rowsFrom, built}
-use Rattle.text.specs.Claims.{withFirst, recordsIn, recordCount, complete, allAdded, OneMore, Holds}
+use Rattle.text.specs.Claims.{withFirst, recordsIn, recordCount, complete, allAdded, OneMore, Leaves}
 use Rattle.text.specs.Claims.{BuiltAccepted, EachRowAdded, LastRowCounts, OwnNumbers}
 use Rattle.text.proofs.Records.{record-bytes, record-shape}
 use Rattle.text.proofs.Rows.{answerOf, gives-not-refused, RowAdded, row-added, row-record, row-fault-some, rows-first}
@@ -43,8 +43,8 @@ pub built-imaged : (text b : List ℕ) → 9 ≤ length b → Imaged b (built te
 built-imaged text b h =
     subst (λ (m : Made). Imaged b (m .buffer)) (sym (built-long text b h)) (imaged-rows b (split 10 text) 0 (overwrite empty b) (imaged-empty b h))
 
-holds : (b after : List ℕ) → Imaged b after → Holds b after
-holds b after k =
+leaves : (b after : List ℕ) → Imaged b after → Leaves b after
+leaves b after k =
     record {
       policy = k .policy;
       well-formed = sound-well-formed (k .policy) (k .sound);
@@ -54,7 +54,7 @@ holds b after k =
     }
 
 pub built-accepted : BuiltAccepted
-built-accepted text b h = holds b (built text b .buffer) (built-imaged text b h)
+built-accepted text b h = leaves b (built text b .buffer) (built-imaged text b h)
 
 -- ---- each row added
 

@@ -59,7 +59,7 @@ unfoldable pub allAdded : List ℕ → List (List ℕ) → Type 0
 allAdded b [] = Unit
 allAdded b (r ∷ rs) = (addFault b r ≡ none) × allAdded (bufferAfter b r) rs
 
-pub record Added (text b : List ℕ) (n : ℕ) : Type 0 where
+pub record EachAdded (text b : List ℕ) (n : ℕ) : Type 0 where
   pub records : List (List ℕ)
   pub from-rows : recordsIn (split 10 text) ≡ some records
   pub none-refused : allAdded (overwrite empty b) records
@@ -68,14 +68,14 @@ pub record Added (text b : List ℕ) (n : ℕ) : Type 0 where
   pub count : recordCount (built text b .buffer) ≡ length records
 
 abbrev pub EachRowAdded : Type 0
-EachRowAdded = (text b : List ℕ) (n : ℕ) → built text b .answer ≡ gives n → Added text b n
+EachRowAdded = (text b : List ℕ) (n : ℕ) → built text b .answer ≡ gives n → EachAdded text b n
 
 abbrev pub RowsEnough : Type 0
 RowsEnough =
     (text b : List ℕ) (rs : List (List ℕ)) → 9 ≤ length b → recordsIn (split 10 text) ≡ some rs → allAdded (overwrite empty b) rs
     → built text b ≡ complete (addAll (overwrite empty b) rs)
 
-pub record Holds (b after : List ℕ) : Type 0 where
+pub record Leaves (b after : List ℕ) : Type 0 where
   pub policy : Policy
   pub well-formed : WellFormed policy
   pub image : after ≡ overwrite (imageOf policy) b
@@ -83,7 +83,7 @@ pub record Holds (b after : List ℕ) : Type 0 where
   pub same-length : length after ≡ length b
 
 abbrev pub BuiltAccepted : Type 0
-BuiltAccepted = (text b : List ℕ) → 9 ≤ length b → Holds b (built text b .buffer)
+BuiltAccepted = (text b : List ℕ) → 9 ≤ length b → Leaves b (built text b .buffer)
 
 abbrev pub LastLineFeed : Type 0
 LastLineFeed = (text b : List ℕ) → built (text ++ (10 ∷ [])) b ≡ built text b
