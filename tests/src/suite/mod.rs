@@ -13,6 +13,7 @@ mod rows;
 mod steps;
 mod streams;
 mod streams_compile;
+mod streams_failing;
 mod sweep;
 mod tally;
 mod text_rows;
@@ -35,7 +36,13 @@ fn of_any() -> Vec<Cases> {
 }
 
 pub fn all(run: &mut Run) {
-    for test in of_any().iter().chain(worked::OF_THE_LIBRARY).chain(streams::TESTS).chain(streams_compile::TESTS) {
+    for test in of_any()
+        .iter()
+        .chain(worked::OF_THE_LIBRARY)
+        .chain(streams::TESTS)
+        .chain(streams_compile::TESTS)
+        .chain(streams_failing::TESTS)
+    {
         run.cases(test);
     }
     for test in &of_any() {
