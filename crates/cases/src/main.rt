@@ -1,5 +1,6 @@
 // The sample sheet of document 01, with request [2]'s steps and as request [3]'s text, run through the C interface, and records
-// given as parts of an image, which C does not have: each line is a case and its answer. The file stdout beside src/ has what the document says.
+// given as parts of an image, which C does not have: each line is a case and its answer. The file stdout beside src/ has what the
+// documents say.
 mod batch; // batch.rt: runs of queries on the sample
 mod images; // images.rt: images that are longer than a line
 mod show; // show.rt: a case's line

@@ -26,7 +26,8 @@ pub(crate) struct Row {
 // A word's number goes to a place of the record, in the bytes of its field; the answer is the place past them.
 fn put(part: &mut [u8], at: usize, field: Field, n: usize) -> usize
     requires { ⌜ (at + 2 ≤ length (now part)) × (n < 65536) × (isShort field ≡ true → n < 256) ⌝ }
-    ensures { λ r. ⌜ (take r (now (part .exit)) ≡ take at (now (part .entry)) ++ fieldBytes field n) × (r ≡ at + length (fieldBytes field n)) ⌝ }
+    ensures { λ r. ⌜ (take r (now (part .exit)) ≡ take at (now (part .entry)) ++ fieldBytes field n)
+        × (r ≡ at + length (fieldBytes field n)) ⌝ }
 {
     if is_short(field) {
         part[at] = low(n);

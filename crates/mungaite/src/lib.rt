@@ -110,8 +110,8 @@ pub extern "C" fn mungaite_add(buffer: &mut [u8], part: &[u8]) -> u64
 }
 
 // Builds the image of a text at the front of a buffer: 0 in the highest 16 bits and then the image's length, or the refusal's
-// number and its place in the text. A refused text leaves the image of the rows before the refused one; a buffer under 9 bytes is
-// left as it was.
+// number and its place in the text. A refused text leaves the image of the rows before the refused one; a buffer under 9 bytes
+// is left as it was.
 #[no_mangle]
 pub extern "C" fn mungaite_build(text: &[u8], buffer: &mut [u8]) -> u64
     ensures { λ r. ⌜ (r ≡ buildCode (built (now (text .entry)) (now (buffer .entry)) .answer))
