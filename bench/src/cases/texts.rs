@@ -1,7 +1,7 @@
 //! Policies as text, with the images that are to be built from them.
 
 use mungaite_tests::draft::{allow, constraint, Draft, ROSTER};
-use mungaite_tests::sample::{EMPTY, SAMPLE};
+use mungaite_tests::sample::{EMPTY, SAMPLE, SAMPLE_TEXT};
 
 pub struct Text {
     pub name: &'static str,
@@ -9,16 +9,6 @@ pub struct Text {
     pub text: Vec<u8>,
     pub image: Vec<u8>,
 }
-
-const SAMPLE_TEXT: &str = "\
-group 20 21
-allow 10 g0 5 1 on
-allow 20 30 5 2 on
-trans 12 20 5
-allow 13 21 5 1 off
-limit 5 1 10 21 2 10
-limit 5 2 20 30 1
-";
 
 const EMPTY_ROWS: usize = 1_000_000;
 

@@ -1,7 +1,7 @@
 //! The program `permit` beside a host that waits for each answer, and beside streams that are late, broken, full or
 //! closed: what it writes, what it says on standard error, and how it ends.
 
-use super::watched::{ended, permit, send, start, told, Watched, PATIENCE};
+use super::watched::{ended, permit, send, start, told, Watched, LATE, PATIENCE, SIGPIPE};
 use crate::compare::{Outcome, Pair};
 use crate::engine::Engine;
 use crate::runner::{Cases, Count};
@@ -17,12 +17,6 @@ use std::time::{Duration, Instant};
 
 /// How long a host stops in the middle of a query, so that the program's read ends there.
 const PAUSE: Duration = Duration::from_millis(2);
-
-/// How long a stream has nothing to read, or is not read, so that many calls of the program find it so.
-const LATE: Duration = Duration::from_millis(20);
-
-/// The signal that ends a program that writes where nobody reads.
-const SIGPIPE: i32 = 13;
 
 pub const TESTS: &[Cases] = &[
     Cases { name: "program/waiting-host", count: Count::Listed(8), run: waiting_host },

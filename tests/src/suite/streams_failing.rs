@@ -1,7 +1,7 @@
 //! The program `compile` and streams that are late, that break or are full: what it writes, what it says on standard
 //! error, and how it ends. It writes nothing before the text has ended.
 
-use super::watched::{ended, send, start, told};
+use super::watched::{ended, send, start, told, LATE, SIGPIPE};
 use crate::compare::{Outcome, Pair};
 use crate::engine::Engine;
 use crate::runner::{Cases, Count};
@@ -13,10 +13,6 @@ use std::os::unix::net::UnixStream;
 use std::os::unix::process::ExitStatusExt;
 use std::process::{Child, Stdio};
 use std::thread::sleep;
-use std::time::Duration;
-
-const LATE: Duration = Duration::from_millis(5);
-const SIGPIPE: i32 = 13;
 
 pub const TESTS: &[Cases] = &[
     Cases { name: "streams/compile-late-input", count: Count::Listed(3), run: late_input },

@@ -1,4 +1,4 @@
-//! The program `permit` as a process that a test talks to: its lines as they come, its end, and what it says.
+//! A program as a process that a test talks to: its lines as they come, its end, and what it says.
 
 use crate::compare::Outcome;
 use crate::engine::Engine;
@@ -10,6 +10,12 @@ use std::time::{Duration, Instant};
 
 /// How long the program may take for an answer, or to end.
 pub const PATIENCE: Duration = Duration::from_secs(20);
+
+/// How long a stream has nothing to read, or is not read, so that many calls of the program find it so.
+pub const LATE: Duration = Duration::from_millis(20);
+
+/// The signal that ends a program that writes where nobody reads.
+pub const SIGPIPE: i32 = 13;
 
 /// A program whose standard output and standard error are piped to us.
 pub struct Watched {
@@ -55,7 +61,7 @@ impl Watched {
     }
 }
 
-/// The program between two streams, which are then its alone.
+/// The program `permit` between two streams, which are then its alone.
 pub fn permit(input: impl Into<Stdio>, output: impl Into<Stdio>) -> Result<Child, String> {
     start(Engine::new().program().stdin(input).stdout(output))
 }
