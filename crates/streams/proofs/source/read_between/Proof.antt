@@ -18,6 +18,8 @@ returns-3 c =
       brings = brings-same (c .before .before .read-some .result) _ _ part (c .before .before .read-some .ensures);
       before = take-put (start .from) (start .to - start .from) (start .buffer .now) (c .before .before .read-some .last .1 .1 .0) (omega arith);
       behind = drop-put (start .from) (start .to) (start .buffer .now) (c .before .before .read-some .last .1 .1 .0) (omega arith) (omega arith) (omega (arith, part));
+      crossed = λ h. absurd (omega (arith, h));
+      past = λ h. absurd (omega (arith, h));
     }
 
 pub read-between-spec : {M : Type 1} → statement M
