@@ -1,7 +1,7 @@
 /*
  * A host in C: builds a policy from text and asks it, then shows the row that a refused text was refused for.
  *
- *   cc -std=c99 -Wall -Wextra -Werror -pedantic -I include examples/build.c libmungaite.a -o build
+ *   cc -std=c99 -Wall -I include examples/build.c target/staticlib/libmungaite.a -o target/build
  */
 #include "mungaite.h"
 

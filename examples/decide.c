@@ -2,7 +2,7 @@
  * A host in C: decides the sample sheet's queries, one by one and as a run, says what stopped a denied one, adds one
  * rule and asks again.
  *
- *   cc -std=c99 -Wall -Wextra -Werror -pedantic -I include examples/decide.c libmungaite.a -o decide
+ *   cc -std=c99 -Wall -I include examples/decide.c target/staticlib/libmungaite.a -o target/decide
  */
 #include "mungaite.h"
 

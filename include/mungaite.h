@@ -127,9 +127,11 @@ uint64_t mungaite_add(uint8_t *buffer, size_t length, const uint8_t *record, siz
  *   class, action             0 to 65535                   any
  *   predicate                 0 to 255                     0 ban, 1 separation, 2 roster, 3 companion; a roster has a
  *                                                            list of 1 to 16 types, the others have none
+ *   condition                 on, off
  *
- * One space separates words. Numbers are decimal, without sign or leading zeros. A row ends at a line feed or at the
- * end of the text, where no NUL is wanted. An empty row is skipped. There are no comments and no carriage returns.
+ * One space separates words, and none stands at a row's ends. Numbers are decimal, without sign or leading zeros. A row
+ * ends at a line feed or at the end of the text, where no NUL is wanted. An empty row is skipped. There are no
+ * comments, tabs, carriage returns or byte order marks.
  *
  * Rows are added in order up to the first that is refused, for the first of these that is true of it. The place is that
  * of the row's first byte: with n line feeds before it, it is row n + 1 of the text.
@@ -140,8 +142,9 @@ uint64_t mungaite_add(uint8_t *buffer, size_t length, const uint8_t *record, siz
  *   13  the buffer is too short for one more record; MUNGAITE_LARGEST bytes hold every policy
  *
  * A refused text leaves the image of the rows before at the buffer's front, whole, with its length in bytes 1 and 2:
- * what stood there is gone. But a buffer under MUNGAITE_EMPTY bytes is left as it was, with 13 at place 0, whatever the
- * text. The bytes past the image stay as they were, on a refusal too. */
+ * what stood there is gone. Do not decide by it, since the limits of later rows are not in it; to keep the policy in
+ * use, build the next one in another buffer. But a buffer under MUNGAITE_EMPTY bytes is left as it was, with 13 at
+ * place 0, whatever the text. The bytes past the image stay as they were, on a refusal too. */
 uint64_t mungaite_build(const uint8_t *text, size_t text_length, uint8_t *buffer, size_t length);
 
 #ifdef __cplusplus

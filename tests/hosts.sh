@@ -22,9 +22,21 @@ answer=$({ cat "$folder/sample.image"; printf '\0\12\0\25\0\5\0\1'; } | "${PERMI
 refused=$(sed '2s/on/On/' examples/sample.policy | "${COMPILE:-$bin/compile}" 2>&1)
 [ "$refused" = "R 18 12 2" ]
 
+# A new image takes the old one's place where `permit`, asked nothing, has nothing against it (docs/INTERFACE.md).
+[ -z "$("${PERMIT:-$bin/permit}" < "$folder/sample.image")" ]
+head -c 79 "$folder/sample.image" > "$folder/cut.image"
+[ "$("${PERMIT:-$bin/permit}" < "$folder/cut.image")" = "R 3 0" ]
+[ "$("${PERMIT:-$bin/permit}" < /dev/null)" = "R 1 0" ]
+
 cd rust
 RUSTFLAGS='-D warnings' cargo test --release --offline --quiet -j1 > "$folder/tests" 2>&1 || { cat "$folder/tests"; exit 1; }
 for source in examples/*.rs; do
     host=$(basename "$source" .rs)
-    RUSTFLAGS='-D warnings' cargo run --release --offline --quiet -j1 --example "$host" | diff - "examples/$host.stdout"
+    RUSTFLAGS='-D warnings' cargo run --release --offline --quiet -j1 --example "$host" < ../examples/sample.policy |
+        diff - "examples/$host.stdout"
 done
+refused=$(sed '2s/on/On/' ../examples/sample.policy |
+    cargo run --release --offline --quiet -j1 --example explain 2>&1) && exit 1
+said='row 2, `allow 10 g0 5 1 On`: `On` is neither on nor off: write it in lower case (refusal 18)'
+[ "$refused" = "$said" ]
+grep -qF "$said" ../README.md

@@ -8,7 +8,8 @@ use std::{error, fmt};
 /// Builds the image of a policy that is written as text, at the front of a buffer, and gives that image.
 ///
 /// A row of the text is one record. One space separates words, numbers are decimal without leading zeros, a row ends at
-/// a line feed or at the end of the text, and an empty row is skipped.
+/// a line feed or at the end of the text, and an empty row is skipped. There are no comments, tabs, carriage returns or
+/// byte order marks.
 ///
 /// | row | what follows the first word |
 /// |---|---|
@@ -24,8 +25,9 @@ use std::{error, fmt};
 /// (`limit`), and [`LARGEST`](crate::LARGEST) bytes hold every image.
 ///
 /// A refused row ends the building, and the buffer then starts with the image of the rows before it, which
-/// [`image`](crate::image) gives: what stood there is gone. But a buffer of fewer than 9 bytes is left as it was. Bytes
-/// past the image stay as they were, on a refusal too.
+/// [`image`](crate::image) gives: what stood there is gone. Do not decide by it, since the limits of later rows are not
+/// in it; to keep the policy in use, build the next one in another buffer. But a buffer of fewer than 9 bytes is left as
+/// it was. Bytes past the image stay as they were, on a refusal too.
 ///
 /// ```
 /// let mut buffer = [0; 64];
@@ -88,7 +90,7 @@ impl fmt::Debug for BuildError<'_> {
     }
 }
 
-/// The row's number, the row, and the first thing that is wrong with it.
+/// The row's number, the row, and what is wrong with it: what puts it outside the form, before what breaks a rule.
 ///
 /// ```
 /// let error = mungaite::build(b"group 20 21\n\nallow 10 g0 5 1 On\n", &mut [0; 64]).unwrap_err();

@@ -2,7 +2,7 @@
 
 use crate::form::{Field, Form, MOST_BASIC, MOST_GROUP, MOST_PREDICATE};
 use crate::shown::Word;
-use crate::wrong::Wrong;
+use crate::wrong::{Gap, Wrong};
 use crate::{Cause, EMPTY};
 
 /// Marks that editors put at the start of a text.
@@ -30,9 +30,9 @@ fn short(row: &[u8], image: usize, buffer: usize) -> Option<Wrong<'_>> {
     Some(Wrong::Short { buffer, needed })
 }
 
-/// What puts a row outside the form; `None` where it is within.
+/// What puts a row outside the form; `None` where it is within. What editors do to a whole text comes first.
 fn outside_form(row: &[u8]) -> Option<Wrong<'_>> {
-    foreign_byte(row).or_else(|| stray_space(row)).or_else(|| stray_word(row))
+    foreign_byte(row).or_else(|| comment(row)).or_else(|| stray_gap(row)).or_else(|| stray_word(row))
 }
 
 fn foreign_byte(row: &[u8]) -> Option<Wrong<'_>> {
@@ -40,22 +40,30 @@ fn foreign_byte(row: &[u8]) -> Option<Wrong<'_>> {
         _ if BYTE_ORDER_MARKS.iter().any(|mark| row.starts_with(mark)) => Some(Wrong::ByteOrderMark),
         [.., b'\r'] => Some(Wrong::ReturnAtEnd),
         _ if row.contains(&b'\r') => Some(Wrong::ReturnWithin),
-        _ if row.contains(&b'\t') => Some(Wrong::Tab),
         _ => None,
     }
 }
 
-fn stray_space(row: &[u8]) -> Option<Wrong<'_>> {
-    if row.iter().all(|byte| *byte == b' ') {
+fn comment(row: &[u8]) -> Option<Wrong<'_>> {
+    let mut words = row.split(|byte| is_gap(*byte));
+    words.find(|word| word.starts_with(b"#") || word.starts_with(b"//")).map(|word| Wrong::Comment(Word(word)))
+}
+
+fn stray_gap(row: &[u8]) -> Option<Wrong<'_>> {
+    if row.iter().all(|byte| is_gap(*byte)) {
         return (!row.is_empty()).then_some(Wrong::Blank);
     }
     match row {
-        [b' ', ..] => Some(Wrong::SpaceAtStart),
-        [.., b' '] => Some(Wrong::SpaceAtEnd),
+        [b' ', ..] => Some(Wrong::StartsWith(Gap::Space)),
+        [b'\t', ..] => Some(Wrong::StartsWith(Gap::Tab)),
+        [.., b' '] => Some(Wrong::EndsIn(Gap::Space)),
+        [.., b'\t'] => Some(Wrong::EndsIn(Gap::Tab)),
         _ => {
-            let spaces = row.windows(2).position(|pair| pair == b"  ")?;
-            let word = row[..spaces].rsplit(|byte| *byte == b' ').next()?;
-            Some(Wrong::TwoSpacesAfter(Word(word)))
+            let mut pairs = row.windows(2);
+            let wide = pairs.position(|pair| pair[0] == b'\t' || pair == b"  " || pair == b" \t")?;
+            let gap = if row[wide..wide + 2].contains(&b'\t') { Gap::Tab } else { Gap::Space };
+            let word = row[..wide].rsplit(|byte| *byte == b' ').next()?;
+            Some(Wrong::Between(gap, Word(word)))
         }
     }
 }
@@ -123,6 +131,10 @@ fn bad_type(field: Field, word: &[u8], groups: usize) -> Option<Wrong<'_>> {
         return Some(Wrong::Over(field, Word(word)));
     }
     (is_group && value(digits) as usize >= groups).then_some(Wrong::Undefined { field, group: Word(word), groups })
+}
+
+fn is_gap(byte: u8) -> bool {
+    byte == b' ' || byte == b'\t'
 }
 
 fn first_word(row: &[u8]) -> &[u8] {

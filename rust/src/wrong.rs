@@ -8,15 +8,15 @@ use std::fmt;
 /// The first thing that is found wrong with a refused row.
 #[derive(Clone, Copy, Debug, PartialEq, Eq)]
 pub(crate) enum Wrong<'t> {
-    // Outside the form: a byte that no row has, a space, a word.
+    // Outside the form: a byte that no row has, a comment, what stands between words, a word.
     ByteOrderMark,
     ReturnAtEnd,
     ReturnWithin,
-    Tab,
+    Comment(Word<'t>),
     Blank,
-    SpaceAtStart,
-    SpaceAtEnd,
-    TwoSpacesAfter(Word<'t>),
+    StartsWith(Gap),
+    EndsIn(Gap),
+    Between(Gap, Word<'t>),
     FirstWord(Word<'t>),
     WordCount(Form, usize),
     NoNumber(Field, Word<'t>),
@@ -38,22 +38,44 @@ pub(crate) enum Wrong<'t> {
     Unfound,
 }
 
+/// What people put between words.
+#[derive(Clone, Copy, Debug, PartialEq, Eq)]
+pub(crate) enum Gap {
+    Space,
+    Tab,
+}
+
+impl fmt::Display for Gap {
+    fn fmt(&self, f: &mut fmt::Formatter<'_>) -> fmt::Result {
+        f.write_str(match self {
+            Gap::Space => "a space",
+            Gap::Tab => "a tab",
+        })
+    }
+}
+
+// What to write instead.
+const MEMBERS: &str = "write basic types only, and not the group's own number";
+const TYPES: &str = "write its number, or g and the number of a group";
+const PREDICATES: &str = "write 0 for a ban, 1 for a separation, 2 for a roster or 3 for a companion";
+
 impl fmt::Display for Wrong<'_> {
     fn fmt(&self, f: &mut fmt::Formatter<'_>) -> fmt::Result {
         match *self {
             Wrong::ByteOrderMark => write!(f, "the row starts with a byte order mark: save the text as plain ASCII"),
             Wrong::ReturnAtEnd => write!(f, "the row ends in a carriage return: save the text with line feeds only"),
             Wrong::ReturnWithin => write!(f, "the row has a carriage return: save the text with line feeds only"),
-            Wrong::Tab => write!(f, "the row has a tab: separate words by one space"),
-            Wrong::Blank => write!(f, "the row has nothing but spaces: leave it empty"),
-            Wrong::SpaceAtStart => write!(f, "the row starts with a space"),
-            Wrong::SpaceAtEnd => write!(f, "the row ends in a space"),
-            Wrong::TwoSpacesAfter(word) => write!(f, "two spaces follow `{word}`: separate words by one"),
+            Wrong::Comment(word) => write!(f, "`{word}` starts a comment, and a text has none: remove it"),
+            Wrong::Blank => write!(f, "the row has nothing but spaces or tabs: leave it empty"),
+            Wrong::StartsWith(gap) => write!(f, "the row starts with {gap}: remove it"),
+            Wrong::EndsIn(gap) => write!(f, "the row ends in {gap}: remove it"),
+            Wrong::Between(Gap::Space, word) => write!(f, "two spaces follow `{word}`: separate words by one"),
+            Wrong::Between(Gap::Tab, word) => write!(f, "a tab follows `{word}`: separate words by one space"),
             Wrong::FirstWord(word) => first_word(f, word),
             Wrong::WordCount(form, words) => word_count(f, form, words),
             Wrong::NoNumber(field, word) => no_number(f, field, word),
             Wrong::LeadingZero(field, word) => write!(f, "{field} `{word}` has a leading zero"),
-            Wrong::GroupAsMember(word) => write!(f, "`{word}` cannot be a member: write that group's basic types"),
+            Wrong::GroupAsMember(word) => write!(f, "`{word}` cannot be a member: {MEMBERS}"),
             Wrong::Condition(word) => condition(f, word),
             Wrong::Over(field, word) => over(f, field, word),
             Wrong::Undefined { field, group, groups } => undefined(f, field, group, groups),
@@ -72,9 +94,6 @@ fn first_word(f: &mut fmt::Formatter<'_>, word: Word<'_>) -> fmt::Result {
     if Form::ALL.iter().any(|form| word.0.eq_ignore_ascii_case(form.word().as_bytes())) {
         write!(f, ": write it in lower case")?;
     }
-    if word.0.starts_with(b"#") || word.0.starts_with(b"//") {
-        write!(f, ": a text has no comments")?;
-    }
     Ok(())
 }
 
@@ -89,9 +108,10 @@ fn word_count(f: &mut fmt::Formatter<'_>, form: Form, words: usize) -> fmt::Resu
 }
 
 fn no_number(f: &mut fmt::Formatter<'_>, field: Field, word: Word<'_>) -> fmt::Result {
-    match field.is_type() {
-        true => write!(f, "{field} `{word}` is no type: write its number, or g and the number of a group"),
-        false => write!(f, "{field} `{word}` is no number: write digits only"),
+    match field {
+        Field::Predicate => write!(f, "predicate `{word}` is no number: {PREDICATES}"),
+        _ if field.is_type() => write!(f, "{field} `{word}` is no type: {TYPES}"),
+        _ => write!(f, "{field} `{word}` is no number: write digits only"),
     }
 }
 
@@ -107,10 +127,7 @@ fn condition(f: &mut fmt::Formatter<'_>, word: Word<'_>) -> fmt::Result {
 fn over(f: &mut fmt::Formatter<'_>, field: Field, word: Word<'_>) -> fmt::Result {
     match field {
         Field::Class | Field::Action => write!(f, "{field} `{word}` is over {}", field.most()),
-        Field::Predicate => {
-            write!(f, "predicate `{word}` is over {MOST_PREDICATE}: ")?;
-            write!(f, "write 0 for a ban, 1 for a separation, 2 for a roster or 3 for a companion")
-        }
+        Field::Predicate => write!(f, "predicate `{word}` is over {MOST_PREDICATE}: {PREDICATES}"),
         _ if word.0.starts_with(b"g") => write!(f, "{field} `{word}` is over g{MOST_GROUP}, the highest group"),
         _ => write!(f, "{field} `{word}` is over {MOST_BASIC}, the highest basic type"),
     }

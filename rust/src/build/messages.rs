@@ -27,7 +27,6 @@ fn a_foreign_byte_is_named() {
         ("group 1 2\r", "the row ends in a carriage return: save the text with line feeds only (refusal 18)"),
         ("\r", "the row ends in a carriage return: save the text with line feeds only (refusal 18)"),
         ("group 1\rgroup 2", "the row has a carriage return: save the text with line feeds only (refusal 18)"),
-        ("group\t1", "the row has a tab: separate words by one space (refusal 18)"),
         ("\u{FEFF}group 1", "the row starts with a byte order mark: save the text as plain ASCII (refusal 18)"),
     ];
     for (row, message) in cases {
@@ -36,12 +35,29 @@ fn a_foreign_byte_is_named() {
 }
 
 #[test]
-fn a_stray_space_is_named() {
+fn a_comment_is_named_wherever_it_stands() {
+    let members = (1..=62).map(|member| member.to_string()).collect::<Vec<_>>().join(" ");
+    let behind = format!("group {members} # citrus oils");
+    let rows = ["# roses", " # roses", "#  roses", "#\troses", "# roses ", &behind, "limit 5 1 10 21 0 # ban"];
+    for row in rows {
+        assert_eq!(said(row), "`#` starts a comment, and a text has none: remove it (refusal 18)");
+    }
+    assert_eq!(said("//roses"), "`//roses` starts a comment, and a text has none: remove it (refusal 18)");
+}
+
+#[test]
+fn a_stray_space_or_tab_is_named() {
     let cases = [
-        ("  ", "the row has nothing but spaces: leave it empty (refusal 18)"),
-        (" group 1", "the row starts with a space (refusal 18)"),
-        ("group 1 ", "the row ends in a space (refusal 18)"),
+        ("  ", "the row has nothing but spaces or tabs: leave it empty (refusal 18)"),
+        ("\t", "the row has nothing but spaces or tabs: leave it empty (refusal 18)"),
+        (" group 1", "the row starts with a space: remove it (refusal 18)"),
+        ("\tgroup 1", "the row starts with a tab: remove it (refusal 18)"),
+        ("group 1 ", "the row ends in a space: remove it (refusal 18)"),
+        ("group 1 2\t", "the row ends in a tab: remove it (refusal 18)"),
         ("trans 10  20 5", "two spaces follow `10`: separate words by one (refusal 18)"),
+        ("trans 10\t20  5", "a tab follows `10`: separate words by one space (refusal 18)"),
+        ("trans 10 \t20 5", "a tab follows `10`: separate words by one space (refusal 18)"),
+        ("group\t1", "a tab follows `group`: separate words by one space (refusal 18)"),
     ];
     for (row, message) in cases {
         assert_eq!(said(row), message);
@@ -53,8 +69,6 @@ fn a_wrong_first_word_is_named() {
     let cases = [
         ("alow 1 2 3 4 on", "`alow` is none of group, allow, trans and limit (refusal 18)"),
         ("Group 1", "`Group` is none of group, allow, trans and limit: write it in lower case (refusal 18)"),
-        ("# roses", "`#` is none of group, allow, trans and limit: a text has no comments (refusal 18)"),
-        ("//roses", "`//roses` is none of group, allow, trans and limit: a text has no comments (refusal 18)"),
         ("gr\u{F6}up 1", "`gr\\xc3\\xb6up` is none of group, allow, trans and limit (refusal 18)"),
         ("'a' \\", "`'a'` is none of group, allow, trans and limit (refusal 18)"),
         ("abcdefghijklmnopqrstu 1", "`abcdefghijklmnopqrst...` is none of group, allow, trans and limit (refusal 18)"),
@@ -99,7 +113,7 @@ fn a_word_that_is_no_number_of_its_field_is_named() {
         ("trans g32768 20 5", "source `g32768` is over g255, the highest group (refusal 18)"),
         ("trans G1 20 5", "source `G1` is no type: write its number, or g and the number of a group (refusal 18)"),
         ("trans g 20 5", "source `g` is no type: write its number, or g and the number of a group (refusal 18)"),
-        ("group 1 g1", "`g1` cannot be a member: write that group's basic types (refusal 18)"),
+        ("group 1 g1", "`g1` cannot be a member: write basic types only, and not the group's own number (refusal 18)"),
         ("group 1, 2", "member `1,` is no number: write digits only (refusal 18)"),
         ("group 32768", "member `32768` is over 1023, the highest basic type (refusal 18)"),
     ];
@@ -147,12 +161,11 @@ fn a_type_or_member_against_its_rule_is_named() {
 
 #[test]
 fn a_wrong_predicate_or_list_is_named() {
-    let over = |predicate: u16, number: u16| {
-        let known = "write 0 for a ban, 1 for a separation, 2 for a roster or 3 for a companion";
-        format!("predicate `{predicate}` is over 3: {known} (refusal {number})")
-    };
+    let known = "write 0 for a ban, 1 for a separation, 2 for a roster or 3 for a companion";
+    let over = |predicate: u16, number: u16| format!("predicate `{predicate}` is over 3: {known} (refusal {number})");
     assert_eq!(said("limit 5 1 10 21 256"), over(256, 18));
     assert_eq!(said("limit 5 1 10 21 4"), over(4, 11));
+    assert_eq!(said("limit 5 1 10 21 ban"), format!("predicate `ban` is no number: {known} (refusal 18)"));
     let cases = [
         ("limit 5 1 10 21 0 1", "a ban (predicate 0) takes no list types, and here is 1 (refusal 11)"),
         ("limit 5 1 10 21 1 1 2", "a separation (predicate 1) takes no list types, and here are 2 (refusal 11)"),
@@ -201,7 +214,7 @@ fn a_short_buffer_is_measured() {
 fn a_long_row_is_cut() {
     let row = format!("group {}\t", "1 ".repeat(40));
     let error = build(row.as_bytes(), &mut [0; ROOM]).unwrap_err();
-    let shown = format!("row 1, `group {}...`: the row has a tab", "1 ".repeat(37));
+    let shown = format!("row 1, `group {}...`: the row ends in a tab", "1 ".repeat(37));
     assert!(error.to_string().starts_with(&shown), "{error}");
     assert_eq!(error.text, row.as_bytes());
 }
