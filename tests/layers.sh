@@ -3,7 +3,8 @@
 # - a contract and a definition name no definition of a proof file;
 # - what stands in specs/ rests on nothing of specs/Inner, and no public contract names anything of it;
 # - a proof opens (`unfolding`) no definition of another crate, but for the code that meets the definitions of its own layer:
-#   image those of format, extend of extension and text, decide and numbers of decision, permit, compile and streams of lines. All else is cited by laws.
+#   image those of format, extend of extension and text, decide and numbers of decision, permit, compile and streams of lines.
+#   All else is cited by laws.
 #   Free are values that are written out (the sample, the empty policy, the marked cases' records), and the tables of worked
 #   cases, whose proof is that they are computed.
 # - what meets the claims' terms (crates/claims/proofs, *Terms.antt, Cases.antt and Worked.antt) cites no claim's own proof, but the
@@ -51,7 +52,11 @@ brought='
 '
 
 fails "$(find crates -path '*/proofs/*.antt' ! -name Cases.antt ! -name Worked.antt -exec awk "$brought"'
-    BEGIN { may["image format"] = may["extend extension"] = may["extend text"] = may["decide decision"] = may["numbers decision"] = may["permit lines"] = may["compile lines"] = may["streams lines"] = 1 }
+    BEGIN {
+        may["image format"] = may["extend extension"] = may["extend text"] = 1
+        may["decide decision"] = may["numbers decision"] = 1
+        may["permit lines"] = may["compile lines"] = may["streams lines"] = 1
+    }
     BEGIN { n = split("sample empty companion withSpace extended", names); for (i = 1; i <= n; i++) value[names[i]] = 1 }
     # an `unfolding` goes on over the lines that are indented further than it
     function opens(first,    i, name, crate) {

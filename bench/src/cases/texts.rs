@@ -2,6 +2,7 @@
 
 use mungaite_tests::draft::{allow, constraint, Draft, ROSTER};
 use mungaite_tests::sample::{EMPTY, SAMPLE, SAMPLE_TEXT};
+use mungaite_tests::text::text_of;
 
 pub struct Text {
     pub name: &'static str,
@@ -59,40 +60,8 @@ fn largest(type_of: impl Fn(u16) -> u16) -> Draft {
 impl Text {
     /// The records of a policy as rows, in an order of theirs.
     fn new<'a>(name: &'static str, policy: &Draft, records: impl Iterator<Item = &'a Vec<u8>>) -> Text {
-        let rows: Vec<String> = records.map(|record| row(record)).collect();
-        Text { name, rows: rows.len(), text: rows.concat().into(), image: policy.image() }
-    }
-}
-
-/// A record as a row.
-fn row(record: &[u8]) -> String {
-    match record[1] {
-        1 => format!("group{}\n", words(&record[2..], number)),
-        2 => {
-            let condition = if record[10] == 1 { "on" } else { "off" };
-            format!("allow{}{} {condition}\n", words(&record[2..6], type_word), words(&record[6..10], number))
-        }
-        3 => format!("trans{}{}\n", words(&record[2..6], type_word), words(&record[6..], number)),
-        _ => {
-            let (kind, arguments) = (words(&record[2..6], number), words(&record[6..10], type_word));
-            format!("limit{kind}{arguments} {}{}\n", record[10], words(&record[11..], type_word))
-        }
-    }
-}
-
-/// Fields of two bytes as words, each after its space.
-fn words(fields: &[u8], word: fn(u16) -> String) -> String {
-    fields.chunks_exact(2).map(|field| word(u16::from_be_bytes([field[0], field[1]]))).collect()
-}
-
-fn number(field: u16) -> String {
-    format!(" {field}")
-}
-
-fn type_word(field: u16) -> String {
-    match field.checked_sub(mungaite::group(0)) {
-        Some(group) => format!(" g{group}"),
-        None => number(field),
+        let records: Vec<&Vec<u8>> = records.collect();
+        Text { name, rows: records.len(), text: text_of(records), image: policy.image() }
     }
 }
 

@@ -29,7 +29,7 @@ use Rattle.runs.specs.Runs.{runOf}
 use Rattle.runs.specs.Numbers.{numbersOf, numbersFault, numbersRun, rowCode, runCode}
 use Rattle.runs.specs.Cases.{member, transition, offRule}
 use Rattle.claims.specs.Promises.{Promises}
-use Rattle.claims.specs.Terms.{query, byBytes, sampleText, outsideBehind, PrintingMet, CallingMet}
+use Rattle.claims.specs.Terms.{query, byBytes, sampleBytes, outsideBehind, PrintingMet, CallingMet}
 use Rattle.claims.proofs.Cases.{companion-space, cut-bytes, row-answers, fitNumbers, unfitNumbers, run-numbers, inputs}
 use Rattle.claims.proofs.Worked.{near-line, no-rules-line, unknown-line, empty-printed, short-printed, three-printed}
 use Rattle.claims.proofs.Worked.{texts, reads-bytes, reads-once, reads-in-two, sample-compiled, refused-compiled, sample-built}
@@ -72,7 +72,7 @@ module _ (p : Promises) where
         compiled-in-two = λ text more b h. p .printing .any-compiled (text ++ more) b (text ∷ [] ∷ more ∷ []) h (reads-in-two text more);
         compiled-unread = λ b e. p .printing .any-compiled [] b [] (omega (arith, e)) (reads-bytes []);
         compiled-all = texts .compiled;
-        sample-compiled = by-bytes sampleText ∙ sample-compiled (p .printing .worked-compiled);
+        sample-compiled = by-bytes sampleBytes ∙ sample-compiled (p .printing .worked-compiled);
         refused-compiled = by-bytes (ascii "\n\nx") ∙ refused-compiled (p .printing .worked-compiled);
       }
 
@@ -140,7 +140,7 @@ module _ (p : Promises) where
             (omega (arith, k .0), omega (arith, k .1), omega (arith, k .2)));
         any-build-read = λ text b o h e. subst (λ x. hostBuilt (buildCode x) ≡ x) e (c .build-read text b (omega (arith, h)));
         sample-build-read =
-            c .build-read sampleText (replicate 83 7) (omega (arith, texts .sample-length)) ∙ ap answerOf (sample-built (p .building .worked-texts));
+            c .build-read sampleBytes (replicate 83 7) (omega (arith, texts .sample-length)) ∙ ap answerOf (sample-built (p .building .worked-texts));
         far-build-read = λ n b h k. c .build-read (outsideBehind n) b (outside-fits n k) ∙ ap answerOf (far-outside p n b h);
         length-code = length-code;
         build-refusal-code = build-refusal-code;

@@ -27,7 +27,7 @@ use Rattle.lines.specs.Worked.{workedLines, lineOf, lineSaid, WorkedLines, work
 use Rattle.lines.specs.Worked.{workedCompiled, textWritten, WorkedCompiled}
 use Rattle.lines.specs.Worked as printing
 use Rattle.mungaite.specs.Code.{buildCode}
-use Rattle.claims.specs.Terms.{threeQueries, threeSaid, byBytes, tooShort, sampleText, trans}
+use Rattle.claims.specs.Terms.{threeQueries, threeSaid, byBytes, tooShort, sampleBytes, trans}
 
 -- ---- the programs' output
 
@@ -64,7 +64,7 @@ module _ (e : WorkedCompiled) where
   compiled-row : (n : ℕ) (m : Written) → getD (map printing.textGives workedCompiled) n m ≡ getD (map textWritten workedCompiled) n m
   compiled-row n m = ap (λ (xs : List Written). getD xs n m) e
 
-  pub sample-compiled : compiled sampleText (replicate 100 0) ≡ record { output = sample; errors = [] }
+  pub sample-compiled : compiled sampleBytes (replicate 100 0) ≡ record { output = sample; errors = [] }
   unfolding workedCompiled printing.textGives textWritten ascii
   sample-compiled = compiled-row 0 (record { output = []; errors = [] })
 
@@ -83,7 +83,7 @@ pub record Texts : Type 0 where
   pub no-rows : recordsIn (split 10 []) ≡ some []
   pub trans-row : split 10 trans ≡ trans ∷ []
   pub trans-length : length trans ≡ 13
-  pub sample-length : length sampleText ≡ 122
+  pub sample-length : length sampleBytes ≡ 122
   pub outside-length : length (ascii "x") ≡ 1
   pub rows : length workedRows ≡ 13
   pub outside : length outsideRows ≡ 66
@@ -105,7 +105,7 @@ texts =
       compiled = refl;
     }
 
-sample-count : countIn (recordsIn (split 10 sampleText)) ≡ 7
+sample-count : countIn (recordsIn (split 10 sampleBytes)) ≡ 7
 unfolding
     countIn putWord _orElse_ ascii splitStep split same isDigit digitsFrom numberOf upTo numberTo named above lettered
     rows.valueOf rows.fieldBytes rows.group rows.allow rows.transition rows.constraint rows.forms
@@ -113,7 +113,7 @@ unfolding
     withFirst recordsIn
 sample-count = refl
 
-pub sample-records : (rs : List (List ℕ)) → recordsIn (split 10 sampleText) ≡ some rs → length rs ≡ 7
+pub sample-records : (rs : List (List ℕ)) → recordsIn (split 10 sampleBytes) ≡ some rs → length rs ≡ 7
 unfolding countIn
 sample-records rs e = sym (ap countIn e) ∙ sample-count
 
@@ -226,7 +226,7 @@ module _ (e : WorkedTexts) where
   text-row : (n : ℕ) → getD (map textGives workedTexts) n (built [] []) ≡ getD (map textMakes workedTexts) n (built [] [])
   text-row n = ap (λ (xs : List Made). getD xs n (built [] [])) e
 
-  pub sample-built : built sampleText (replicate 83 7) ≡ record { answer = gives 80; buffer = sample ++ replicate 3 7 }
+  pub sample-built : built sampleBytes (replicate 83 7) ≡ record { answer = gives 80; buffer = sample ++ replicate 3 7 }
   unfolding workedTexts textGives textMakes
   sample-built = text-row 0
 

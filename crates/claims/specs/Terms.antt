@@ -7,7 +7,7 @@
 --     threeQueries        document 01's first, third and fourth query, and what the program prints for them
 --     twoAndPart          two of them, and 7 bytes
 --     byBytes b           reads that bring one byte each
---     sampleText, trans   document 01's sample as text, and a row by itself
+--     sampleBytes, trans  document 01's sample as text, and a row by itself
 --     left text b         what a text leaves of the buffer b
 --     outsideBehind n     n line feeds and one more, and a row outside the form
 --     ReadingMet, AddingMet, DecidingMet, OrderingMet, RunningMet, NearingMet, BuildingMet, PrintingMet, CallingMet   by the parts of
@@ -38,7 +38,7 @@ use Rattle.text.specs.Words.{ascii, split}
 use Rattle.text.specs.Rows.{recordOfRow}
 use Rattle.text.specs.Build.{rowFault, rowsFrom, built}
 use Rattle.text.specs.Claims.{recordsIn, recordCount, complete, allAdded}
-use Rattle.text.specs.Cases.{workedRows, outsideRows, members, groupOf, fullGroups, oneTransition, workedTexts}
+use Rattle.text.specs.Cases.{workedRows, outsideRows, members, groupOf, fullGroups, oneTransition, sampleText, workedTexts}
 use Rattle.decision.specs.declared.Query.{Query}
 use Rattle.decision.specs.declared.Nearest.{Nearest}
 use Rattle.decision.specs.declared.Nearest.the-variants.{NoRules, Near}
@@ -91,10 +91,8 @@ threeSaid = "P 0\nN 1 0\nP 2\n"
 abbrev pub byBytes : List ℕ → List (List ℕ)
 byBytes = map (λ b. b ∷ [])
 
-abbrev pub sampleText : List ℕ
-sampleText =
-    ascii
-    "group 20 21\nallow 10 g0 5 1 on\nallow 20 30 5 2 on\ntrans 12 20 5\nallow 13 21 5 1 off\nlimit 5 1 10 21 2 10\nlimit 5 2 20 30 1"
+abbrev pub sampleBytes : List ℕ
+sampleBytes = ascii sampleText
 
 abbrev pub trans : List ℕ
 trans = ascii "trans 12 20 5"
@@ -519,7 +517,7 @@ pub record BuildingMet : Type 0 where
   pub full-18 : rowFault 5 (ascii "x") fullGroups ≡ some (refusal 18 5)
   pub full-11 : rowFault 5 (ascii "group 1024") fullGroups ≡ some (refusal 11 5)
   pub full-13 : rowFault 5 (ascii "trans 1 g255 3") fullGroups ≡ some (refusal 13 5)
-  pub sample-built : built sampleText (replicate 83 7) ≡ record { answer = gives 80; buffer = sample ++ replicate 3 7 }
+  pub sample-built : built sampleBytes (replicate 83 7) ≡ record { answer = gives 80; buffer = sample ++ replicate 3 7 }
   pub trans-built : built trans (replicate 17 7) ≡ record { answer = gives 17; buffer = oneTransition }
   pub trans-short : built trans (replicate 16 7) ≡ record { answer = refused (refusal 13 0); buffer = empty ++ replicate 7 7 }
   pub outside-full :
@@ -552,7 +550,7 @@ pub record PrintingMet : Type 0 where
   pub compiled-unread : (b : List ℕ) → length b ≡ 9 → reads (begun b) [] ≡ compiled [] b
   -- WorkedCompiled: all of them; the sample's text and a refused row, byte by byte
   pub compiled-all : length workedCompiled ≡ 7
-  pub sample-compiled : reads (begun (replicate 100 0)) (byBytes sampleText) ≡ record { output = sample; errors = [] }
+  pub sample-compiled : reads (begun (replicate 100 0)) (byBytes sampleBytes) ≡ record { output = sample; errors = [] }
   pub refused-compiled : reads (begun (replicate 100 0)) (byBytes (ascii "\n\nx")) ≡ record { output = []; errors = ascii "R 18 2 3\n" }
 
 pub record CallingMet : Type 0 where
@@ -608,7 +606,7 @@ pub record CallingMet : Type 0 where
       → (1 ≤ f .number) × (f .number ≤ 18) × (f .place ≤ 281474976710655)
   pub any-build-read :
       (text b : List ℕ) (o : Outcome ℕ) → length text ≤ 281474976710655 → built text b .answer ≡ o → hostBuilt (buildCode o) ≡ o
-  pub sample-build-read : hostBuilt (buildCode (built sampleText (replicate 83 7) .answer)) ≡ gives 80
+  pub sample-build-read : hostBuilt (buildCode (built sampleBytes (replicate 83 7) .answer)) ≡ gives 80
   pub far-build-read :
       (n : ℕ) (b : List ℕ) → 9 ≤ length b → n ≤ 281474976710653
       → hostBuilt (buildCode (built (outsideBehind n) b .answer)) ≡ refused (refusal 18 (suc n))

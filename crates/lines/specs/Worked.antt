@@ -13,6 +13,7 @@ use Rattle.format.specs.Sample.{sample, empty}
 use Rattle.decision.specs.declared.Nearest.the-variants.{NoRules, Near}
 use Rattle.decision.specs.Decide.{Decision, notPermitted, permitted, unknown}
 use Rattle.text.specs.Words.{ascii}
+use Rattle.text.specs.Cases.{sampleText}
 use Rattle.lines.specs.Lines.{line}
 use Rattle.lines.specs.Output.{printed}
 use Rattle.lines.specs.Compiled.{Written, compiled}
@@ -88,12 +89,7 @@ pub record WorkedText : Type 0 where
 
 unfoldable pub workedCompiled : List WorkedText
 workedCompiled =
-    record {
-      text =
-          "group 20 21\nallow 10 g0 5 1 on\nallow 20 30 5 2 on\ntrans 12 20 5\nallow 13 21 5 1 off\nlimit 5 1 10 21 2 10\nlimit 5 2 20 30 1";
-      output = sample;
-      errors = "";
-    }
+    record { text = sampleText; output = sample; errors = "" }
     ∷ record { text = ""; output = empty; errors = "" }
     ∷ record { text = "\n\n"; output = empty; errors = "" }
     ∷ record { text = "\n\nx"; output = []; errors = "R 18 2 3\n" }

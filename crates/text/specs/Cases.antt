@@ -97,15 +97,14 @@ pub record WorkedText : Type 0 where
 unfoldable pub oneTransition : List ℕ
 oneTransition = 1 ∷ 0 ∷ 17 ∷ 0 ∷ 0 ∷ 0 ∷ 1 ∷ 0 ∷ 0 ∷ 8 ∷ 3 ∷ 0 ∷ 12 ∷ 0 ∷ 20 ∷ 0 ∷ 5 ∷ []
 
+-- document 01's sample
+abbrev pub sampleText : String
+sampleText =
+    "group 20 21\nallow 10 g0 5 1 on\nallow 20 30 5 2 on\ntrans 12 20 5\nallow 13 21 5 1 off\nlimit 5 1 10 21 2 10\nlimit 5 2 20 30 1"
+
 unfoldable pub workedTexts : List WorkedText
 workedTexts =
-    record {
-      text =
-          "group 20 21\nallow 10 g0 5 1 on\nallow 20 30 5 2 on\ntrans 12 20 5\nallow 13 21 5 1 off\nlimit 5 1 10 21 2 10\nlimit 5 2 20 30 1";
-      space = 83;
-      answer = gives 80;
-      buffer = sample ++ replicate 3 7;
-    }
+    record { text = sampleText; space = 83; answer = gives 80; buffer = sample ++ replicate 3 7 }
     ∷ record { text = ""; space = 10; answer = gives 9; buffer = empty ++ replicate 1 7 }
     ∷ record { text = "\n\n"; space = 9; answer = gives 9; buffer = empty }
     ∷ record { text = ""; space = 8; answer = refused (refusal 13 0); buffer = replicate 8 7 }
@@ -113,9 +112,24 @@ workedTexts =
     ∷ record { text = "trans 12 20 5"; space = 17; answer = gives 17; buffer = oneTransition }
     ∷ record { text = "trans 12 20 5\n"; space = 17; answer = gives 17; buffer = oneTransition }
     ∷ record { text = "trans 12 20 5"; space = 16; answer = refused (refusal 13 0); buffer = empty ++ replicate 7 7 }
-    ∷ record { text = "trans 12 20 5\ngroup g0\n"; space = 20; answer = refused (refusal 18 14); buffer = oneTransition ++ replicate 3 7 }
-    ∷ record { text = "trans 12 20 5\ntrans 1 2 3\nx"; space = 20; answer = refused (refusal 13 14); buffer = oneTransition ++ replicate 3 7 }
-    ∷ record { text = "trans 12 20 5\nx\ntrans 1 2 3"; space = 20; answer = refused (refusal 18 14); buffer = oneTransition ++ replicate 3 7 }
+    ∷ record {
+      text = "trans 12 20 5\ngroup g0\n";
+      space = 20;
+      answer = refused (refusal 18 14);
+      buffer = oneTransition ++ replicate 3 7;
+    }
+    ∷ record {
+      text = "trans 12 20 5\ntrans 1 2 3\nx";
+      space = 20;
+      answer = refused (refusal 13 14);
+      buffer = oneTransition ++ replicate 3 7;
+    }
+    ∷ record {
+      text = "trans 12 20 5\nx\ntrans 1 2 3";
+      space = 28;
+      answer = refused (refusal 18 14);
+      buffer = oneTransition ++ replicate 11 7;
+    }
     ∷ record { text = "trans 12 20 5\nx"; space = 17; answer = refused (refusal 18 14); buffer = oneTransition }
     ∷ record { text = "\n\ntrans 1 1024 3"; space = 17; answer = refused (refusal 11 2); buffer = empty ++ replicate 8 7 }
     ∷ record { text = "trans 1 g0 3"; space = 17; answer = refused (refusal 11 0); buffer = empty ++ replicate 8 7 }

@@ -1,5 +1,5 @@
 //! The program `compile` and streams that are late, that break or are full: what it writes, what it says on standard
-//! error, and how it ends. It writes nothing before the text has ended.
+//! error, and how it ends. It writes no image before the text has ended.
 
 use super::watched::{ended, send, start, told, LATE, SIGPIPE};
 use crate::compare::{Outcome, Pair};

@@ -49,7 +49,8 @@ fn groups_named(record: &[u8]) -> usize {
     fields.filter(|&field| field >= 32768).map(|field| usize::from(field - 32768) + 1).max().unwrap_or(0)
 }
 
-/// A refused text: what stands before its row is not refused and leaves the same buffer, and its row is refused.
+/// A refused text: what stands before its row is not refused and leaves the same buffer, and the row is refused without
+/// what follows it too.
 fn rows_before(pair: &Pair, seed: u64) -> Outcome {
     let (text, lent) = build_case(seed);
     let shown = || format!("{} into {} bytes", typed(&text), lent.len());
@@ -60,7 +61,12 @@ fn rows_before(pair: &Pair, seed: u64) -> Outcome {
             equal("short buffer", (refused.number, refused.place), (13, 0), shown)?;
             return same_bytes("short buffer", &buffer, &lent, shown);
         }
-        Err(refused) => &text[..refused.place],
+        Err(refused) => {
+            let row = text[refused.place..].split(|&byte| byte == b'\n').next().unwrap_or_default();
+            let through = &text[..refused.place + row.len()];
+            equal("through the row", pair.engine.build(through, &mut lent.clone()), said, shown)?;
+            &text[..refused.place]
+        }
         Ok(_) => &text,
     };
     let mut before = lent.clone();
