@@ -1,23 +1,21 @@
 -- What meets the terms of the claims of the nearest rule, from the statement: no claim's own proof is cited. Assumes nothing.
-use Prim.Native.Nat.{suc, _≤_}
+use Prim.Native.Nat.{_≤_}
 use native.Mathlib.Omega.{arith}
 use mathlib.Core.Path.{_≡_, refl, sym, subst, ap, _∙_}
 use mathlib.Core.Logic.{inl}
 use mathlib.Core.Bool.{false, cond}
-use mathlib.Core.List.{List, [], _∷_, List·Memᴰ, List·Memᴰ·head}
+use mathlib.Core.List.{[], List·Memᴰ, List·Memᴰ·head}
 use lib.ListN.{length, getD}
 use lib.Dec.{eqb}
 use borrow.Author.Tests.{eqb-true, eqb-false, eq-eqb, ne-eqb}
 use Rattle.format.specs.Bytes.{wordAt}
 use Rattle.format.specs.Policy.{policyOf}
-use Rattle.format.specs.Answers.{gives}
 use Rattle.format.specs.Sample.{sample, empty}
 use Rattle.format.proofs.Fields.{is-type}
 use Rattle.decision.specs.declared.Query.{Query}
-use Rattle.decision.specs.declared.Nearest.{Nearest}
-use Rattle.decision.specs.declared.Nearest.the-variants.{NoRules, Near}
+use Rattle.decision.specs.declared.Nearest.the-variants.{NoRules}
 use Rattle.decision.specs.Reading.{Rule, Request}
-use Rattle.decision.specs.Decide.{covers, steps, notPermitted, permitted, unknown, answer}
+use Rattle.decision.specs.Decide.{covers, steps, notPermitted}
 use Rattle.decision.specs.Cases.{companion, extended}
 use Rattle.decision.specs.Steps.{stepsAt, sourceIn, destIn}
 use Rattle.decision.specs.Before.{barely}

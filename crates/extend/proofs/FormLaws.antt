@@ -1,17 +1,16 @@
 -- The forms of rows by kind, as tables. Assumes nothing.
 --     form-..         the form of a kind
 --     group-.., allow-.., transition-.., constraint-..   the fields of a form by their place
-use Prim.Native.Nat.{ℕ, zero, suc, _+_, _-_, _≤_, _<_}
-use mathlib.Core.Path.{_≡_, refl, sym, ap, _∙_}
+use Prim.Native.Nat.{ℕ, zero, suc, _-_, _≤_, _<_}
+use mathlib.Core.Path.{_≡_, refl, sym, _∙_}
 use mathlib.Core.Bool.{Bool, true, false, cond}
-use mathlib.Core.List.{List, [], _∷_, _++_}
 use native.Mathlib.Omega.{arith}
 use lib.ListN.{length, getD, replicate}
 use lib.Dec.{eqb}
 use borrow.Author.Tests.{eq-eqb, ne-eqb}
 use Rattle.text.specs.declared.Field.{Field}
 use Rattle.text.specs.declared.Field.the-variants.{Member, AnyType, Number, Predicate, Condition}
-use Rattle.text.specs.Rows.{Form, group, allow, transition, constraint}
+use Rattle.text.specs.Rows.{group, allow, transition, constraint}
 use Rattle.extend.specs.Inner.Filled.{formOf, fieldsIn}
 
 module _ (k : ℕ) where

@@ -1,7 +1,7 @@
 -- Laws of the sections' places after one record more. Assumes nothing.
 use Prim.Native.Nat.{ℕ, _+_, _≤_, _<_}
-use mathlib.Core.Path.{_≡_, refl, sym, ap, ap₂, _∙_}
-use mathlib.Core.Option.{Option, none, some}
+use mathlib.Core.Path.{_≡_, sym, ap, ap₂, _∙_}
+use mathlib.Core.Option.{none, some}
 use mathlib.Core.List.{List, [], _∷_, _++_, flatten}
 use native.Mathlib.Omega.{arith}
 use lib.ListN.{length, getD, length-append}
@@ -9,13 +9,13 @@ use Rattle.format.specs.declared.Section.{Section}
 use Rattle.format.specs.declared.Section.the-variants.{Groups, Rules, Constraints}
 use Rattle.format.specs.declared.Starts.{Starts}
 use Rattle.format.specs.Bytes.{Bytes}
-use Rattle.format.specs.Refusals.{refusal, _orElse_}
+use Rattle.format.specs.Refusals.{refusal}
 use Rattle.format.specs.Format.{countPlace}
 use Rattle.format.specs.Policy.{Policy, imageOf, policyOf, startOf}
 use Rattle.format.specs.Check.{imageIn, checkFront}
 use Rattle.format.specs.Answers.{starts}
 use Rattle.format.proofs.ByCase.{count-place-groups, count-place-rules, count-place-constraints}
-use Rattle.format.proofs.Chain.{orElse-split, orElse-next}
+use Rattle.format.proofs.Chain.{orElse-split}
 use Rattle.format.proofs.Front.{front-accepted, front-bytes}
 use Rattle.format.proofs.Images.{Sound, policy-sound, image-of-policy, start-rules, start-constraints}
 use Rattle.extension.specs.Add.{sectionOf, withRecord, ownFault, addFault, bufferAfter}
@@ -26,6 +26,7 @@ use Rattle.format.proofs.Shapes.{length-cases, shape-kind}
 use Rattle.format.proofs.Accepted.{accepted-header, accepted-body, start-inside}
 use Rattle.format.proofs.Images.{longest-image}
 use Rattle.extension.specs.Inner.Splice.{inserted}
+use Rattle.extension.proofs.Splices.{flatten-snoc}
 use Rattle.extension.proofs.Adds.{own-passes, buffer-inserted, buffer-refused, added-accepted}
 use Rattle.extend.specs.declared.plan.Slot.{Slot}
 use Rattle.extend.specs.Inner.Plans.{slotOf}
@@ -33,10 +34,7 @@ use Rattle.text.specs.Build.{movedTo}
 use Rattle.extend.specs.Inner.Grow.{movedStarts, Grows}
 
 flatten-more : (xs : List (List ℕ)) (r : List ℕ) → length (flatten (xs ++ (r ∷ []))) ≡ length (flatten xs) + length r
-unfolding flatten
-flatten-more [] r = length-append r [] ∙ omega arith
-flatten-more (x ∷ xs) r =
-    length-append x (flatten (xs ++ (r ∷ []))) ∙ omega (arith, flatten-more xs r, length-append x (flatten xs))
+flatten-more xs r = ap length (flatten-snoc xs r) ∙ length-append (flatten xs) r
 
 abbrev places : ℕ → ℕ → Starts
 places a b = record { rules = a; constraints = b }
@@ -73,10 +71,6 @@ starts-moved b r by bytes e =
     ap (λ (x : List ℕ). movedStarts (starts x) (countPlace s) (length r)) (sym i)
     ∙ starts-with s (policyOf (imageIn b)) r (policy-sound (imageIn b) (front-bytes b f by) (front-accepted b f)) (rw (q .1) at (policy-sound l lb la))
     ∙ ap starts j
-
-pub fault-own : (b r : List ℕ) → checkFront b ≡ none → addFault b r ≡ ownFault b r
-unfolding addFault
-fault-own b r e = orElse-next (ownFault b r) e
 
 pub starts-small :
     (b r : List ℕ) → addFault b r ≡ none → (y : Starts) → y ≡ starts (imageIn b) → (y .rules + length r < 131072) × (y .constraints + length r < 131072)

@@ -1,5 +1,5 @@
 -- Laws of the plan of an add, by the ways that the code goes. Assumes nothing.
-use Prim.Native.Nat.{ℕ, _+_, _-_, _≤_, _<_}
+use Prim.Native.Nat.{ℕ, _+_, _≤_, _<_}
 use mathlib.Core.Path.{_≡_, refl, sym, ap, _∙_}
 use mathlib.Core.Bool.{Bool, true, false}
 use mathlib.Core.Option.{none, some}
@@ -12,7 +12,7 @@ use Rattle.format.specs.declared.Section.the-variants.{Groups, Rules, Constrain
 use Rattle.format.specs.declared.Read.the-variants.{Whole, Malformed, BadField}
 use Rattle.format.specs.declared.Starts.{Starts}
 use Rattle.format.specs.Bytes.{Bytes, wordAt}
-use Rattle.format.specs.Refusals.{refusal, _orElse_}
+use Rattle.format.specs.Refusals.{refusal}
 use Rattle.format.specs.Format.{limitOf, countPlace, countOf, kindIn, firstRecord, shapeOk}
 use Rattle.format.specs.Check.{readOf, imageIn, checkFront, Accepted}
 use Rattle.format.specs.Answers.{gives, outcome, starts}

@@ -3,7 +3,7 @@
 --     next-.., fields-..   the fields of a form, from a place on
 --     fill-..         the words of a row, from a place of the text on
 --     record-..       the whole record
-use Prim.Native.Nat.{ℕ, zero, suc, _+_, _-_, _*_, _/_, _%_, _≤_, _<_}
+use Prim.Native.Nat.{ℕ, zero, suc, _+_, _-_, _/_, _%_, _≤_, _<_}
 use mathlib.Core.Path.{_≡_, refl, sym, ap, _∙_}
 use mathlib.Core.Bool.{Bool, true, false, cond}
 use mathlib.Core.Option.{Option, none, some}
@@ -12,13 +12,12 @@ use native.Mathlib.Omega.{arith}
 use native.Mathlib.Nat.{sub-zero}
 use lib.ListN.{length, getD, take, drop, set, length-append, length-take, length-drop, length-set, drop-of-length-le}
 use lib.Seq.{take-suc-set, length-take-le, drop-append-le, drop-drop, drop-cons, getD-drop}
-use lib.Dec.{leb, ltb, eqb}
+use lib.Dec.{ltb}
 use borrow.Author.Tests.{lt-ltb, le-ltb, ltb-true, ltb-false}
-use Rattle.format.specs.Bytes.{putWord}
 use Rattle.format.proofs.Bytes.{put-word}
 use Rattle.text.specs.declared.Field.{Field}
 use Rattle.text.specs.declared.Field.the-variants.{Member, AnyType, Number, Predicate, Condition}
-use Rattle.text.specs.Words.{ascii, split, same, named}
+use Rattle.text.specs.Words.{split, same}
 use Rattle.text.specs.Rows.{valueOf, fieldBytes, group, allow, transition, constraint, forms, asBytes, joined, fieldsOf, headed, recordBy, recordOfWords, recordOfRow}
 use Rattle.text.specs.Inner.Parts.{runOf}
 use Rattle.text.specs.Inner.Read.{rowOf, wordSize, wordOf}
@@ -26,7 +25,7 @@ use Rattle.text.proofs.Records.{valueMost, value-most}
 use Rattle.text.proofs.Read.{word-stop, words-more, words-last, words-first}
 use Rattle.extend.specs.declared.spell.Word.{Word}
 use Rattle.extend.specs.declared.row.Row.{Row}
-use Rattle.extend.proofs.WordLaws.{said-some}
+use Rattle.extend.proofs.WordLaws.{said-some, word-is}
 use Rattle.extend.specs.Inner.Filled.{said, kindOf, formOf, fieldsIn, isShort, fieldsFrom, fieldsOfPart, recordOfPart, closedRow, Says, Fills, Records}
 
 -- ---- a word's number put into the record
@@ -385,10 +384,6 @@ module _ (text : List ℕ) (at end : ℕ) (inside : at ≤ length text) (e : end
   abbrev word : List ℕ
   word = take (end - at) (drop at text)
 
-  word-first : word ≡ wordOf line
-  unfolding wordOf
-  word-first = let n : end - at ≡ wordSize (drop at text) = omega arith in ap (λ (k : ℕ). take k (drop at text)) n
-
   byte-at : getD line (wordSize line) 0 ≡ getD text end 0
   byte-at = getD-drop at text (wordSize line) 0 ∙ ap (λ (x : ℕ). getD text x 0) (sym e)
 
@@ -396,7 +391,7 @@ module _ (text : List ℕ) (at end : ℕ) (inside : at ≤ length text) (e : end
   unfolding recordOfRow recordOfWords
   record-unknown h part =
       let q = words-first line in
-      record-nothing text at end part (rw (q .1) (kind-none (wordOf line) (q .0) (ap kindOf (sym word-first) ∙ h)))
+      record-nothing text at end part (rw (q .1) (kind-none (wordOf line) (q .0) (ap kindOf (sym (word-is text at end e)) ∙ h)))
 
   pub record-alone : (end < length text → getD text end 0 ≡ 10) → (part : List ℕ) → Records text at (record { length = 0; end = end }) part
   unfolding recordOfRow recordOfWords
@@ -421,7 +416,7 @@ module _ (text : List ℕ) (at end : ℕ) (inside : at ≤ length text) (e : end
     unfolding recordOfRow recordOfWords
     record-is =
         let q = words-more line room-behind space-at .0 in
-        rw (q, rest-is, ← word-first) (kind-some word (split 32 (rowOf (drop (end + 1) text))) known ∙ ap (headed (kindOf word)) (fills .fields))
+        rw (q, rest-is, ← word-is text at end e) (kind-some word (split 32 (rowOf (drop (end + 1) text))) known ∙ ap (headed (kindOf word)) (fills .fields))
 
     row-is : at + runOf 10 (drop at text) ≡ end + 1 + runOf 10 (drop (end + 1) text)
     row-is =

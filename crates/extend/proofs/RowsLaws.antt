@@ -4,14 +4,14 @@
 --     rows-outside, rows-refused, rows-added   a row, by what comes of it
 use Prim.Native.Nat.{ℕ, suc, _+_, _≤_, _<_}
 use mathlib.Core.Path.{_≡_, refl, sym, ap, ap₂, _∙_}
-use mathlib.Core.Bool.{Bool, true, false, cond}
+use mathlib.Core.Bool.{Bool, true, false}
 use mathlib.Core.Option.{Option, none, some}
 use mathlib.Core.List.{List, [], _∷_}
 use native.Mathlib.Omega.{arith}
 use lib.ListN.{length, getD, take, drop, drop-of-length-le, length-drop}
 use lib.Seq.{length-take-le, drop-drop, drop-cons, getD-drop}
-use lib.Dec.{ltb, eqb}
-use borrow.Author.Tests.{lt-ltb, le-ltb, ltb-true, ltb-false, ne-eqb, eqb-true}
+use lib.Dec.{ltb}
+use borrow.Author.Tests.{lt-ltb, le-ltb, ltb-true, ltb-false}
 use Rattle.format.specs.declared.Refusal.{Refusal}
 use Rattle.format.specs.declared.Starts.{Starts}
 use Rattle.format.specs.declared.Sections.{Sections}
@@ -25,7 +25,6 @@ use Rattle.format.proofs.Front.{front-of, image-in-of}
 use Rattle.format.proofs.Sample.{sample-accepted, empty-sections}
 use Rattle.extension.specs.Add.{addFault, bufferAfter, overwrite}
 use Rattle.text.specs.Words.{splitStep, split}
-use Rattle.text.specs.Rows.{recordOfRow}
 use Rattle.text.specs.Build.{Made, movedTo, recordFault, afterRecord, rowFault, afterRow, onward, rowsFrom}
 use Rattle.text.specs.Claims.{complete}
 use Rattle.text.specs.Inner.Parts.{runOf, rest}

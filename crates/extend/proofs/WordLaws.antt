@@ -5,17 +5,17 @@
 --     upto-..           a number in its range
 --     says-..           what a word says, and the place past it
 --     decimal-..        by how many digits there are, and the first
+--     word-is           the bytes up to the place past a word are that word
 use Prim.Native.Nat.{ℕ, zero, suc, _+_, _-_, _*_, _≤_, _<_}
 use mathlib.Core.Path.{_≡_, refl, sym, ap, _∙_}
 use mathlib.Core.Bool.{Bool, true, false, cond, _&&_, _||_}
 use mathlib.Core.Option.{Option, none, some}
-use mathlib.Core.List.{List, [], _∷_, _++_}
+use mathlib.Core.List.{List, [], _∷_}
 use native.Mathlib.Omega.{arith}
 use lib.ListN.{length, getD, take, drop, drop-of-length-le, length-drop}
 use lib.Seq.{drop-cons, length-take-le, getD-take, getD-drop}
 use lib.Dec.{leb, eqb}
 use borrow.Author.Tests.{le-leb, lt-leb, leb-true, eq-eqb, ne-eqb}
-use Rattle.format.specs.Refusals.{_orElse_}
 use Rattle.format.proofs.Chain.{some-not-none, orElse-none, orElse-next, orElse-first, orElse-nothing}
 use Rattle.text.specs.declared.Field.the-variants.{AnyType, Condition}
 use Rattle.text.specs.Words.{ascii, same, isDigit, digitsFrom, numberOf, upTo, numberTo, named, above, lettered}
@@ -118,14 +118,6 @@ unfolding upTo
 upto-some most n e h = rw (e, le-leb n most h)
 
 -- ---- what a word says
-
-pub said-few : (o : Option ℕ) (most : ℕ) → most < 65536 → said (upTo most o) ≤ 65536
-unfolding said upTo
-said-few none most h = omega arith
-said-few (some n) most h = step (leb n most) refl where
-  step : (t : Bool) → leb n most ≡ t → said (cond t (some n) none) ≤ 65536
-  step true e = let k = leb-true n most e in omega arith
-  step false e = omega arith
 
 pub said-none : (o : Option ℕ) (most : ℕ) → most < 65536 → said (upTo most o) ≡ 65536 → upTo most o ≡ none
 unfolding said upTo
@@ -319,7 +311,7 @@ module _ (text : List ℕ) (from : ℕ) where
 -- ---- conditions
 
 module _ (text : List ℕ) (from end : ℕ) (e : end ≡ from + wordSize (drop from text)) where
-  word-is : take (end - from) (drop from text) ≡ wordOf (drop from text)
+  pub word-is : take (end - from) (drop from text) ≡ wordOf (drop from text)
   unfolding wordOf
   word-is = let n : end - from ≡ wordSize (drop from text) = omega arith in ap (λ (k : ℕ). take k (drop from text)) n
 

@@ -9,7 +9,7 @@
 --     buffer-inserted      the buffer after adding, as the bytes are moved and written
 --     added-accepted, number-named, groups-kept, rest-stays, refused-unchanged   claims AddedAccepted, NumberNamed, GroupsKept,
 --                          RestStays, RefusedUnchanged
-use Prim.Native.Nat.{ℕ, _+_, _-_, _≤_, _<_}
+use Prim.Native.Nat.{ℕ, _+_, _≤_, _<_}
 use mathlib.Core.Path.{_≡_, refl, sym, subst, ap, _∙_}
 use mathlib.Core.Logic.{_⊎_, inl, inr, ⊎-elim}
 use mathlib.Core.Bool.{true}
@@ -24,7 +24,7 @@ use Rattle.format.specs.declared.Section.{Section}
 use Rattle.format.specs.declared.Section.the-variants.{Groups, Rules, Constraints}
 use Rattle.format.specs.declared.Refusal.{Refusal}
 use Rattle.format.specs.Bytes.{Bytes, wordAt}
-use Rattle.format.specs.Refusals.{refusal, need, _orElse_}
+use Rattle.format.specs.Refusals.{refusal, need}
 use Rattle.format.specs.Format.{limitOf, countPlace, countOf, kindIn, shapeOk, badField}
 use Rattle.format.specs.Policy.{Policy, recordsOf, imageOf, policyOf}
 use Rattle.format.specs.Check.{imageIn, checkFront, Accepted}
@@ -222,13 +222,13 @@ with-length s p r = image-length (withRecord s p r) ∙ sym (length-with s p r [
 
 -- ---- adding to an image with bytes behind it
 
+pub count-is : (p : Policy) (t : List ℕ) → Sound p → (s : Section) → countOf (imageOf p ++ t) s ≡ length (recordsOf p s)
+count-is p t w s = front-of-count (imageOf p) t (image-accepted p w) s ∙ image-count p s
+
 module _ (p : Policy) (t : List ℕ) (s : Section) (r : List ℕ) (w : Sound p) (f : Formed s (length (p .groups)) r)
     (few : length (recordsOf p s) < limitOf s) (room : length (imageOf p) + length r ≤ length (imageOf p ++ t)) where
-  count-is : (s′ : Section) → countOf (imageOf p ++ t) s′ ≡ length (recordsOf p s′)
-  count-is s′ = front-of-count (imageOf p) t (image-accepted p w) s′ ∙ image-count p s′
-
   groups-are : countOf (imageOf p ++ t) Groups ≡ length (p .groups)
-  groups-are = count-is Groups ∙ ap length (records-of-groups p)
+  groups-are = count-is p t w Groups ∙ ap length (records-of-groups p)
 
   size-is : wordAt (imageOf p ++ t) 1 ≡ length (imageOf p)
   size-is = front-of-length (imageOf p) t (image-accepted p w)
@@ -243,7 +243,7 @@ module _ (p : Policy) (t : List ℕ) (s : Section) (r : List ℕ) (w : Sound p) 
       (passes-own (imageOf p ++ t) r
       (record {
         formed = rw (is-section, groups-are) f;
-        few = rw (is-section, count-is s) few;
+        few = rw (is-section, count-is p t w s) few;
         room = rw size-is room;
       }))
 

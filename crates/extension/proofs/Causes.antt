@@ -1,5 +1,6 @@
 -- Why a record is refused, on a front that is accepted. Assumes nothing.
 --     add-own            a record that is not refused has no cause of its own
+--     own-is             what refuses it is its own
 --     formed-refused     a record that has its shape can be refused with 11, 12 and 13
 --     short-formed       with 13 only where nothing else is amiss
 --     not-short          and not where it passes
@@ -16,7 +17,7 @@ use Rattle.format.specs.declared.Section.{Section}
 use Rattle.format.specs.declared.Section.the-variants.{Groups}
 use Rattle.format.specs.declared.Refusal.{Refusal}
 use Rattle.format.specs.Bytes.{wordAt}
-use Rattle.format.specs.Refusals.{refusal, need, _orElse_}
+use Rattle.format.specs.Refusals.{refusal, need}
 use Rattle.format.specs.Format.{limitOf, countOf, shapeOk, badField}
 use Rattle.format.specs.Check.{checkFront}
 use Rattle.format.proofs.Chain.{orElse-split, orElse-next, need-true, need-none, some-not-none, orElse-refuses, need-refuses}
@@ -29,7 +30,7 @@ unfolding addFault
 add-own b r e = own-passes b r (orElse-split (checkFront b) (ownFault b r) e .1)
 
 module _ (b r : List ℕ) (ok : checkFront b ≡ none) where
-  own-is : addFault b r ≡ ownFault b r
+  pub own-is : addFault b r ≡ ownFault b r
   unfolding addFault
   own-is = orElse-next (ownFault b r) ok
 

@@ -1,8 +1,9 @@
 -- A record spliced into the bytes of an image gives the image of the policy with that record. Assumes nothing.
 --     before, behind       the bytes of a policy's records up to the end of a section, and those after it
+--     flatten-snoc         the bytes of records, and of one record more
 --     section-end          where that is in the image
 --     inserted-image       the law
-use Prim.Native.Nat.{ℕ, _+_, _-_, _/_, _%_}
+use Prim.Native.Nat.{ℕ, _+_, _/_, _%_}
 use mathlib.Core.Path.{_≡_, refl, sym, ap, _∙_}
 use mathlib.Core.List.{List, [], _∷_, _++_, flatten, append-assoc, append-nil}
 use native.Mathlib.Omega.{arith}
@@ -28,7 +29,7 @@ behind Groups p = flatten (p .rules) ++ flatten (p .constraints)
 behind Rules p = flatten (p .constraints)
 behind Constraints p = []
 
-flatten-snoc : (rs : List (List ℕ)) (r : List ℕ) → flatten (rs ++ (r ∷ [])) ≡ flatten rs ++ r
+pub flatten-snoc : (rs : List (List ℕ)) (r : List ℕ) → flatten (rs ++ (r ∷ [])) ≡ flatten rs ++ r
 unfolding flatten
 flatten-snoc [] r = append-nil r
 flatten-snoc (x ∷ rs) r = ap (λ (t : List ℕ). x ++ t) (flatten-snoc rs r) ∙ sym (append-assoc x (flatten rs) r)

@@ -11,7 +11,7 @@
 --     record-nth, group-nth   record n of a section of the policy, and of the groups
 --     records-count       the section of the policy has as many records as the header counts
 --     records-given, all-given, none-given, empty-tells   claims RecordsGiven, AllGiven, NoneGiven, EmptyTells
-use Prim.Native.Nat.{ℕ, zero, suc, _+_, _-_, _≤_, _<_}
+use Prim.Native.Nat.{ℕ, zero, suc, _+_, _≤_, _<_}
 use mathlib.Core.Path.{_≡_, refl, sym, ap, ap₂, _∙_}
 use mathlib.Core.Bool.{Bool, true, _&&_}
 use mathlib.Core.Option.{none, some}
@@ -26,7 +26,7 @@ use Rattle.format.specs.declared.Section.{Section}
 use Rattle.format.specs.declared.Section.the-variants.{Groups, Rules, Constraints}
 use Rattle.format.specs.declared.Refusal.{Refusal}
 use Rattle.format.specs.Bytes.{wordAt}
-use Rattle.format.specs.Refusals.{refusal, need, _orElse_, unlessRefused}
+use Rattle.format.specs.Refusals.{refusal, need, unlessRefused}
 use Rattle.format.specs.Format.{knownVersion, limitOf, countOf}
 use Rattle.format.specs.Policy.{policyOf, recordsOf, recordAt, recordsAt, placeAfter, startOf, placeOf, endOf}
 use Rattle.format.specs.Check.{sectionFault, countFault, headerFault, bodyFault, check, Accepted}

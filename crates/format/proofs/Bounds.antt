@@ -18,7 +18,7 @@ use Rattle.format.specs.declared.Refusal.{Refusal}
 use Rattle.format.specs.declared.Read.{Read}
 use Rattle.format.specs.declared.Read.the-variants.{Whole, Malformed, BadField}
 use Rattle.format.specs.Bytes.{Bytes, wordAt}
-use Rattle.format.specs.Refusals.{refusal, need, _orElse_}
+use Rattle.format.specs.Refusals.{refusal, need}
 use Rattle.format.specs.Format.{knownVersion, limitOf, countPlace, countOf, firstRecord}
 use Rattle.format.specs.Policy.{recordAt, startOf, placeOf, endOf}
 use Rattle.format.specs.Check.{readOf, readFault, sectionFault, countFault, headerFault, bodyFault, check, checkFront, leading, imageIn}

@@ -1,4 +1,5 @@
 -- The image that a buffer starts with: what acceptance says of it, and of an image with bytes behind it. Assumes nothing.
+--     image-in-is         the bytes up to the length field
 --     front-header        the header of an accepted front
 --     front-accepted      the bytes up to the length field are an accepted image
 --     front-length        and as many as that field says
@@ -49,6 +50,10 @@ module _ (l b : List ℕ) (same : (i : ℕ) → i < 9 → getD l i 0 ≡ getD b 
         fit = rw (word-same 1 (omega arith)) f;
         few = λ s. rw (count-same s) (h .few s);
       }
+
+pub image-in-is : (b : List ℕ) → imageIn b ≡ take (wordAt b 1) b
+unfolding imageIn
+image-in-is b = refl
 
 module _ (b : List ℕ) (e : checkFront b ≡ none) where
   pub front-header : Header leb b

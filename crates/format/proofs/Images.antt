@@ -5,7 +5,7 @@
 --     policy-of-image        the policy of a sound policy's image is that policy
 --     image-accepted         and that image is accepted
 --     policy-formed          each record of an accepted image's policy is formed
-use Prim.Native.Nat.{ℕ, suc, _+_, _-_, _*_, _≤_, _<_}
+use Prim.Native.Nat.{ℕ, suc, _+_, _*_, _≤_, _<_}
 use mathlib.Core.Path.{_≡_, refl, sym, subst, ap, _∙_}
 use mathlib.Core.Bool.{true}
 use mathlib.Core.Option.{none}
@@ -18,7 +18,6 @@ use borrow.Author.Tests.{eqb-true, leb-true, le-leb, eq-eqb}
 use Rattle.format.specs.declared.Section.{Section}
 use Rattle.format.specs.declared.Section.the-variants.{Groups, Rules, Constraints}
 use Rattle.format.specs.Bytes.{Bytes, wordAt, putWord}
-use Rattle.format.specs.Refusals.{_orElse_}
 use Rattle.format.specs.Format.{knownVersion, limitOf, countPlace, countOf, kindIn, firstRecord}
 use Rattle.format.specs.Policy.{Policy, recordsOf, bodyOf, imageOf, recordAt, recordsAt, placeAfter, startOf, placeOf, endOf, policyOf}
 use Rattle.format.specs.Check.{sectionFault, headerFault, bodyFault, check, Accepted}

@@ -3,7 +3,7 @@
 --     section-prefix        a section without a refusal has none in its first records
 --     section-formed        and each of its records is formed
 --     Runs l at rs e        the records rs lie in l from a place on, and end at e
-use Prim.Native.Nat.{ℕ, zero, suc, _+_, _-_, _≤_, _<_}
+use Prim.Native.Nat.{ℕ, zero, suc, _+_, _≤_, _<_}
 use mathlib.Core.Path.{_≡_, refl, sym, ap, ap₂, _∙_}
 use mathlib.Core.Logic.{⊎-elim}
 use mathlib.Core.Bool.{true}
@@ -15,7 +15,6 @@ use lib.ListN.{length, getD, take, drop, length-append, take-append-drop, List·
 use lib.Seq.{take-at, drop-at, drop-drop, getD-drop}
 use Rattle.format.specs.declared.Section.{Section}
 use Rattle.format.specs.declared.Section.the-variants.{Groups}
-use Rattle.format.specs.Refusals.{_orElse_}
 use Rattle.format.specs.Format.{countOf, firstRecord, shapeOk}
 use Rattle.format.specs.Policy.{recordAt, placeAfter, recordsAt}
 use Rattle.format.specs.Check.{readOf, readFault, sectionFault}

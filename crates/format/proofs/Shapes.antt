@@ -5,7 +5,7 @@
 --     first-whole         a record whose length byte is its length is the one that it starts with
 --     read-whole, whole-read   the reader finds a whole record where the record is formed, and nowhere else
 --     read-malformed, read-bad-field   what the other answers say
-use Prim.Native.Nat.{ℕ, _+_, _-_, _%_, _≤_, _<_}
+use Prim.Native.Nat.{ℕ, _+_, _%_, _≤_, _<_}
 use mathlib.Core.Path.{_≡_, refl, sym, ap, _∙_}
 use mathlib.Core.Bool.{Bool, true, false, _&&_, cond}
 use mathlib.Core.Option.{Option, none, some}

@@ -1,7 +1,7 @@
 -- However reads cut a text, what is written for it is the same: claim AnyCompiled. Assumes nothing.
 --     said at row t b    what is written for the text t, which starts at a place with the row of this number, added to b
 --     said-refused       where it is refused
---     said-later         where the whole rows of its first bytes are not: what is written for the text behind them
+--     said-moved         where the whole rows of its first bytes are not: what is written for the text behind them
 --     turn-faulty, turn-full, turn-goes   what a turn refuses: a row, one that fills the space, or none
 --     read-on            a turn, and then what is written for the rest
 --     begun-is, turned-is, reads-on, reads-stop, reads-refused, reads-image   what the program does, read by read
@@ -19,10 +19,11 @@ use borrow.Author.Tests.{ltb-true, ltb-false, lt-ltb, le-ltb}
 use Rattle.format.specs.declared.Refusal.{Refusal}
 use Rattle.format.specs.Bytes.{wordAt}
 use Rattle.format.specs.Refusals.{refusal}
-use Rattle.format.specs.Check.{checkFront}
+use Rattle.format.specs.Check.{imageIn, checkFront}
 use Rattle.format.specs.Answers.{Outcome, refused, gives}
 use Rattle.format.specs.Sample.{empty}
 use Rattle.format.proofs.Chain.{orElse-first, orElse-next, need-none, need-some}
+use Rattle.format.proofs.Front.{image-in-is}
 use Rattle.extension.specs.Add.{overwrite}
 use Rattle.text.specs.Build.{Made, rowsAdded}
 use Rattle.text.specs.Inner.Moves.{madeBy}
@@ -30,14 +31,14 @@ use Rattle.text.proofs.Rows.{answerOf}
 use Rattle.text.proofs.Buffers.{Imaged, imaged-accepted, imaged-empty}
 use Rattle.text.proofs.Chunks.{added-place, built-added}
 use Rattle.lines.specs.declared.RowRefusal.{RowRefusal}
-use Rattle.lines.specs.Compiled.{feeds, refusedRow, partFault, Written, written, front, compiled, Reading, cut, rowSpace, turnFault, turned, unlessTurned, reads, begun, rowLine}
+use Rattle.lines.specs.Compiled.{feeds, refusedRow, partFault, Written, written, compiled, Reading, cut, rowSpace, turnFault, turned, unlessTurned, reads, begun, rowLine}
 use Rattle.lines.specs.Claims.{AnyCompiled}
 use Rattle.lines.proofs.Feeds.{feeds-append, cut-is}
 use Rattle.text.proofs.Moved.{moved-buffer, moved-gives, moved-refused}
 use Rattle.lines.proofs.Pieces.{added-size, whole-refused, whole-gives, rest-refused, pieces-imaged}
 
 abbrev pub said : ℕ → ℕ → List ℕ → List ℕ → Written
-said at row t b = written (partFault at row t (rowsAdded t b .answer)) (front (rowsAdded t b .buffer))
+said at row t b = written (partFault at row t (rowsAdded t b .answer)) (imageIn (rowsAdded t b .buffer))
 
 module _ (at row : ℕ) (part : List ℕ) where
   pub fault-some : (o : Outcome ℕ) (f : Refusal) → o ≡ refused f → partFault at row part o ≡ some (refusedRow at row part f)
@@ -53,8 +54,8 @@ module _ (at row : ℕ) (t b : List ℕ) where
   unfolding written
   said-refused f e = rw (fault-some at row t (rowsAdded t b .answer) f e) refl
 
-  said-gives : (n : ℕ) → rowsAdded t b .answer ≡ gives n → said at row t b ≡ written none (front (rowsAdded t b .buffer))
-  said-gives n e = ap (λ f. written f (front (rowsAdded t b .buffer))) (fault-none at row t (rowsAdded t b .answer) n e)
+  said-gives : (n : ℕ) → rowsAdded t b .answer ≡ gives n → said at row t b ≡ written none (imageIn (rowsAdded t b .buffer))
+  said-gives n e = ap (λ f. written f (imageIn (rowsAdded t b .buffer))) (fault-none at row t (rowsAdded t b .answer) n e)
 
 -- ---- the bytes up to the last line feed, and those behind it
 
@@ -100,7 +101,7 @@ module _ (at row : ℕ) (l t b : List ℕ) where
     step (gives m) h =
         let rest = rowsAdded (r ++ t) after in
         said-gives at row (l ++ t) b m (ap answerOf e ∙ moved-gives n rest m h)
-        ∙ ap (λ x. written none (front x)) (ap (λ (x : Made). x .buffer) e ∙ moved-buffer n rest)
+        ∙ ap (λ x. written none (imageIn x)) (ap (λ (x : Made). x .buffer) e ∙ moved-buffer n rest)
         ∙ sym (said-gives (at + n) (row + feeds l) (r ++ t) after m h)
     step (refused f) h =
         let rest = rowsAdded (r ++ t) after in
@@ -237,12 +238,12 @@ module _ (s : Reading) where
       (n : ℕ) → checkFront (s .buffer) ≡ none → rowsAdded (s .kept) (s .buffer) .answer ≡ gives n
       → (n ≡ wordAt (rowsAdded (s .kept) (s .buffer) .buffer) 1)
       × (reads s [] ≡ record { output = take n (rowsAdded (s .kept) (s .buffer) .buffer); errors = [] })
-  unfolding reads written front
+  unfolding reads written
   reads-image n a e =
       let b = rowsAdded (s .kept) (s .buffer) .buffer in
       let size : gives n ≡ gives (wordAt (rowsAdded (s .kept) (s .buffer) .buffer) 1) = sym e ∙ added-size (s .buffer) a (s .kept) n e in
       let same : n ≡ wordAt (rowsAdded (s .kept) (s .buffer) .buffer) 1 = cc in
-      (same, said-gives (s .at) (s .row) (s .kept) (s .buffer) n e ∙ ap (λ k. record { output = take k b; errors = [] }) (sym same))
+      (same, said-gives (s .at) (s .row) (s .kept) (s .buffer) n e ∙ ap (λ x. record { output = x; errors = [] }) (image-in-is b ∙ ap (λ k. take k b) (sym same)))
 
 pub reads-all :
     (b₀ : List ℕ) (cs : List (List ℕ)) (s : Reading) → Imaged b₀ (s .buffer)
@@ -259,4 +260,4 @@ unfolding compiled begun
 any-compiled text b cs h e =
     reads-all b cs (begun b) (imaged-empty b h)
     ∙ ap (λ x. said 0 1 x (overwrite empty b)) e
-    ∙ ap (λ (m : Made). written (partFault 0 1 text (m .answer)) (front (m .buffer))) (sym (built-added text b h))
+    ∙ ap (λ (m : Made). written (partFault 0 1 text (m .answer)) (imageIn (m .buffer))) (sym (built-added text b h))

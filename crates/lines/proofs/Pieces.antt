@@ -25,26 +25,16 @@ use Rattle.text.specs.Claims.{complete}
 use Rattle.text.specs.Inner.Parts.{runOf, rest}
 use Rattle.text.specs.Inner.Moves.{madeBy}
 use Rattle.text.proofs.Parts.{run-most, split-run, run-next}
-use Rattle.text.proofs.Rows.{answerOf, gives-not-refused, row-long, rows-first-refused, rows-complete, rows-chain-gives, rows-moved}
+use Rattle.text.proofs.Rows.{answerOf, gives-not-refused, row-long, rows-first-refused, rows-complete, rows-moved}
 use Rattle.text.proofs.Follow.{rows-none}
 use Rattle.text.proofs.Buffers.{Imaged, imaged-accepted, imaged-rows}
-use Rattle.text.proofs.Chunks.{added-front, added-stops}
+use Rattle.text.proofs.Chunks.{added-front, added-behind, added-next, added-stops}
 use Rattle.lines.specs.Compiled.{feeds}
 use Rattle.lines.proofs.Feeds.{Whole, bare, fed}
 
 module _ (b : List ℕ) (e : checkFront b ≡ none) where
   added-none : rowsAdded [] b ≡ complete b
   added-none = added-front [] b e ∙ rows-none 0 b
-
-  -- what follows a line feed
-  added-behind :
-      (q u : List ℕ) (n : ℕ) → rowsAdded q b .answer ≡ gives n
-      → rowsAdded (q ++ (10 ∷ u)) b ≡ rowsFrom (0 + suc (length q)) (split 10 u) (rowsAdded q b .buffer)
-  added-behind q u n h =
-      let front = added-front q b e in
-      added-front (q ++ (10 ∷ u)) b e
-      ∙ rows-chain-gives 0 q u b n (sym (ap answerOf front) ∙ h)
-      ∙ ap (λ (m : Made). rowsFrom (0 + suc (length q)) (split 10 u) (m .buffer)) (sym front)
 
   -- a line feed at the end changes nothing
   feed-last : (q : List ℕ) → rowsAdded (q ++ (10 ∷ [])) b ≡ rowsAdded q b
@@ -53,7 +43,7 @@ module _ (b : List ℕ) (e : checkFront b ≡ none) where
     step (refused f) h = added-stops b e q [] f h
     step (gives n) h =
         let front = added-front q b e in
-        added-behind q [] n h
+        added-behind b e q [] n h
         ∙ rows-none (0 + suc (length q)) (rowsAdded q b .buffer)
         ∙ ap (λ (m : Made). complete (m .buffer)) front
         ∙ sym (rows-complete 0 (split 10 q) b n (sym (ap answerOf front) ∙ h))
@@ -79,18 +69,6 @@ module _ (b : List ℕ) (e : checkFront b ≡ none) where
       ∙ sym (feed-last q)
       ∙ ap (λ x. rowsAdded x b) (sym p)
 
-  -- the first n bytes are those of q and a line feed
-  fed-gives :
-      (q u : List ℕ) (m : ℕ) → rowsAdded q b .answer ≡ gives m → checkFront (rowsAdded q b .buffer) ≡ none
-      → rowsAdded (q ++ (10 ∷ u)) b ≡ madeBy (suc (length q)) (rowsAdded u (rowsAdded q b .buffer))
-  fed-gives q u m h a =
-      let after = rowsAdded q b .buffer in
-      let place : 0 + suc (length q) ≡ suc (length q) + 0 = omega arith in
-      added-behind q u m h
-      ∙ ap (λ k. rowsFrom k (split 10 u) after) place
-      ∙ rows-moved (suc (length q)) 0 (split 10 u) after
-      ∙ ap (madeBy (suc (length q))) (sym (added-front u after a))
-
   none-gives : (u : List ℕ) → rowsAdded u b ≡ madeBy 0 (rowsAdded u b)
   none-gives u = added-front u b e ∙ rows-moved 0 0 (split 10 u) b ∙ ap (madeBy 0) (sym (added-front u b e))
 
@@ -108,7 +86,7 @@ module _ (b : List ℕ) (e : checkFront b ≡ none) where
       let same : rowsAdded (take n l) b ≡ rowsAdded q b = ap (λ x. rowsAdded x b) p ∙ feed-last q in
       ap (λ x. rowsAdded (x ++ u) b) p
       ∙ ap (λ x. rowsAdded x b) (append-assoc q (10 ∷ []) u)
-      ∙ fed-gives q u m (sym (ap answerOf same) ∙ h) (ap (λ (x : Made). checkFront (x .buffer)) (sym same) ∙ a)
+      ∙ added-next b e q u m (sym (ap answerOf same) ∙ h) (ap (λ (x : Made). checkFront (x .buffer)) (sym same) ∙ a)
       ∙ ap (λ (x : Made). madeBy (suc (length q)) (rowsAdded u (x .buffer))) (sym same)
       ∙ ap (λ k. madeBy k (rowsAdded u (rowsAdded (take n l) b .buffer))) size
 

@@ -46,6 +46,6 @@ unfolding
     ascii splitStep split same isDigit digitsFrom numberOf upTo numberTo named above lettered
     valueOf fieldBytes group allow transition constraint forms asBytes joined fieldsOf headed recordBy recordOfWords recordOfRow
     movedTo recordFault afterRecord rowFault afterRow onward rowsFrom built
-    widthFrom width compile.feeds compile.partFault compile.written compile.front compile.compiled
+    widthFrom width compile.feeds compile.partFault compile.written compile.compiled
     workedCompiled textGives textWritten
 worked-compiled = refl

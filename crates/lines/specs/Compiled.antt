@@ -21,9 +21,8 @@ use mathlib.Core.List.{List, [], _∷_, _++_}
 use lib.ListN.{length, take, drop}
 use lib.Dec.{ltb, eqb}
 use Rattle.format.specs.declared.Refusal.{Refusal}
-use Rattle.format.specs.Bytes.{wordAt}
 use Rattle.format.specs.Refusals.{need, _orElse_}
-use Rattle.format.specs.Format.{lengthPlace}
+use Rattle.format.specs.Check.{imageIn}
 use Rattle.format.specs.Answers.{Outcome, refused, gives}
 use Rattle.format.specs.Sample.{empty}
 use Rattle.extension.specs.Add.{overwrite}
@@ -53,12 +52,8 @@ unfoldable pub written : Option RowRefusal → List ℕ → Written
 written none image = record { output = image; errors = [] }
 written (some f) image = record { output = []; errors = rowLine f }
 
--- the image that a buffer starts with
-unfoldable pub front : List ℕ → List ℕ
-front b = take (wordAt b lengthPlace) b
-
 unfoldable pub compiled : List ℕ → List ℕ → Written
-compiled text b = written (partFault 0 1 text (built text b .answer)) (front (built text b .buffer))
+compiled text b = written (partFault 0 1 text (built text b .answer)) (imageIn (built text b .buffer))
 
 pub record Reading : Type 0 where
   pub at : ℕ
@@ -100,7 +95,7 @@ unlessTurned (some f) w = written (some f) []
 unfoldable pub reads : Reading → List (List ℕ) → Written
 reads s [] =
     written (partFault (s .at) (s .row) (s .kept) (rowsAdded (s .kept) (s .buffer) .answer))
-    (front (rowsAdded (s .kept) (s .buffer) .buffer))
+    (imageIn (rowsAdded (s .kept) (s .buffer) .buffer))
 reads s (c ∷ cs) = unlessTurned (turnFault s (s .kept ++ c)) (reads (turned s (s .kept ++ c)) cs)
 
 -- the empty policy, and no byte read

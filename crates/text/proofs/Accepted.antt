@@ -9,21 +9,20 @@ use mathlib.Core.Bool.{true, _||_}
 use mathlib.Core.Option.{Option, none, some}
 use mathlib.Core.List.{List, [], _∷_, _++_}
 use native.Mathlib.Omega.{arith}
-use lib.ListN.{length, getD}
-use lib.Dec.{ltb, leb, eqb}
-use Rattle.format.specs.declared.Section.the-variants.{Groups}
+use lib.ListN.{length}
+use lib.Dec.{eqb}
 use Rattle.format.specs.declared.Refusal.{Refusal}
 use Rattle.format.specs.Bytes.{wordAt}
-use Rattle.format.specs.Refusals.{refusal, need, _orElse_}
-use Rattle.format.specs.Format.{limitOf, countOf, shapeOk, badField}
+use Rattle.format.specs.Refusals.{refusal}
+use Rattle.format.specs.Format.{shapeOk}
 use Rattle.format.specs.Check.{checkFront}
 use Rattle.format.specs.Answers.{Outcome, refused, gives}
 use Rattle.format.specs.Sample.{empty}
-use Rattle.format.proofs.Chain.{some-not-none, orElse-next, orElse-refuses, need-none, need-refuses}
+use Rattle.format.proofs.Chain.{some-not-none}
 use Rattle.format.specs.Policy.{imageOf}
 use Rattle.format.proofs.Images.{sound-well-formed}
 use Rattle.format.proofs.Front.{front-length}
-use Rattle.extension.specs.Add.{sectionOf, fieldFault, newNumber, ownFault, addFault, bufferAfter, overwrite}
+use Rattle.extension.specs.Add.{addFault, bufferAfter, overwrite}
 use Rattle.extension.specs.Claims.{addAll}
 use Rattle.extension.proofs.Causes.{formed-refused}
 use Rattle.extension.proofs.Trip.{overwrite-is, add-all-none, add-all-next}

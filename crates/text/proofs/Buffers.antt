@@ -1,10 +1,11 @@
 -- Each row keeps the buffer the image of a sound policy with the old bytes behind it. Assumes nothing.
 --     Imaged b₀ b               b is such an image with the bytes of b₀ behind it
 --     imaged-front, imaged-empty            where that holds first; `count-empty`: there is no record yet
---     imaged-accepted, imaged-length, imaged-bytes, imaged-count   what it says
+--     imaged-accepted, imaged-length, imaged-bytes, imaged-count, imaged-size, imaged-counts   what it says
+--     imaged-formed, imaged-few, imaged-with   and of a record that has its shape and its place
 --     OneAdded, add-one         a record added keeps it, and is one record more
 --     imaged-row, imaged-rows   rows keep it
---     row-accepted, rows-accepted           rows keep an accepted front accepted, of bytes, and as long as it was
+--     rows-accepted             rows keep an accepted front accepted, of bytes, and as long as it was
 use Prim.Native.Nat.{ℕ, suc, _+_, _≤_, _<_}
 use mathlib.Core.Path.{_≡_, refl, sym, subst, ap, _∙_}
 use mathlib.Core.Option.{Option, none, some}
@@ -13,63 +14,30 @@ use native.Mathlib.Omega.{arith}
 use lib.ListN.{length, getD, drop, length-append, length-drop}
 use lib.Seq.{drop-drop}
 use Rattle.format.specs.declared.Section.{Section}
-use Rattle.format.specs.declared.Section.the-variants.{Groups, Rules, Constraints}
+use Rattle.format.specs.declared.Section.the-variants.{Groups}
 use Rattle.format.specs.declared.Refusal.{Refusal}
-use Rattle.format.specs.Bytes.{Bytes}
+use Rattle.format.specs.Bytes.{Bytes, wordAt}
 use Rattle.format.specs.Format.{limitOf, countOf}
 use Rattle.format.specs.Policy.{Policy, recordsOf, imageOf, policyOf}
 use Rattle.format.specs.Check.{imageIn, checkFront, Accepted}
 use Rattle.format.specs.Sample.{empty}
-use Rattle.format.proofs.Chain.{orElse-split}
 use Rattle.format.proofs.ByCase.{records-of-groups}
 use Rattle.format.proofs.Shapes.{Formed}
 use Rattle.format.proofs.Bytes.{bytes-append, bytes-drop}
-use Rattle.format.proofs.Images.{Sound, policy-sound, image-of-policy, policy-of-image, image-accepted, image-bytes, image-count}
-use Rattle.format.proofs.Front.{front-accepted, front-bytes, front-length, front-split, front-fits, front-of, image-in-of, front-of-length, front-of-count}
+use Rattle.format.proofs.Images.{Sound, policy-sound, image-of-policy, policy-of-image, image-accepted, image-bytes}
+use Rattle.format.proofs.Front.{front-accepted, front-bytes, front-length, front-split, front-fits, front-of, image-in-of, front-of-length}
 use Rattle.format.proofs.Written.{image-empty, length-empty, sound-empty}
-use Rattle.extension.specs.Add.{sectionOf, withRecord, ownFault, addFault, bufferAfter, overwrite}
+use Rattle.extension.specs.Add.{sectionOf, withRecord, addFault, bufferAfter, overwrite}
 use Rattle.extension.specs.Claims.{allRecords}
 use Rattle.extension.proofs.Causes.{add-own}
 use Rattle.extension.proofs.Counts.{with-count, count-none}
 use Rattle.extension.proofs.Trip.{overwrite-is}
-use Rattle.extension.proofs.Adds.{OwnPasses, own-passes, with-sound, with-length, add-image, buffer-refused}
+use Rattle.extension.proofs.Adds.{with-sound, with-length, count-is, add-image, buffer-refused}
 use Rattle.text.specs.Rows.{recordOfRow}
 use Rattle.text.specs.Build.{Made, afterRecord, afterRow, rowsFrom}
 use Rattle.text.specs.Claims.{recordCount}
 use Rattle.text.proofs.Records.{record-bytes}
 use Rattle.text.proofs.Rows.{rows-first}
-
--- ---- one record more
-
-module _ (p : Policy) (t r : List ℕ) (w : Sound p) (by : Bytes r) (e : addFault (imageOf p ++ t) r ≡ none) where
-  s : Section
-  s = sectionOf (getD r 1 0)
-
-  own : OwnPasses (imageOf p ++ t) r
-  own = add-own (imageOf p ++ t) r e
-
-  counts : (x : Section) → countOf (imageOf p ++ t) x ≡ length (recordsOf p x)
-  counts x = front-of-count (imageOf p) t (image-accepted p w) x ∙ image-count p x
-
-  groups : countOf (imageOf p ++ t) Groups ≡ length (p .groups)
-  groups = counts Groups ∙ ap length (records-of-groups p)
-
-  formed : Formed s (length (p .groups)) r
-  unfolding s
-  formed = rw groups at (own .formed)
-
-  few : length (recordsOf p s) < limitOf s
-  unfolding s
-  few = rw (counts s) at (own .few)
-
-  room : length (imageOf p) + length r ≤ length (imageOf p ++ t)
-  room = rw (front-of-length (imageOf p) t (image-accepted p w)) at (own .room)
-
-  one-more-sound : Sound (withRecord s p r)
-  one-more-sound = with-sound p r s w formed by few
-
-  one-more : bufferAfter (imageOf p ++ t) r ≡ imageOf (withRecord s p r) ++ drop (length r) t
-  one-more = add-image p t s r w formed few room
 
 -- ---- the image with the old bytes behind it
 
@@ -102,6 +70,25 @@ module _ (b₀ b : List ℕ) (k : Imaged b₀ b) where
   pub imaged-bytes : Bytes b₀ → Bytes b
   unfolding i t
   imaged-bytes h = subst Bytes (sym (k .image)) (bytes-append i t (image-bytes (k .policy) (k .sound)) (bytes-drop (length i) b₀ h))
+
+  pub imaged-size : wordAt b 1 ≡ length (imageOf (k .policy))
+  unfolding i t
+  imaged-size = ap (λ (l : List ℕ). wordAt l 1) (k .image) ∙ front-of-length i t passes
+
+  imaged-counts : (s : Section) → countOf b s ≡ length (recordsOf (k .policy) s)
+  unfolding t
+  imaged-counts s = ap (λ (l : List ℕ). countOf l s) (k .image) ∙ count-is (k .policy) t (k .sound) s
+
+  -- a record with its shape, and with its place among the others
+  imaged-formed : (s : Section) (r : List ℕ) → Formed s (countOf b Groups) r → Formed s (length (k .policy .groups)) r
+  imaged-formed s r f = rw (imaged-counts Groups ∙ ap length (records-of-groups (k .policy))) at f
+
+  imaged-few : (s : Section) → countOf b s < limitOf s → length (recordsOf (k .policy) s) < limitOf s
+  imaged-few s h = rw (imaged-counts s) at h
+
+  pub imaged-with :
+      (s : Section) (r : List ℕ) → Bytes r → Formed s (countOf b Groups) r → countOf b s < limitOf s → Sound (withRecord s (k .policy) r)
+  imaged-with s r by f h = with-sound (k .policy) r s (k .sound) (imaged-formed s r f) by (imaged-few s h)
 
   pub imaged-count : recordCount b ≡ length (allRecords (k .policy))
   unfolding i t
@@ -143,26 +130,27 @@ pub record OneAdded (b₀ b r : List ℕ) : Type 0 where
   pub count : recordCount (bufferAfter b r) ≡ suc (recordCount b)
 
 pub add-one : (b₀ b r : List ℕ) → Imaged b₀ b → Bytes r → addFault b r ≡ none → OneAdded b₀ b r
-unfolding s
 add-one b₀ b r k by e =
+    let own = add-own b r e in
+    let s : Section = sectionOf (getD r 1 0) in
     let p : Policy = k .policy in
     let t : List ℕ = drop (length (imageOf p)) b₀ in
-    let a : addFault (imageOf p ++ t) r ≡ none = rw (k .image) at e in
-    let q : Policy = withRecord (sectionOf (getD r 1 0)) p r in
-    let n : length (imageOf q) ≡ length (imageOf p) + length r = with-length (sectionOf (getD r 1 0)) p r in
+    let room : length (imageOf p) + length r ≤ length (imageOf p ++ t) = omega (arith, own .room, imaged-size b₀ b k, ap length (k .image)) in
+    let q : Policy = withRecord s p r in
+    let n : length (imageOf q) ≡ length (imageOf p) + length r = with-length s p r in
     let after : Imaged b₀ (bufferAfter b r) =
     record {
       policy = q;
-      sound = one-more-sound p t r (k .sound) by a;
+      sound = imaged-with b₀ b k s r by (own .formed) (own .few);
       image =
-          ap (λ (x : List ℕ). bufferAfter x r) (k .image) ∙ one-more p t r (k .sound) by a
+          ap (λ (x : List ℕ). bufferAfter x r) (k .image)
+          ∙ add-image p t s r (k .sound) (imaged-formed b₀ b k s r (own .formed)) (imaged-few b₀ b k s (own .few)) room
           ∙ ap (λ (x : List ℕ). imageOf q ++ x) (drop-drop (length r) (length (imageOf p)) b₀ ∙ ap (λ (x : ℕ). drop x b₀) (sym n));
-      fits =
-          omega (arith, room p t r (k .sound) by a, n, length-append (imageOf p) t, length-drop (length (imageOf p)) b₀, k .fits);
+      fits = omega (arith, room, n, length-append (imageOf p) t, length-drop (length (imageOf p)) b₀, k .fits);
     } in
     record {
       image = after;
-      count = imaged-count b₀ (bufferAfter b r) after ∙ with-count (sectionOf (getD r 1 0)) p r ∙ ap suc (sym (imaged-count b₀ b k));
+      count = imaged-count b₀ (bufferAfter b r) after ∙ with-count s p r ∙ ap suc (sym (imaged-count b₀ b k));
     }
 
 module _ (b₀ : List ℕ) where
@@ -190,14 +178,10 @@ module _ (b₀ : List ℕ) where
 
 -- ---- an accepted front of bytes
 
-module _ (b : List ℕ) (e : checkFront b ≡ none) (by : Bytes b) where
-  front-after : (after : List ℕ) → Imaged b after → (checkFront after ≡ none) × Bytes after × (length after ≡ length b)
-  front-after after k = (imaged-accepted b after k, imaged-bytes b after k by, imaged-length b after k)
-
-  pub row-accepted : (row : List ℕ) → (checkFront (afterRow row b) ≡ none) × Bytes (afterRow row b) × (length (afterRow row b) ≡ length b)
-  row-accepted row = front-after (afterRow row b) (imaged-row b row b (imaged-front b e by))
-
-  pub rows-accepted :
-      (at : ℕ) (rows : List (List ℕ))
-      → (checkFront (rowsFrom at rows b .buffer) ≡ none) × Bytes (rowsFrom at rows b .buffer) × (length (rowsFrom at rows b .buffer) ≡ length b)
-  rows-accepted at rows = front-after (rowsFrom at rows b .buffer) (imaged-rows b rows at b (imaged-front b e by))
+pub rows-accepted :
+    (b : List ℕ) → checkFront b ≡ none → Bytes b → (at : ℕ) (rows : List (List ℕ))
+    → (checkFront (rowsFrom at rows b .buffer) ≡ none) × Bytes (rowsFrom at rows b .buffer) × (length (rowsFrom at rows b .buffer) ≡ length b)
+rows-accepted b e by at rows =
+    let after : List ℕ = rowsFrom at rows b .buffer in
+    let k = imaged-rows b rows at b (imaged-front b e by) in
+    (imaged-accepted b after k, imaged-bytes b after k by, imaged-length b after k)

@@ -3,7 +3,7 @@
 --     added-front             the rows are added to what the buffer starts with
 --     built-added             a text is built by adding its rows to the empty policy
 --     added-accepted          what is left is accepted, of bytes, and as long as it was
---     added-next              a piece behind another and a line feed: what it does to what the first left, its places further
+--     added-behind, added-next   a piece behind another and a line feed: what it does to what the first left, its places further
 --     added-stops             behind a refused piece nothing is read
 --     added-place             a refusal's place lies within the text
 use Prim.Native.Nat.{ℕ, suc, _+_, _≤_, _<_}
@@ -45,19 +45,24 @@ module _ (b : List ℕ) (e : checkFront b ≡ none) where
       subst (λ (m : Made). (checkFront (m .buffer) ≡ none) × Bytes (m .buffer) × (length (m .buffer) ≡ length b))
       (sym (added-front text b e)) (rows-accepted b e by 0 (split 10 text))
 
-  pub added-next :
-      Bytes b → (text more : List ℕ) (n : ℕ) → rowsAdded text b .answer ≡ gives n
-      → rowsAdded (text ++ (10 ∷ more)) b ≡ madeBy (suc (length text)) (rowsAdded more (rowsAdded text b .buffer))
-  added-next by text more n h =
-      let q = added-front text b e in
-      let w : List ℕ = rowsAdded text b .buffer in
-      let i : 0 + suc (length text) ≡ suc (length text) + 0 = omega arith in
-      added-front (text ++ (10 ∷ more)) b e
-      ∙ rows-chain-gives 0 text more b n (sym (ap answerOf q) ∙ h)
-      ∙ ap (λ (m : Made). rowsFrom (0 + suc (length text)) (split 10 more) (m .buffer)) (sym q)
-      ∙ ap (λ (k : ℕ). rowsFrom k (split 10 more) w) i
-      ∙ rows-moved (suc (length text)) 0 (split 10 more) w
-      ∙ ap (madeBy (suc (length text))) (sym (added-front more w (added-accepted by text .0)))
+  module _ (text more : List ℕ) (n : ℕ) (h : rowsAdded text b .answer ≡ gives n) where
+    pub added-behind : rowsAdded (text ++ (10 ∷ more)) b ≡ rowsFrom (0 + suc (length text)) (split 10 more) (rowsAdded text b .buffer)
+    added-behind =
+        let q = added-front text b e in
+        added-front (text ++ (10 ∷ more)) b e
+        ∙ rows-chain-gives 0 text more b n (sym (ap answerOf q) ∙ h)
+        ∙ ap (λ (m : Made). rowsFrom (0 + suc (length text)) (split 10 more) (m .buffer)) (sym q)
+
+    pub added-next :
+        checkFront (rowsAdded text b .buffer) ≡ none
+        → rowsAdded (text ++ (10 ∷ more)) b ≡ madeBy (suc (length text)) (rowsAdded more (rowsAdded text b .buffer))
+    added-next a =
+        let after : List ℕ = rowsAdded text b .buffer in
+        let place : 0 + suc (length text) ≡ suc (length text) + 0 = omega arith in
+        added-behind
+        ∙ ap (λ (k : ℕ). rowsFrom k (split 10 more) after) place
+        ∙ rows-moved (suc (length text)) 0 (split 10 more) after
+        ∙ ap (madeBy (suc (length text))) (sym (added-front more after a))
 
   pub added-stops :
       (text more : List ℕ) (f : Refusal) → rowsAdded text b .answer ≡ refused f → rowsAdded (text ++ (10 ∷ more)) b ≡ rowsAdded text b

@@ -28,7 +28,7 @@ use Rattle.extension.proofs.Trip.{add-all-none, add-all-next}
 use Rattle.text.specs.Words.{split}
 use Rattle.text.specs.Rows.{recordOfRow}
 use Rattle.text.specs.Build.{Made, movedTo, recordFault, afterRecord, rowFault, afterRow, onward, rowsFrom, built}
-use Rattle.text.specs.Claims.{withFirst, recordsIn, complete, allAdded, RowAt, first, behind, Cause, outside, not-added, Kept}
+use Rattle.text.specs.Claims.{withFirst, recordsIn, complete, allAdded, RowAt, first, behind, Cause, outside, not-added}
 use Rattle.text.specs.Claims.{LastLineFeed, NextRows, RefusedStops, RefusedShort, RefusedKeeps, RowsEnough}
 use Rattle.text.specs.Inner.Parts.{runOf, rest}
 use Rattle.text.proofs.Parts.{run-most, split-run, rest-end, rest-more, split-append, run-part, run-alone}

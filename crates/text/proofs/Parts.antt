@@ -1,7 +1,7 @@
 -- Laws of the parts of a text. Assumes nothing.
 --     split-run               a text is its first part and the rest
 --     rest-end, rest-more     the rest, where there is no s, and where there is one
---     run-here, run-next      the first part, byte by byte
+--     run-next                the first part, byte by byte
 --     split-append            the parts of two texts with an s between them
 --     run-alone, run-part     the first part alone, and what stands behind it
 --     width-split             the bytes that parts take
@@ -53,18 +53,9 @@ rest-more s (c ∷ l) h = step (eqb c s) (λ k. rest-more s l k) h where
   step true f k = refl
   step false f k = f (omega arith)
 
-module _ (s : ℕ) (l : List ℕ) (i : ℕ) where
-  pub run-end : length l ≤ i → runOf s (drop i l) ≡ 0
-  unfolding runOf
-  run-end h = rw (lib.ListN.drop-of-length-le l h)
-
-  pub run-here : i < length l → getD l i 0 ≡ s → runOf s (drop i l) ≡ 0
-  unfolding runOf
-  run-here h e = rw (drop-cons l i 0 h, eq-eqb (getD l i 0) s e)
-
-  pub run-next : i < length l → (getD l i 0 ≡ s → ⊥) → runOf s (drop i l) ≡ suc (runOf s (drop (suc i) l))
-  unfolding runOf
-  run-next h e = rw (drop-cons l i 0 h, ne-eqb (getD l i 0) s e)
+pub run-next : (s : ℕ) (l : List ℕ) (i : ℕ) → i < length l → (getD l i 0 ≡ s → ⊥) → runOf s (drop i l) ≡ suc (runOf s (drop (suc i) l))
+unfolding runOf
+run-next s l i h e = rw (drop-cons l i 0 h, ne-eqb (getD l i 0) s e)
 
 -- what stands behind the first part
 pub run-stop : (s : ℕ) (l : List ℕ) → runOf s l < length l → getD l (runOf s l) 0 ≡ s

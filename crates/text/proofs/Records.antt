@@ -4,15 +4,14 @@
 --     record-shape            the record is whole, of a known kind, and of a length of its kind
 --     record-bytes            each of its elements is a byte
 --     record-row-short        its row has at most 460 bytes
-use Prim.Native.Nat.{ℕ, zero, suc, _+_, _*_, _%_, _≤_, _<_}
+use Prim.Native.Nat.{ℕ, zero, suc, _+_, _*_, _≤_, _<_}
 use mathlib.Core.Path.{_≡_, refl, sym, subst, ap, _∙_}
 use mathlib.Core.Bool.{Bool, true, false, cond}
 use mathlib.Core.Option.{Option, none, some}
 use mathlib.Core.List.{List, [], _∷_, _++_}
 use native.Mathlib.Omega.{arith}
 use lib.ListN.{length, replicate, take, length-append}
-use borrow.Author.Tests.{le-leb, eq-eqb}
-use Rattle.format.specs.Bytes.{Bytes, putWord}
+use Rattle.format.specs.Bytes.{Bytes}
 use Rattle.format.specs.Format.{lengthOk, shapeOk}
 use Rattle.format.proofs.Chain.{some-not-none, orElse-refuses}
 use Rattle.format.proofs.Bytes.{bytes-nil, bytes-cons, bytes-append, bytes-word, put-word}

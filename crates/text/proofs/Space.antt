@@ -1,31 +1,27 @@
 -- A buffer that holds the longest image is never short: claim SpaceEnough. With one record more, a policy that breaks no other rule
 -- still has an image that is accepted, and so is not longer. Assumes nothing.
 use Prim.Native.Nat.{ℕ, _+_, _≤_, _<_}
-use mathlib.Core.Path.{_≡_, refl, sym, ap, _∙_}
-use mathlib.Core.Option.{none, some}
-use mathlib.Core.List.{List, _++_}
+use mathlib.Core.Path.{_≡_, sym, _∙_}
+use mathlib.Core.Option.{some}
+use mathlib.Core.List.{List}
 use native.Mathlib.Omega.{arith}
-use lib.ListN.{length, getD, drop}
+use lib.ListN.{length, getD}
 use Rattle.format.specs.declared.Section.{Section}
 use Rattle.format.specs.declared.Section.the-variants.{Groups}
 use Rattle.format.specs.declared.Refusal.{Refusal}
 use Rattle.format.specs.Bytes.{Bytes, wordAt}
 use Rattle.format.specs.Format.{limitOf, countOf}
-use Rattle.format.specs.Policy.{Policy, recordsOf, imageOf}
-use Rattle.format.specs.Check.{checkFront}
+use Rattle.format.specs.Policy.{Policy, imageOf}
 use Rattle.format.proofs.Shapes.{Formed}
-use Rattle.format.proofs.ByCase.{records-of-groups}
-use Rattle.format.proofs.Images.{Sound, image-accepted, image-count, longest-image}
-use Rattle.format.proofs.Front.{front-of-length, front-of-count}
+use Rattle.format.proofs.Images.{Sound, image-accepted, longest-image}
 use Rattle.extension.specs.Add.{sectionOf, withRecord, addFault}
-use Rattle.extension.proofs.Adds.{with-sound, with-length, OwnPasses, passes-own}
+use Rattle.extension.proofs.Adds.{with-length, passes-own}
 use Rattle.extension.proofs.Causes.{short-formed, not-short}
-use Rattle.text.specs.Rows.{recordOfRow}
 use Rattle.text.specs.Build.{built}
 use Rattle.text.specs.Claims.{Cause, outside, not-added, SpaceEnough}
 use Rattle.text.proofs.Records.{record-bytes}
 use Rattle.text.proofs.Follow.{refused-keeps}
-use Rattle.text.proofs.Buffers.{Imaged, imaged-accepted, imaged-length}
+use Rattle.text.proofs.Buffers.{Imaged, imaged-accepted, imaged-length, imaged-size, imaged-with}
 use Rattle.text.proofs.Accepted.{built-imaged}
 
 -- a record that has its shape and its place is not short of it
@@ -36,31 +32,19 @@ module _ (b₀ b r : List ℕ) (k : Imaged b₀ b) (by : Bytes r) (long : 55561 
   s : Section
   s = sectionOf (getD r 1 0)
 
-  behind : List ℕ
-  behind = drop (length (imageOf (k .policy))) b₀
-
-  counts : (x : Section) → countOf b x ≡ length (recordsOf p x)
-  unfolding p behind
-  counts x = ap (λ (l : List ℕ). countOf l x) (k .image) ∙ front-of-count (imageOf p) behind (image-accepted p (k .sound)) x ∙ image-count p x
-
-  size : wordAt b 1 ≡ length (imageOf p)
-  unfolding p behind
-  size = ap (λ (l : List ℕ). wordAt l 1) (k .image) ∙ front-of-length (imageOf p) behind (image-accepted p (k .sound))
-
   causes : Formed s (countOf b Groups) r × (countOf b s < limitOf s)
   unfolding s
   causes = short-formed b r (imaged-accepted b₀ b k) f e n
 
   sound-with : Sound (withRecord s p r)
   unfolding s p
-  sound-with =
-      with-sound p r s (k .sound) (rw (counts Groups ∙ ap length (records-of-groups p)) at (causes .0)) by (rw (counts s) at (causes .1))
+  sound-with = imaged-with b₀ b k s r by (causes .0) (causes .1)
 
   room : wordAt b 1 + length r ≤ length b
   unfolding s p
   room =
       let m : length (imageOf (withRecord s p r)) ≤ 55561 = longest-image (imageOf (withRecord s p r)) (image-accepted (withRecord s p r) sound-with) in
-      omega (arith, m, with-length s p r, size, imaged-length b₀ b k)
+      omega (arith, m, with-length s p r, imaged-size b₀ b k, imaged-length b₀ b k)
 
   never-short : ⊥
   unfolding s

@@ -1,5 +1,5 @@
 -- Laws of what a word can say. Assumes nothing.
---     same-equal, same-self   the test says whether two are the same bytes
+--     same-equal              words that the test says are the same are
 --     number-most             a number is at most what it may be
 --     number-short            and its word has at most 5 bytes, where that is at most 65535
 --     lettered-most, lettered-short   the same behind a letter
@@ -12,8 +12,8 @@ use mathlib.Core.List.{List, [], _∷_}
 use native.Mathlib.Omega.{arith}
 use lib.ListN.{length}
 use lib.Dec.{leb, eqb}
-use borrow.Author.Tests.{leb-true, eq-eqb, eqb-true, eqb-false}
-use Rattle.format.proofs.Tests.{both, and-true, false-not-true}
+use borrow.Author.Tests.{leb-true, eqb-true, eqb-false}
+use Rattle.format.proofs.Tests.{both, false-not-true}
 use Rattle.format.proofs.Chain.{some-not-none}
 use Rattle.text.specs.Words.{same, isDigit, digitsFrom, numberOf, upTo, numberTo, named, above, lettered}
 
@@ -23,11 +23,6 @@ same-equal [] [] e = refl
 same-equal [] (x ∷ b) e = false-not-true e
 same-equal (x ∷ a) [] e = false-not-true e
 same-equal (x ∷ a) (y ∷ b) e = let q = both (eqb x y) (same a b) e in rw (eqb-true x y (q .0), same-equal a b (q .1))
-
-pub same-self : (a : List ℕ) → same a a ≡ true
-unfolding same
-same-self [] = refl
-same-self (x ∷ a) = and-true (eq-eqb x x refl) (same-self a)
 
 -- a choice between something and none that gives something
 chosen : {A C : Type 0} (t : Bool) (o : Option A) (x : A) → cond t o none ≡ some x → (t ≡ true → o ≡ some x → C) → C

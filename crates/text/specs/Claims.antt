@@ -16,7 +16,7 @@
 --     RefusedShort        a buffer under 9 bytes is untouched, and 13 at place 0 comes before any row
 --     OwnNumbers          no other number than 11, 12, 13 and 18: 10 cannot occur
 --     SpaceEnough         a buffer that holds the longest image is never short
-use Prim.Native.Nat.{ℕ, suc, _+_, _≤_, _<_}
+use Prim.Native.Nat.{ℕ, suc, _≤_, _<_}
 use mathlib.Core.Path.{_≡_}
 use mathlib.Core.Bool.{true, _||_}
 use mathlib.Core.Option.{Option, none, some}

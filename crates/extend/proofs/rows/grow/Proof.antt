@@ -5,9 +5,10 @@ use mathlib.Core.Option.{none}
 use denote.Ref.{now}
 use Rattle.format.proofs.Chain.{outcome-gives, outcome-refused}
 use Rattle.extension.specs.Add.{addFault}
+use Rattle.extension.proofs.Causes.{own-is}
 use Rattle.extend.specs.Inner.Plans.{planOutcome, slotOf}
 use Rattle.extend.proofs.PlanLaws.{slot-fits}
-use Rattle.extend.proofs.GrowLaws.{fault-own, starts-small, grown, not-grown}
+use Rattle.extend.proofs.GrowLaws.{starts-small, grown, not-grown}
 use borrow.Author.Needs.{needs}
 use Rattle.extend.proofs.rows.grow.Statement.{statement}
 use Rattle.extend.proofs.rows.grow.Tie as tie
@@ -16,7 +17,7 @@ use Rattle.extend.proofs.rows.grow.Tie as tie
 slotted : (d : tie.After-slot) → (addFault (now (d .before .before .before .before .before .before .args .buffer)) (now (d .before .before .before .before .before .before .args .part)) ≡ none) × (d .slot .given .0 .0 ≡ slotOf (now (d .before .before .before .before .before .before .args .buffer)) (now (d .before .before .before .before .before .before .args .part)))
 slotted d = let a = d .before .before .before .before .before .before in
     let q = outcome-gives _ _ (sym (ap planOutcome (d .slot .given .1)) ∙ d .before .before .own-causes .ensures) in
-    (fault-own (now (a .args .buffer)) (now (a .args .part)) (a .pre .0) ∙ q .0, q .1)
+    (own-is (now (a .args .buffer)) (now (a .args .part)) (a .pre .0) ∙ q .0, q .1)
 
 insert-requires : tie.Need-insert-requires
 insert-requires c κs = let d = c .before .before in let a = d .before .before .before .before .before .before in let q = slotted d in
@@ -28,7 +29,7 @@ moved-requires c κs = let d = c .before .before .before .before .before in let 
 
 returns : tie.Need-returns
 returns c = let a = c .before .before .before .before .before .before .before in
-    not-grown (a .args .at) (now (a .args .buffer)) (now (a .args .part)) (a .pre .0) (fault-own (now (a .args .buffer)) (now (a .args .part)) (a .pre .0) ∙ outcome-refused _ _ (sym (ap planOutcome (c .before .f .given .1)) ∙ c .before .before .before .own-causes .ensures))
+    not-grown (a .args .at) (now (a .args .buffer)) (now (a .args .part)) (a .pre .0) (own-is (now (a .args .buffer)) (now (a .args .part)) (a .pre .0) ∙ outcome-refused _ _ (sym (ap planOutcome (c .before .f .given .1)) ∙ c .before .before .before .own-causes .ensures))
 
 returns-2 : tie.Need-returns-2
 returns-2 c = let d = c .before .before .before .before .before .before in let a = d .before .before .before .before .before .before in

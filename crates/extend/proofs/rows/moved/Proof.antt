@@ -1,6 +1,5 @@
 -- `moved` meets its contract. Assumes nothing.
 use native.Mathlib.Omega.{arith}
-use borrow.Author.Needs.{needs}
 use borrow.Author.Tests.{eq-eqb, ne-eqb}
 use Rattle.extend.specs.Inner.Grow.{movedStarts}
 use Rattle.extend.proofs.rows.moved.Statement.{statement}
