@@ -1,11 +1,12 @@
 -- The forms of rows by kind, as tables. Assumes nothing.
 --     form-..         the form of a kind
 --     group-.., allow-.., transition-.., constraint-..   the fields of a form by their place
-use Prim.Native.Nat.{ℕ, zero, suc, _-_, _≤_, _<_}
-use mathlib.Core.Path.{_≡_, refl, sym, _∙_}
+use Prim.Native.Nat.{ℕ, zero, suc, _+_, _-_, _≤_, _<_}
+use mathlib.Core.Path.{_≡_, refl, sym, ap, _∙_}
 use mathlib.Core.Bool.{Bool, true, false, cond}
+use mathlib.Core.List.{List, [], _∷_}
 use native.Mathlib.Omega.{arith}
-use lib.ListN.{length, getD, replicate}
+use lib.ListN.{length, getD, replicate, getD-replicate}
 use lib.Dec.{eqb}
 use borrow.Author.Tests.{eq-eqb, ne-eqb}
 use Rattle.text.specs.declared.Field.{Field}
@@ -33,20 +34,23 @@ module _ (k : ℕ) where
 -- ---- the fields of a form by their place
 
 -- those past the last are taken for members
+past : (l : List Field) (i : ℕ) → length l ≤ i → Member ≡ getD l i Member
+past [] i h = refl
+past (f ∷ l) zero h = absurd (omega arith)
+past (f ∷ l) (suc i) h = past l i (omega arith)
+
 all-members : (n i : ℕ) → Member ≡ getD (replicate n Member) i Member
 all-members zero i = refl
 all-members (suc n) zero = refl
 all-members (suc n) (suc i) = all-members n i
 
-listed : (n i : ℕ) → i < n → AnyType ≡ getD (replicate n AnyType) i Member
-listed zero i h = absurd (omega arith)
-listed (suc n) zero h = refl
-listed (suc n) (suc i) h = listed n i (omega arith)
-
-unlisted : (n i : ℕ) → n ≤ i → Member ≡ getD (replicate n AnyType) i Member
-unlisted zero i h = refl
-unlisted (suc n) zero h = absurd (omega arith)
-unlisted (suc n) (suc i) h = unlisted n i (omega arith)
+-- two places, one behind the other
+two : (P : ℕ → Type 0) (m : ℕ) → P m → P (suc m) → (i : ℕ) → m ≤ i → i < 2 + m → P i
+two P zero a b zero l h = a
+two P zero a b (suc zero) l h = b
+two P zero a b (suc (suc i)) l h = absurd (omega arith)
+two P (suc m) a b zero l h = absurd (omega arith)
+two P (suc m) a b (suc i) l h = two (λ (x : ℕ). P (suc x)) m a b i (omega arith) (omega arith)
 
 abbrev Has : ℕ → ℕ → Field → Type 0
 Has k i f = f ≡ getD (fieldsIn (formOf k)) i Member
@@ -58,17 +62,11 @@ group-members k i e = rw (form-group k e) (all-members 64 i)
 module _ (k : ℕ) (e : k ≡ 2) where
   pub allow-types : (i : ℕ) → i < 2 → Has k i AnyType
   unfolding fieldsIn allow
-  allow-types zero h = rw (form-allow k e)
-  allow-types (suc zero) h = rw (form-allow k e)
-  allow-types (suc (suc i)) h = absurd (omega arith)
+  allow-types i h = rw (form-allow k e) (two (λ (x : ℕ). AnyType ≡ getD (fieldsIn allow) x Member) 0 refl refl i (omega arith) h)
 
   pub allow-numbers : (i : ℕ) → 2 ≤ i → i < 4 → Has k i Number
   unfolding fieldsIn allow
-  allow-numbers zero l h = absurd (omega arith)
-  allow-numbers (suc zero) l h = absurd (omega arith)
-  allow-numbers (suc (suc zero)) l h = rw (form-allow k e)
-  allow-numbers (suc (suc (suc zero))) l h = rw (form-allow k e)
-  allow-numbers (suc (suc (suc (suc i)))) l h = absurd (omega arith)
+  allow-numbers i l h = rw (form-allow k e) (two (λ (x : ℕ). Number ≡ getD (fieldsIn allow) x Member) 2 refl refl i l h)
 
   pub allow-condition : (i : ℕ) → i ≡ 4 → Has k i Condition
   unfolding fieldsIn allow
@@ -76,19 +74,13 @@ module _ (k : ℕ) (e : k ≡ 2) where
 
   pub allow-no-more : (i : ℕ) → 4 < i → Has k i Member
   unfolding fieldsIn allow
-  allow-no-more (suc (suc (suc (suc (suc i))))) h = rw (form-allow k e)
-  allow-no-more zero h = absurd (omega arith)
-  allow-no-more (suc zero) h = absurd (omega arith)
-  allow-no-more (suc (suc zero)) h = absurd (omega arith)
-  allow-no-more (suc (suc (suc zero))) h = absurd (omega arith)
-  allow-no-more (suc (suc (suc (suc zero)))) h = absurd (omega arith)
+  allow-no-more i h = rw (form-allow k e) (past (fieldsIn allow) i (omega arith))
 
 module _ (k : ℕ) (e : k ≡ 3) where
   pub transition-types : (i : ℕ) → i < 2 → Has k i AnyType
   unfolding fieldsIn transition
-  transition-types zero h = rw (form-transition k e)
-  transition-types (suc zero) h = rw (form-transition k e)
-  transition-types (suc (suc i)) h = absurd (omega arith)
+  transition-types i h =
+      rw (form-transition k e) (two (λ (x : ℕ). AnyType ≡ getD (fieldsIn transition) x Member) 0 refl refl i (omega arith) h)
 
   pub transition-class : (i : ℕ) → i ≡ 2 → Has k i Number
   unfolding fieldsIn transition
@@ -96,45 +88,33 @@ module _ (k : ℕ) (e : k ≡ 3) where
 
   pub transition-no-more : (i : ℕ) → 2 < i → Has k i Member
   unfolding fieldsIn transition
-  transition-no-more (suc (suc (suc i))) h = rw (form-transition k e)
-  transition-no-more zero h = absurd (omega arith)
-  transition-no-more (suc zero) h = absurd (omega arith)
-  transition-no-more (suc (suc zero)) h = absurd (omega arith)
+  transition-no-more i h = rw (form-transition k e) (past (fieldsIn transition) i (omega arith))
 
 module _ (k : ℕ) (e₁ : k ≡ 1 → ⊥) (e₂ : k ≡ 2 → ⊥) (e₃ : k ≡ 3 → ⊥) where
   pub constraint-numbers : (i : ℕ) → i < 2 → Has k i Number
   unfolding fieldsIn constraint
-  constraint-numbers zero h = rw (form-constraint k e₁ e₂ e₃)
-  constraint-numbers (suc zero) h = rw (form-constraint k e₁ e₂ e₃)
-  constraint-numbers (suc (suc i)) h = absurd (omega arith)
+  constraint-numbers i h =
+      rw (form-constraint k e₁ e₂ e₃) (two (λ (x : ℕ). Number ≡ getD (fieldsIn constraint) x Member) 0 refl refl i (omega arith) h)
 
   pub constraint-types : (i : ℕ) → 2 ≤ i → i < 4 → Has k i AnyType
   unfolding fieldsIn constraint
-  constraint-types zero l h = absurd (omega arith)
-  constraint-types (suc zero) l h = absurd (omega arith)
-  constraint-types (suc (suc zero)) l h = rw (form-constraint k e₁ e₂ e₃)
-  constraint-types (suc (suc (suc zero))) l h = rw (form-constraint k e₁ e₂ e₃)
-  constraint-types (suc (suc (suc (suc i)))) l h = absurd (omega arith)
+  constraint-types i l h =
+      rw (form-constraint k e₁ e₂ e₃) (two (λ (x : ℕ). AnyType ≡ getD (fieldsIn constraint) x Member) 2 refl refl i l h)
 
   pub constraint-predicate : (i : ℕ) → i ≡ 4 → Has k i Predicate
   unfolding fieldsIn constraint
   constraint-predicate i h = rw (h, form-constraint k e₁ e₂ e₃)
 
-  behind : (i : ℕ) → 4 < i → getD (fieldsIn (formOf k)) i Member ≡ getD (replicate 16 AnyType) (i - 5) Member
-  unfolding fieldsIn constraint
-  behind (suc (suc (suc (suc (suc i))))) h =
-      let q : suc (suc (suc (suc (suc i)))) - 5 ≡ i = omega arith in rw (form-constraint k e₁ e₂ e₃, q)
-  behind zero h = absurd (omega arith)
-  behind (suc zero) h = absurd (omega arith)
-  behind (suc (suc zero)) h = absurd (omega arith)
-  behind (suc (suc (suc zero))) h = absurd (omega arith)
-  behind (suc (suc (suc (suc zero)))) h = absurd (omega arith)
-
   pub constraint-list : (i : ℕ) → 4 < i → i < 21 → Has k i AnyType
-  constraint-list i l h = listed 16 (i - 5) (omega arith) ∙ sym (behind i l)
+  unfolding fieldsIn constraint
+  constraint-list i l h =
+      let q : suc (suc (suc (suc (suc (i - 5))))) ≡ i = omega arith in
+      rw (form-constraint k e₁ e₂ e₃)
+      (sym (getD-replicate 16 (i - 5) AnyType Member (omega arith)) ∙ ap (λ (x : ℕ). getD (fieldsIn constraint) x Member) q)
 
   pub constraint-no-more : (i : ℕ) → 20 < i → Has k i Member
-  constraint-no-more i h = unlisted 16 (i - 5) (omega arith) ∙ sym (behind i (omega arith))
+  unfolding fieldsIn constraint
+  constraint-no-more i h = rw (form-constraint k e₁ e₂ e₃) (past (fieldsIn constraint) i (omega arith))
 
 pub fields-few : (k : ℕ) → length (fieldsIn (formOf k)) ≤ 64
 unfolding formOf fieldsIn group allow transition constraint

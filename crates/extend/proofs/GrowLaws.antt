@@ -13,18 +13,16 @@ use Rattle.format.specs.Refusals.{refusal}
 use Rattle.format.specs.Format.{countPlace}
 use Rattle.format.specs.Policy.{Policy, imageOf, policyOf, startOf}
 use Rattle.format.specs.Check.{imageIn, checkFront}
-use Rattle.format.specs.Answers.{starts}
+use Rattle.format.specs.Answers.{gives, starts}
 use Rattle.format.proofs.ByCase.{count-place-groups, count-place-rules, count-place-constraints}
 use Rattle.format.proofs.Chain.{orElse-split}
 use Rattle.format.proofs.Front.{front-accepted, front-bytes}
-use Rattle.format.proofs.Images.{Sound, policy-sound, image-of-policy, start-rules, start-constraints}
+use Rattle.format.proofs.Images.{Sound, policy-sound, image-of-policy, start-rules, start-constraints, longest-image}
 use Rattle.extension.specs.Add.{sectionOf, withRecord, ownFault, addFault, bufferAfter}
 use Rattle.format.specs.declared.Refusal.{Refusal}
 use Rattle.format.specs.declared.Sections.the-variants.{At, Refused}
-use Rattle.format.specs.Answers.{gives}
 use Rattle.format.proofs.Shapes.{length-cases, shape-kind}
 use Rattle.format.proofs.Accepted.{accepted-header, accepted-body, start-inside}
-use Rattle.format.proofs.Images.{longest-image}
 use Rattle.extension.specs.Inner.Splice.{inserted}
 use Rattle.extension.proofs.Splices.{flatten-snoc}
 use Rattle.extension.proofs.Adds.{own-passes, buffer-inserted, buffer-refused, added-accepted}

@@ -16,11 +16,12 @@ use lib.ListN.{length, getD, take, drop, drop-of-length-le, length-drop}
 use lib.Seq.{drop-cons, length-take-le, getD-take, getD-drop}
 use lib.Dec.{leb, eqb}
 use borrow.Author.Tests.{le-leb, lt-leb, leb-true, eq-eqb, ne-eqb}
-use Rattle.format.proofs.Chain.{some-not-none, orElse-none, orElse-next, orElse-first, orElse-nothing}
+use Rattle.format.proofs.Chain.{orElse-none, orElse-next, orElse-first, orElse-nothing}
 use Rattle.text.specs.declared.Field.the-variants.{AnyType, Condition}
 use Rattle.text.specs.Words.{ascii, same, isDigit, digitsFrom, numberOf, upTo, numberTo, named, above, lettered}
 use Rattle.text.specs.Rows.{valueOf}
 use Rattle.text.specs.Inner.Read.{wordSize, wordOf}
+use Rattle.text.proofs.Words.{number-most}
 use Rattle.text.proofs.Read.{word-most, word-none, word-space, word-feed, word-next, word-byte, word-empty}
 use Rattle.extend.specs.declared.spell.Word.{Word}
 use Rattle.extend.specs.Inner.Filled.{said, Says}
@@ -236,14 +237,6 @@ module _ (text : List ℕ) (from most : ℕ) (inside : from ≤ length text) (sm
 
 -- ---- a number above a base
 
-upto-most : (most n : ℕ) (o : Option ℕ) → upTo most o ≡ some n → n ≤ most
-unfolding upTo
-upto-most most n none e = some-not-none (sym e)
-upto-most most n (some m) e = step (leb m most) refl e where
-  step : (t : Bool) → leb m most ≡ t → cond t (some m) none ≡ some n → n ≤ most
-  step true q k = let j = leb-true m most q in let h : m ≡ n = cc in omega arith
-  step false q k = some-not-none (sym k)
-
 module _ (text : List ℕ) (from base most : ℕ) (x : List ℕ) (small : base + most < 65536) (w : Word) (s : Says (numberTo most x) text from w) where
   pub above-outside : w .number ≡ 65536 → Says (above base (numberTo most x)) text from w
   unfolding numberTo above
@@ -254,7 +247,7 @@ module _ (text : List ℕ) (from base most : ℕ) (x : List ℕ) (small : base +
   above-number e =
       let few : w .number < 65536 = omega (arith, s .few) in
       let o : upTo most (numberOf x) ≡ some (w .number) = said-some (upTo most (numberOf x)) (w .number) (s .number) few in
-      says-number text from (w .end) (base + w .number) (rw o) (omega (arith, upto-most most (w .number) (numberOf x) o)) (s .end few)
+      says-number text from (w .end) (base + w .number) (rw o) (omega (arith, number-most most x (w .number) o)) (s .end few)
 
 -- ---- types
 

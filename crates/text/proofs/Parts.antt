@@ -1,7 +1,7 @@
 -- Laws of the parts of a text. Assumes nothing.
 --     split-run               a text is its first part and the rest
 --     rest-end, rest-more     the rest, where there is no s, and where there is one
---     run-next                the first part, byte by byte
+--     run-most, run-next, run-stop   the first part: how long, byte by byte, and what stands behind it
 --     split-append            the parts of two texts with an s between them
 --     run-alone, run-part     the first part alone, and what stands behind it
 --     width-split             the bytes that parts take

@@ -92,12 +92,10 @@ field-bytes Condition n h = bytes-cons n [] (omega arith) bytes-nil
 
 -- the bytes of a word in its field, with those of the words behind it
 record First (f : Field) (w : List ℕ) (o : Option (List ℕ)) (l : List ℕ) : Type 0 where
-  front : List ℕ
   back : List ℕ
   more : o ≡ some back
-  is : l ≡ front ++ back
-  size : length front ≡ fieldLength f
-  bytes : Bytes front
+  size : length l ≡ fieldLength f + length back
+  bytes : Bytes back → Bytes l
   short : length w ≤ 6
 
 first-field : (f : Field) (w : List ℕ) (o : Option (List ℕ)) (l : List ℕ) → joined (asBytes f (valueOf f w)) o ≡ some l → First f w o l
@@ -110,12 +108,10 @@ first-field f w o l e = step (valueOf f w) o refl refl e where
       let i : fieldBytes f n ++ back ≡ l = cc in
       let s = value-says f w n h in
       record {
-        front = fieldBytes f n;
         back = back;
         more = k;
-        is = sym i;
-        size = field-length f n;
-        bytes = field-bytes f n (s .most);
+        size = ap length (sym i) ∙ length-append (fieldBytes f n) back ∙ ap (λ (x : ℕ). x + length back) (field-length f n);
+        bytes = λ h. subst Bytes i (bytes-append (fieldBytes f n) back (field-bytes f n (s .most)) h);
         short = s .short;
       }
 
@@ -144,8 +140,8 @@ fields-are [] (f ∷ more) (w ∷ ws) l e =
     record {
       extra = suc (b .extra);
       few = omega (arith, b .few);
-      size = ap length (a .is) ∙ length-append (a .front) (a .back) ∙ omega (arith, a .size, b .size);
-      bytes = subst Bytes (sym (a .is)) (bytes-append (a .front) (a .back) (a .bytes) (b .bytes));
+      size = omega (arith, a .size, b .size);
+      bytes = a .bytes (b .bytes);
       narrow = omega (arith, a .short, b .narrow);
     }
 fields-are (f ∷ fs) more [] l e = some-not-none (sym e)
@@ -155,8 +151,8 @@ fields-are (f ∷ fs) more (w ∷ ws) l e =
     record {
       extra = b .extra;
       few = b .few;
-      size = ap length (a .is) ∙ length-append (a .front) (a .back) ∙ omega (arith, a .size, b .size);
-      bytes = subst Bytes (sym (a .is)) (bytes-append (a .front) (a .back) (a .bytes) (b .bytes));
+      size = omega (arith, a .size, b .size);
+      bytes = a .bytes (b .bytes);
       narrow = omega (arith, a .short, b .narrow);
     }
 
