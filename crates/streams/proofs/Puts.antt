@@ -1,5 +1,5 @@
 -- Bytes that are put into a buffer. Assumes nothing.
---     placed-one, placed-then, placed-copied, placed-decimal   what puts them in place: a store, two parts, a copy, digits
+--     placed-one, placed-then, placed-copied, decimal-digits   what puts them in place: a store, two parts, a copy, digits
 --     puts-room, puts-none                                     a call that has room for the longest, and one that has not
 --     put-room, put-then, put-front                            what such a call has put; a second behind it; all from the front
 use Prim.Native.Nat.{ℕ, _+_, _-_, _^_, _≤_, _<_}
@@ -44,11 +44,6 @@ placed-then at s t l h =
     ∙ append-assoc (take at l) s (t ++ drop (at + length s + length t) (take at l ++ (s ++ drop (at + length s) l)))
     ∙ ap (λ x. take at l ++ (s ++ (t ++ x))) past
     ∙ ap (λ x. take at l ++ x) (sym (append-assoc s t (drop (at + length (s ++ t)) l)))
-
-pub length-placed : (at : ℕ) (s l : List ℕ) → at + length s ≤ length l → length (placed at s l) ≡ length l
-unfolding placed
-length-placed at s l h =
-    omega (arith, length-append (take at l) (s ++ drop (at + length s) l), length-append s (drop (at + length s) l), length-take-le at l (omega arith), length-drop (at + length s) l)
 
 -- the part of a buffer from a place on, as it is lent
 pub mid-long : (at : ℕ) (l : List ℕ) → length (take (length l - at) (drop at l)) ≡ length l - at
