@@ -22,7 +22,6 @@ use Rattle.text.proofs.Chunks.{added-accepted, added-place}
 use Rattle.lines.specs.declared.RowRefusal.{RowRefusal}
 use Rattle.lines.specs.Compiled.{feeds, refusedRow, rowLine, cut, turnFault, Reading, reads}
 use Rattle.lines.proofs.Compiled.{turn-faulty, turn-full, turn-goes, turned-is, reads-refused, reads-image}
-use Rattle.streams.specs.Put.{Front}
 use Rattle.compile.specs.declared.turn.Place.{Place}
 use Rattle.compile.specs.declared.turn.Step.{Step}
 use Rattle.compile.specs.declared.turn.Step.the-variants as step
@@ -57,16 +56,16 @@ module _ (p : Place) (input : List ℕ) (have end n : ℕ) (long : have ≤ leng
       }
 
   pub rests-kept :
-      (after : List ℕ) → have ≤ 65536 → (have - end ≡ 65536 → ⊥) → Front after (have - end) (drop end (take have input))
+      (after : List ℕ) → have ≤ 65536 → (have - end ≡ 65536 → ⊥) → take (have - end) after ≡ drop end (take have input)
       → Kept p (take have input) (record { at = p .at + end; row = p .row + n; kept = have - end }) after
   unfolding l rest-long
-  rests-kept after few h f =
+  rests-kept after few h e =
       record {
         few = omega (arith, rest-long, h);
         place = ap (λ k. record { at = p .at + k; row = p .row + n; kept = have - end }) at
             ∙ ap (λ k. record { at = p .at + cut l; row = p .row + k; kept = have - end }) count
             ∙ ap (λ k. record { at = p .at + cut l; row = p .row + feeds l; kept = k }) (sym rest-long);
-        bytes = f .bytes ∙ ap (λ k. drop k l) at;
+        bytes = e ∙ ap (λ k. drop k l) at;
       }
 
 -- ---- a turn

@@ -5,7 +5,6 @@
 // has at most 460. What a row adds is `extend`'s; here are only the reads, the writes and the line. An input that cannot be
 // read, or an output that cannot be written, ends the program, which says so on standard error.
 mod feeds; // feeds.rt: line feeds in the bytes that have come
-mod rest; // rest.rt: what is left of them
 mod line; // line.rt: the line of a refused row
 mod turn; // turn.rt: a turn, and the end of the input
 mod sink; // sink.rt: standard output and standard error

@@ -1,9 +1,9 @@
 // A turn: the rows that have come whole are added, and what is left is kept; and the end of the input.
 use crate::feeds::count_feeds;
 use crate::feeds::rows_end;
-use crate::rest::keep_rest;
 use format::Refusal;
 use lines::RowRefusal;
+use streams::keep_rest;
 use text::Built;
 ghost use mathlib.Core.Path.{_≡_};
 ghost use mathlib.Core.Option.{none};

@@ -3,8 +3,8 @@ use Prim.Native.Nat.{ℕ, suc, _+_, _-_, _*_, _/_, _%_, _≤_, _<_}
 use native.Mathlib.Omega.{arith}
 use mathlib.Core.Path.{_≡_, refl, sym, subst, ap, _∙_}
 use mathlib.Core.List.{List, _++_, append-assoc, append-nil}
-use lib.ListN.{length, take, drop, length-drop}
-use lib.Seq.{take-add, length-take-le, drop-at}
+use lib.ListN.{length, take, drop}
+use lib.Seq.{length-take-le}
 use borrow.Author.Tests.{eq-eqb, ne-eqb}
 use Rattle.format.specs.Refusals.{refusal}
 use Rattle.format.specs.Check.{Accepted}
@@ -15,27 +15,26 @@ use Rattle.decision.specs.Rows.{queryAt}
 use Rattle.decision.proofs.Numbers.{accepted-read}
 use Rattle.lines.specs.Lines.{line, linesFrom, lines}
 use Rattle.lines.specs.Output.{restOf, ending}
-use Rattle.streams.specs.Put.{Put, Front}
+use Rattle.streams.specs.Put.{keptRest, Put, Front}
+use Rattle.streams.proofs.Rests.{kept-bytes}
 
 pub put-said : {l l' : List ℕ} {at to : ℕ} {o o' : Outcome Decision} → o ≡ o' → Put l l' at to (line o') → Put l l' at to (line o)
 put-said {l} {l'} {at} {to} e p = subst (λ x. Put l l' at to (line x)) (sym e) p
 
--- the bytes past the last whole query
-pub rest-taken : (l : List ℕ) (have : ℕ) → have ≤ length l → restOf (take have l) ≡ take (have - (have - have % 8)) (drop (have - have % 8) l)
+-- the bytes past the last whole query, once they were moved to the front
+pub rest-front :
+    (l l' : List ℕ) (have rest : ℕ) → have ≤ length l → rest ≡ have % 8 → rest ≤ length l' → l' ≡ keptRest (have - rest) have l
+    → Front l' rest (restOf (take have l))
 unfolding restOf
-rest-taken l have h =
-    let from = have - have % 8 in
-    let n : 8 * (length (take have l) / 8) ≡ have - have % 8 = omega (arith, length-take-le have l h) in
-    let s : have ≡ have - have % 8 + (have - (have - have % 8)) = omega arith in
-    ap (λ k. drop k (take have l)) n
-    ∙ ap (λ k. drop from (take k l)) s
-    ∙ ap (drop from) (take-add from (have - from) l)
-    ∙ drop-at (take from l) (take (have - from) (drop from l)) from (length-take-le from l (omega arith))
-
-pub rest-long : (l : List ℕ) (have : ℕ) → have ≤ length l → have % 8 ≡ length (take (have - (have - have % 8)) (drop (have - have % 8) l))
-rest-long l have h =
-    let from = have - have % 8 in
-    sym (length-take-le (have - from) (drop from l) (omega (arith, length-drop (have - have % 8) l)) ∙ omega arith)
+rest-front l l' have rest h e f is =
+    let from : 8 * (length (take have l) / 8) ≡ have - rest = omega (arith, length-take-le have l h, e) in
+    let size : rest ≡ have - (have - rest) = omega arith in
+    record {
+      fits = f;
+      bytes = ap (λ k. take k l') size
+          ∙ kept-bytes l (have - rest) have l' (omega arith) h is
+          ∙ ap (λ k. drop k (take have l)) (sym from);
+    }
 
 -- ---- the lines of queries: those of k rows are put, up to `end`
 

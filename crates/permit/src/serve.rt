@@ -3,10 +3,10 @@ use crate::answers::put_answers;
 use crate::answers::put_ending;
 use crate::answers::put_refusal;
 use crate::sink::write_due;
-use crate::source::keep_rest;
 use format::Refusal;
 use libc::STDIN_FILENO;
 use streams::Got;
+use streams::keep_rest;
 use streams::read_between;
 ghost use mathlib.Core.Path.{_≡_};
 ghost use Prim.Native.Nat.{_+_, _-_, _<_};
@@ -22,7 +22,7 @@ pub(crate) struct Turn {
 }
 
 // Makes the lines that are to be written for what a read has brought, behind the bytes that were kept. The whole queries'
-// lines if bytes came, the last line if the input has ended.
+// lines if bytes came, and the bytes past the last whole query are kept; the last line if the input has ended.
 fn take_turn(
     image: &[u8],
     got: Got,
@@ -39,10 +39,9 @@ fn take_turn(
         Got::Bytes(n) => {
             let have = kept + n;
             let end = put_answers(image, &input[..have], numbers, output);
-            Turn {
-                kept: keep_rest(input, have),
-                end,
-            }
+            let rest = have % 8;
+            keep_rest(input, have - rest, have);
+            Turn { kept: rest, end }
         }
         Got::Ended => Turn {
             kept,

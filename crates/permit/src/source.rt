@@ -4,10 +4,9 @@ use libc::STDIN_FILENO;
 use streams::Got;
 use streams::read_between;
 ghost use mathlib.Core.Path.{_≡_};
-ghost use Prim.Native.Nat.{_≤_, _<_};
-ghost use lib.ListN.{length, take};
-ghost use Rattle.lines.specs.Output.{imageSize, restOf};
-ghost use Rattle.streams.specs.Put.{Front};
+ghost use Prim.Native.Nat.{_<_};
+ghost use lib.ListN.{length};
+ghost use Rattle.lines.specs.Output.{imageSize};
 ghost use Rattle.permit.specs.Inner.Input.{ImageRead};
 
 // Why the reading of an image stopped.
@@ -69,16 +68,4 @@ pub(crate) fn read_image(space: &mut [u8]) -> Taken
             }
         }
     }
-}
-
-// Moves the bytes past the last whole query to the front, and tells how many they are.
-pub(crate) fn keep_rest(buffer: &mut [u8], have: usize) -> usize
-    requires { ⌜ have ≤ length (now buffer) ⌝ }
-    ensures { λ r. ⌜ (r < 8) × Front (now (buffer .exit)) r (restOf (take have (now (buffer .entry)))) ⌝ }
-{
-    let rest = have % 8;
-    let mut cut = [0u8; 8];
-    bytes::copy(&buffer[have - rest..have], &mut cut);
-    bytes::copy(&cut[..rest], buffer);
-    rest
 }

@@ -20,7 +20,7 @@ unfolding placed
 placed-one l at b h = set-split l at b h ∙ ap (λ k. take at l ++ (b ∷ drop k l)) (sym (add-one at))
 
 -- where they end
-taken-placed : (at : ℕ) (s l : List ℕ) → at ≤ length l → take (at + length s) (placed at s l) ≡ take at l ++ s
+pub taken-placed : (at : ℕ) (s l : List ℕ) → at ≤ length l → take (at + length s) (placed at s l) ≡ take at l ++ s
 unfolding placed
 taken-placed at s l h =
     ap (λ k. take (k + length s) (take at l ++ (s ++ drop (at + length s) l))) (sym (length-take-le at l h))
@@ -100,7 +100,3 @@ put-then {l} {l'} {l''} {at} {m} {to} {s} {t} p q =
 -- at the front
 pub put-front : {l l' : List ℕ} {n : ℕ} {s : List ℕ} → n ≤ length l' → Put l l' 0 n s → Front l' n s
 put-front h p = record { fits = h; bytes = p .bytes }
-
--- what was copied to the front of a buffer
-pub copied-front : (s rest l : List ℕ) (n : ℕ) → n ≡ length s → l ≡ take (length s) s ++ rest → take n l ≡ s
-copied-front s rest l n e is = ap (take n) (is ∙ ap (λ x. x ++ rest) (take-length s)) ∙ take-at s rest n (sym e)

@@ -6,6 +6,7 @@ use Prim.Native.Nat.{_≤_}
 use lib.ListN.{take}
 use lib.Seq.{length-take-le}
 use Rattle.lines.proofs.Feeds.{cut-is}
+use Rattle.streams.proofs.Rests.{kept-bytes}
 use Rattle.compile.proofs.Turns.{rests-full, rests-kept}
 use Rattle.compile.proofs.turn.go_on.Statement.{statement}
 use Rattle.compile.proofs.turn.go_on.Tie as tie
@@ -26,9 +27,6 @@ sub-if1 c = inside (c .before .before .before .before)
 returns : tie.Need-returns
 returns c = let start = c .before .before .before .before .before .before .args in rests-full (start .p) (start .input .now) (start .have) (start .end) _ (omega arith) (c .before .before .before .before .before .before .pre .2) (c .before .before .before .count-feeds .ensures .0) (c .before .if1 .taken)
 
-keep-rest-requires : tie.Need-keep-rest-requires
-keep-rest-requires c κs = (inside (c .before .before .before .before .before .before), omega arith)
-
 add-t6 : tie.Need-add-t6
 add-t6 c = record { fits = omega (arith, inside (c .before .before .before .before .before .before .before .before .before .before)) }
 
@@ -36,7 +34,11 @@ sub-t15 : tie.Need-sub-t15
 sub-t15 c = inside (c .before .before .before .before .before .before .before .before .before .before)
 
 returns-2 : tie.Need-returns-2
-returns-2 c = let start = c .before .before .before .before .before .before .before .before .before .before .args in rests-kept (start .p) (start .input .now) (start .have) (start .end) _ (omega arith) (c .before .before .before .before .before .before .before .before .before .before .pre .2) (c .before .before .before .before .before .before .before .count-feeds .ensures .0) _ (omega arith) (c .before .before .before .before .before .if1 .left) (c .before .before .before .keep-rest .ensures)
+returns-2 c =
+    let first = c .before .before .before .before .before .before .before .before .before .before in
+    let start = first .args in
+    rests-kept (start .p) (start .input .now) (start .have) (start .end) _ (omega arith) (first .pre .2) (c .before .before .before .before .before .before .before .count-feeds .ensures .0) _ (omega arith) (c .before .before .before .before .before .if1 .left)
+    (kept-bytes (start .input .now) (start .end) (start .have) _ (inside first) (omega arith) (c .before .before .before .keep-rest .ensures))
 
 pub go-on-spec : {M : Type 1} → statement M
 go-on-spec =
@@ -50,7 +52,7 @@ go-on-spec =
     (λ c. search needs)
     (λ c. search needs)
     returns
-    keep-rest-requires
+    (λ c κs. search needs)
     add-t6
     sub-t15
     (λ c. search needs)

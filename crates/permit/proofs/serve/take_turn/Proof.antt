@@ -5,6 +5,7 @@ use Prim.Native.Nat.{_+_, _-_, _≤_, _<_}
 use mathlib.Core.Path.{sym}
 use lib.Seq.{length-take-le}
 use Rattle.streams.proofs.Inputs.{bytes-brought}
+use Rattle.permit.proofs.Laws.{rest-front}
 use Rattle.permit.proofs.Turns.{turn-more, turn-ended, turn-failed}
 use Rattle.permit.proofs.serve.take_turn.Statement.{statement}
 use Rattle.permit.proofs.serve.take_turn.Tie as tie
@@ -29,17 +30,15 @@ put-answers-requires c κs =
     let long = length-take-le (start .args .kept + c .before .before .before .before .got .given .0 .0) (start .args .input .now) (omega (arith, got)) in
     (start .pre .0, omega (arith, got, long), omega (arith, got, long))
 
-keep-rest-requires : tie.Need-keep-rest-requires
-keep-rest-requires c κs = omega (arith, some (c .before .before .before .before .before .before .before .before .before))
-
 slice-aggregate-put-ending : tie.Need-slice-aggregate-put-ending
 slice-aggregate-put-ending c = sym (length-take-le (c .before .before .before .before .before .before .before .args .kept) (c .before .before .before .before .before .before .before .args .input .now) (omega arith))
 
 returns : tie.Need-returns
 returns c =
     let start = c .before .before .before .before .before .before .before .before .before .before .before .before .before .before .before .before .before .before .before .args in
-    let kept = c .before .before .keep-rest in
-    turn-more _ (start .input .now) _ (start .kept) _ (omega arith) (omega arith) (start .got) _ _ _ (c .before .before .before .before .before .before .before .before .before .before .before .before .before .got .given .1) (c .before .before .before .before .before .before .before .before .put-answers .ensures) (kept .ensures .0) (kept .ensures .1)
+    let came = c .before .before .before .before .before .before .before .before .before .before .before .before .before in
+    let kept = rest-front (start .input .now) _ (start .kept + came .got .given .0 .0) _ (omega (arith, some (c .before .before .before .before .before .before .before .before .before .before .before .before))) (omega arith) (omega arith) (c .before .before .keep-rest .ensures) in
+    turn-more _ (start .input .now) _ (start .kept) _ (omega arith) (omega arith) (start .got) _ _ _ (came .got .given .1) (c .before .before .before .before .before .before .before .before .put-answers .ensures) (omega arith) kept
 
 returns-2 : tie.Need-returns-2
 returns-2 c =
@@ -60,7 +59,8 @@ take-turn-spec =
     slice-reshare-prefix-put-answers
     slice-aggregate-put-answers
     put-answers-requires
-    keep-rest-requires
+    (λ c. search needs)
+    (λ c κs. search needs)
     (λ c. search needs)
     (λ c. omega arith)
     slice-aggregate-put-ending
