@@ -1,7 +1,6 @@
 -- `above_base` meets its contract. Assumes nothing.
 use native.Mathlib.Omega.{arith}
 use denote.Ref.{now}
-use borrow.Author.Needs.{needs}
 use Rattle.extend.proofs.WordLaws.{above-outside, above-number}
 use lib.ListN.{drop}
 use Rattle.text.specs.Inner.Read.{wordOf}
