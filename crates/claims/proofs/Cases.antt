@@ -2,11 +2,16 @@
 use Prim.Native.Nat.{ℕ}
 use native.Mathlib.Omega.{arith}
 use mathlib.Core.Path.{_≡_, refl, sym, _∙_}
+use mathlib.Core.Option.{none, some}
 use mathlib.Core.List.{List, [], _∷_, _++_, flatten}
 use lib.ListN.{length, getD, take, drop, replicate}
+use lib.Dec.{eqb}
 use Rattle.format.specs.declared.Section.the-variants.{Rules, Constraints}
 use Rattle.format.specs.Bytes.{Bytes, wordAt, words}
-use Rattle.format.specs.Check.{Accepted, imageIn}
+use Rattle.format.specs.Format.{knownVersion, limitOf, countPlace, countOf, kindIn, lengthOk, isType, isCondition, listOk, firstRecord, shapeOk}
+use Rattle.format.specs.Format.{badMember, badType, badGroup, badAllow, badTransition, badConstraint, badField}
+use Rattle.format.specs.Policy.{placeAfter, startOf, placeOf, endOf}
+use Rattle.format.specs.Check.{readFields, readOf, readFault, sectionFault, countFault, headerFault, bodyFault, Accepted, imageIn}
 use Rattle.format.specs.Claims.{typeFields}
 use Rattle.format.specs.Sample.{sample, empty}
 use Rattle.format.proofs.ByCase.{kind-constraints}
@@ -19,13 +24,13 @@ use Rattle.decision.specs.declared.Nearest.the-variants.{Near}
 use Rattle.decision.specs.Decide.{notPermitted, permitted, answer}
 use Rattle.decision.specs.Cases.{g0, allow, companion, withSpace}
 use Rattle.decision.specs.Rows.{queryAt}
-use Rattle.format.specs.Refusals.{refusal}
+use Rattle.format.specs.Refusals.{refusal, need, _orElse_}
 use Rattle.decision.proofs.Cases.{Answers}
 use Rattle.runs.specs.Numbers.{rowsOf, numbersOf}
 use Rattle.runs.specs.Cases.{member, group, transition, offRule, noSource, runCases, numberCases}
 use Rattle.lines.specs.Output.{imageSize}
 use Rattle.lines.specs.Worked.{workedLines, asked, workedRuns}
-use Rattle.claims.specs.Terms.{query, threeQueries, twoAndPart, byBytes, tooShort}
+use Rattle.claims.specs.Terms.{query, threeQueries, twoAndPart, byBytes, cutSample, longSample, badSample, tooShort}
 
 pub empty-nine : length empty ≡ 9
 unfolding empty
@@ -143,3 +148,19 @@ pub record RunNumbers : Type 0 where
 pub run-numbers : RunNumbers
 unfolding member transition offRule rowsOf numbersOf runCases numberCases
 run-numbers = record { fit = refl; unfit = refl; second = refl; cases = refl; number-cases = refl }
+
+-- three images that are refused behind their header
+pub record Refused : Type 0 where
+  pub cut-header : headerFault eqb cutSample ≡ none
+  pub cut-refused : bodyFault cutSample ≡ some (refusal 5 69)
+  pub bad-header : headerFault eqb badSample ≡ none
+  pub bad-refused : bodyFault badSample ≡ some (refusal 6 25)
+  pub long-header : headerFault eqb longSample ≡ none
+  pub long-refused : bodyFault longSample ≡ some (refusal 7 80)
+
+pub refused-samples : Refused
+unfolding wordAt words need _orElse_ knownVersion limitOf countPlace countOf kindIn lengthOk isType isCondition listOk firstRecord shapeOk
+    badMember badType badGroup badAllow badTransition badConstraint badField placeAfter startOf placeOf endOf readFields readOf readFault
+    sectionFault countFault headerFault bodyFault sample
+refused-samples =
+    record { cut-header = refl; cut-refused = refl; bad-header = refl; bad-refused = refl; long-header = refl; long-refused = refl }

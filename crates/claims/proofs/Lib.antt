@@ -7,5 +7,6 @@ pub mod RunningTerms
 pub mod NearingTerms
 pub mod TextTerms
 pub mod BuildingTerms
+pub mod ReachingTerms
 pub mod CallingTerms
 pub mod Terms

@@ -3,6 +3,8 @@ use Rattle.format.proofs.Accepted as accepted
 use Rattle.format.proofs.Images as images
 use Rattle.format.proofs.References as references
 use Rattle.format.proofs.Longest as longest
+use Rattle.format.proofs.Reach as reach
+use Rattle.format.proofs.Furthest as furthest
 use Rattle.format.proofs.Sample as sample
 use Rattle.extension.proofs.Adds as adds
 use Rattle.extension.proofs.Trip as trip
@@ -44,7 +46,7 @@ promises =
         none-given = accepted.none-given;
         empty-tells = accepted.empty-tells;
         references-held = references.references-held;
-        longest-image = images.longest-image;
+        longest-image = reach.longest-image;
         longest-reached = longest.longest-reached;
         sample-accepted = sample.sample-accepted;
         refusal-cases = cases.refusal-cases;
@@ -128,6 +130,11 @@ promises =
         worked-outside = texts.worked-outside;
         worked-full = texts.worked-full;
         worked-texts = texts.worked-texts;
+      };
+      reaching = record {
+        places-bounded = reach.places-bounded;
+        stops-reached = reach.stops-reached;
+        bound-reached = furthest.bound-reached;
       };
       printing = record {
         decimal-fewest = numbers.decimal-fewest;

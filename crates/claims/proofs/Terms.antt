@@ -7,6 +7,7 @@ use Rattle.claims.proofs.DecidingTerms.{deciding-met, ordering-met}
 use Rattle.claims.proofs.RunningTerms.{running-met}
 use Rattle.claims.proofs.NearingTerms.{nearing-met}
 use Rattle.claims.proofs.BuildingTerms.{building-met}
+use Rattle.claims.proofs.ReachingTerms.{reaching-met}
 use Rattle.claims.proofs.CallingTerms.{printing-met, calling-met}
 
 pub terms-met : Promises → TermsMet
@@ -19,6 +20,7 @@ terms-met p =
       running = running-met p;
       nearing = nearing-met p;
       building = building-met p;
+      reaching = reaching-met p;
       printing = printing-met p;
       calling = calling-met p;
     }

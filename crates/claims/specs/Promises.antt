@@ -7,6 +7,7 @@
 -- docs/CLAIMS.md leads from each sentence of the documents to its claim or its contract.
 use Rattle.format.specs.Claims.{AcceptedIsWellFormed, WellFormedIsAccepted, RecordsGiven, AllGiven, NoneGiven, EmptyTells, ReferencesHeld}
 use Rattle.format.specs.Longest.{LongestImage, LongestReached}
+use Rattle.format.specs.Reach.{PlacesBounded, StopsReached, BoundReached}
 use Rattle.format.specs.Sample.{SampleAccepted}
 use Rattle.extension.specs.Claims.{AddedAccepted, NumberNamed, GroupsKept, RestStays, RefusedUnchanged, RoundTrip, RoundTripExact}
 use Rattle.decision.specs.Filled.{TypesFilled, FieldsFilled}
@@ -206,6 +207,16 @@ pub record Building : Type 0 where
   pub worked-full : WorkedFull
   pub worked-texts : WorkedTexts
 
+-- Request 4: how far a walk over the records reaches, so that 16 bits hold its place.
+pub record Reaching : Type 0 where
+  -- in every image whose header passes, accepted or not: past k groups, rules or constraints at most 9 + 130 k,
+  -- 9 + 130 · 256 + 11 k, 9 + 130 · 256 + 11 · 1,024 + 43 k, and so 55,561; with a record's length byte added at most 55,816
+  pub places-bounded : PlacesBounded
+  -- a refusal of the records, 5 to 7, stands at a place that the walk reached, or at a field of the record there
+  pub stops-reached : StopsReached
+  -- the longest image reaches each of these places, and 55,561 past its last record
+  pub bound-reached : BoundReached
+
 -- The programs' output.
 pub record Printing : Type 0 where
   -- a number has the fewest digits that hold it, and they read back as that number
@@ -259,5 +270,6 @@ pub record Promises : Type 0 where
   pub running : Running
   pub nearing : Nearing
   pub building : Building
+  pub reaching : Reaching
   pub printing : Printing
   pub calling : Calling

@@ -9,9 +9,10 @@
 --     byBytes b           reads that bring one byte each
 --     sampleBytes, trans  document 01's sample as text, and a row by itself
 --     left text b         what a text leaves of the buffer b
+--     cutSample, longSample, badSample   the sample cut, with a byte behind it, with a condition that is none
 --     outsideBehind n     n line feeds and one more, and a row outside the form
---     ReadingMet, AddingMet, DecidingMet, OrderingMet, RunningMet, NearingMet, BuildingMet, PrintingMet, CallingMet   by the parts of
---                                the statement
+--     ReadingMet, AddingMet, DecidingMet, OrderingMet, RunningMet, NearingMet, BuildingMet, ReachingMet, PrintingMet, CallingMet   by the
+--                                parts of the statement
 use Prim.Native.Nat.{ℕ, suc, _+_, _*_, _/_, _%_, _<_, _≤_}
 use Prim.Native.String.{String}
 use mathlib.Core.Path.{_≡_}
@@ -19,6 +20,7 @@ use mathlib.Core.Bool.{true, false}
 use mathlib.Core.Option.{Option, none, some}
 use mathlib.Core.List.{List, [], _∷_, _++_, map, List·Memᴰ}
 use lib.ListN.{length, getD, take, drop, replicate}
+use lib.Dec.{leb, eqb}
 use Rattle.format.specs.declared.Section.{Section}
 use Rattle.format.specs.declared.Section.the-variants.{Groups, Rules, Constraints}
 use Rattle.format.specs.declared.Refusal.{Refusal}
@@ -26,12 +28,13 @@ use Rattle.format.specs.Bytes.{Bytes}
 use Rattle.format.specs.Refusals.{refusal}
 use Rattle.format.specs.Format.{limitOf}
 use Rattle.format.specs.Policy.{Policy, recordsOf, imageOf, policyOf, placeOf}
-use Rattle.format.specs.Check.{check, Accepted, imageIn, checkFront}
+use Rattle.format.specs.Check.{headerFault, bodyFault, check, Accepted, imageIn, checkFront}
 use Rattle.format.specs.Answers.{Outcome, refused, gives, outcome, extent}
 use Rattle.format.specs.Give.{giveFault, givenRecord}
 use Rattle.format.specs.Claims.{IsType, typeFields, WellFormed, givenFrom}
 use Rattle.format.specs.Sample.{sample, empty}
 use Rattle.format.specs.Longest.{longest}
+use Rattle.format.specs.Reach.{Reaches, Stops}
 use Rattle.extension.specs.Add.{addFault, newNumber, bufferAfter, overwrite}
 use Rattle.extension.specs.Claims.{addAll, allRecords}
 use Rattle.text.specs.Words.{ascii, split}
@@ -102,6 +105,16 @@ left text b = built text b .buffer
 
 abbrev pub outsideBehind : ℕ → List ℕ
 outsideBehind n = replicate n 10 ++ (10 ∷ ascii "x")
+
+-- the sample without its last byte, with one byte more, and with a condition that is none; each with a length field that says so
+abbrev pub cutSample : List ℕ
+cutSample = 1 ∷ 0 ∷ 79 ∷ take 76 (drop 3 sample)
+
+abbrev pub longSample : List ℕ
+longSample = 1 ∷ 0 ∷ 81 ∷ drop 3 sample ++ (0 ∷ [])
+
+abbrev pub badSample : List ℕ
+badSample = take 25 sample ++ (34 ∷ drop 26 sample)
 
 -- a length field of 8, and more
 abbrev pub tooShort : List ℕ
@@ -524,6 +537,33 @@ pub record BuildingMet : Type 0 where
       built (ascii "trans 12 20 5\nx") (replicate 17 7) ≡ record { answer = refused (refusal 18 14); buffer = oneTransition }
   pub return-refused : built (ascii "group 1\r\n") (replicate 13 7) ≡ record { answer = refused (refusal 18 0); buffer = empty ++ replicate 4 7 }
 
+pub record ReachingMet : Type 0 where
+  -- PlacesBounded: every image whose header passes, and a buffer that goes on behind it, in numbers
+  pub group-places : (l : List ℕ) → headerFault eqb l ≡ none → (k : ℕ) → Reaches l Groups k → placeOf l Groups k ≤ 9 + 130 * k
+  pub rule-places : (l : List ℕ) → headerFault eqb l ≡ none → (k : ℕ) → Reaches l Rules k → placeOf l Rules k ≤ 33289 + 11 * k
+  pub constraint-places : (l : List ℕ) → headerFault eqb l ≡ none → (k : ℕ) → Reaches l Constraints k → placeOf l Constraints k ≤ 44553 + 43 * k
+  pub buffer-places : (b : List ℕ) → headerFault leb b ≡ none → (s : Section) (k : ℕ) → Reaches b s k → placeOf b s k ≤ 55561
+  pub next-length : (l : List ℕ) → Bytes l → headerFault eqb l ≡ none → (s : Section) (k : ℕ) → Reaches l s k → placeOf l s k + getD l (placeOf l s k) 0 ≤ 55816
+  -- StopsReached: where each of 5, 6 and 7 stands, in every image, and of the sample cut, with a bad field, and with a byte behind it
+  pub malformed :
+      (l : List ℕ) → headerFault eqb l ≡ none → (p : ℕ) → bodyFault l ≡ some (refusal 5 p)
+      → (s : Section) × (k : ℕ) × Reaches l s k × (p ≡ placeOf l s k)
+  pub bad-field :
+      (l : List ℕ) → headerFault eqb l ≡ none → (p : ℕ) → bodyFault l ≡ some (refusal 6 p)
+      → (s : Section) × (k : ℕ) × (i : ℕ) × Reaches l s k × (p ≡ placeOf l s k + i)
+  pub bytes-behind :
+      (l : List ℕ) → headerFault eqb l ≡ none → (p : ℕ) → bodyFault l ≡ some (refusal 7 p)
+      → (s : Section) × (k : ℕ) × Reaches l s k × (p ≡ placeOf l s k)
+  pub stop-places : (b : List ℕ) → headerFault leb b ≡ none → (f : Refusal) → bodyFault b ≡ some f → f .place ≤ 55561
+  pub cut-stops : Stops cutSample (refusal 5 69)
+  pub bad-stops : Stops badSample (refusal 6 25)
+  pub long-stops : Stops longSample (refusal 7 80)
+  -- BoundReached: past the last group, the last rule, the last constraint
+  pub groups-end : placeOf (imageOf longest) Groups 256 ≡ 33289
+  pub rules-end : placeOf (imageOf longest) Rules 1024 ≡ 44553
+  pub constraints-end : placeOf (imageOf longest) Constraints 256 ≡ 55561
+  pub last-reached : Reaches (imageOf longest) Constraints 256
+
 pub record PrintingMet : Type 0 where
   -- DecimalFewest, DecimalRead: the largest usize
   pub largest-fewest : Fewest 10 1 18446744073709551615 (width 18446744073709551615)
@@ -656,5 +696,6 @@ pub record TermsMet : Type 0 where
   pub running : RunningMet
   pub nearing : NearingMet
   pub building : BuildingMet
+  pub reaching : ReachingMet
   pub printing : PrintingMet
   pub calling : CallingMet

@@ -14,7 +14,6 @@ use native.Mathlib.Omega.{arith}
 use borrow.Author.Tests.{ne-eqb}
 use Rattle.format.specs.declared.Section.the-variants.{Rules, Constraints}
 use Rattle.format.specs.declared.Refusal.{Refusal}
-use Rattle.format.specs.Bytes.{Bytes}
 use Rattle.format.specs.Refusals.{refusal}
 use Rattle.format.specs.Format.{countOf}
 use Rattle.format.specs.Check.{check, Accepted}
@@ -56,8 +55,8 @@ module _ (f : Refusal) (fits : RefusalFits f) where
 pub known-fits : (n at : ℕ) (f : Refusal) → refusal n at ≡ f → n < 65536 → at < 65536 → RefusalFits f
 known-fits n at f e h k = subst RefusalFits e (h, k)
 
-pub check-fits : (l : List ℕ) → Bytes l → (f : Refusal) → check l ≡ some f → RefusalFits f
-check-fits l b f e = let q = check-small l b f e in (omega (arith, q .0), q .1)
+pub check-fits : (l : List ℕ) (f : Refusal) → check l ≡ some f → RefusalFits f
+check-fits l f e = let q = check-small l f e in (omega (arith, q .0), omega (arith, q .1))
 
 module _ (l : List ℕ) (e : Accepted l) where
   few-rules : countOf l Rules ≤ 1024
@@ -86,7 +85,7 @@ decide-fits l q fits = go (answer l q) refl
         (omega (arith, h .0, few-rules l a), omega (arith, h .1, few-constraints l a))
 
 pub decide-whole : DecideWhole
-decide-whole l b q = decide-fits l q (check-fits l b)
+decide-whole l b q = decide-fits l q (check-fits l)
 
 -- ---- what a host reads
 

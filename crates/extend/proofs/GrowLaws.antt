@@ -17,7 +17,8 @@ use Rattle.format.specs.Answers.{gives, starts}
 use Rattle.format.proofs.ByCase.{count-place-groups, count-place-rules, count-place-constraints}
 use Rattle.format.proofs.Chain.{orElse-split}
 use Rattle.format.proofs.Front.{front-accepted, front-bytes}
-use Rattle.format.proofs.Images.{Sound, policy-sound, image-of-policy, start-rules, start-constraints, longest-image}
+use Rattle.format.proofs.Reach.{longest-image}
+use Rattle.format.proofs.Images.{Sound, policy-sound, image-of-policy, start-rules, start-constraints}
 use Rattle.extension.specs.Add.{sectionOf, withRecord, ownFault, addFault, bufferAfter}
 use Rattle.format.specs.declared.Refusal.{Refusal}
 use Rattle.format.specs.declared.Sections.the-variants.{At, Refused}

@@ -21,7 +21,7 @@ use Rattle.format.proofs.Shapes.{Formed, length-least, length-cases, shape-leng
 use Rattle.format.proofs.ByCase.{limit-most, count-place-most}
 use Rattle.format.proofs.Accepted.{accepted-header, accepted-body, start-inside, start-least}
 use Rattle.format.proofs.Front.{front-accepted, front-length}
-use Rattle.format.proofs.Images.{longest-image}
+use Rattle.format.proofs.Reach.{longest-image}
 use Rattle.extension.specs.Add.{sectionOf, fieldFault, newNumber, ownFault, addFault}
 use Rattle.extension.specs.Inner.Splice.{endOfSection}
 use Rattle.extension.proofs.Adds.{section-of, own-passes, passes-own}

@@ -1,4 +1,4 @@
--- Images and policies are each other's inverses: claims AcceptedIsWellFormed, WellFormedIsAccepted, LongestImage.
+-- Images and policies are each other's inverses: claims AcceptedIsWellFormed, WellFormedIsAccepted.
 -- Assumes nothing.
 --     Sound p                a policy that passes the check's tests: one that is well formed, and no other
 --     image-of-policy        an accepted image is the image of its policy
@@ -22,13 +22,13 @@ use Rattle.format.specs.Format.{knownVersion, limitOf, countPlace, count
 use Rattle.format.specs.Policy.{Policy, recordsOf, bodyOf, imageOf, recordAt, recordsAt, placeAfter, startOf, placeOf, endOf, policyOf}
 use Rattle.format.specs.Check.{sectionFault, headerFault, bodyFault, check, Accepted}
 use Rattle.format.specs.Claims.{WellFormed, AcceptedIsWellFormed, WellFormedIsAccepted}
-use Rattle.format.specs.Longest.{LongestImage}
 use Rattle.format.proofs.Tests.{both}
 use Rattle.format.proofs.Chain.{orElse-none, need-none}
 use Rattle.format.proofs.Bytes.{bytes-cons, bytes-append, bytes-drop, bytes-take, bytes-flatten, bytes-word, word-bytes, word-back}
 use Rattle.format.proofs.Shapes.{Formed, length-cases, shape-kind}
 use Rattle.format.proofs.Records.{records-mem, records-flatten, Runs, runs-records, runs-place, runs-fault, runs-flatten, Shaped}
 use Rattle.format.proofs.Fields.{formed-is, is-formed}
+use Rattle.format.proofs.Reach.{longest-image}
 use Rattle.format.proofs.Accepted.{holds-header, accepted-header, accepted-length, accepted-end, record-formed, records-count, policy-records}
 
 -- a policy that passes the check's tests
@@ -191,57 +191,6 @@ module _ (p : Policy) where
   image-count Rules = word-back _
   image-count Constraints = word-back _
 
--- the greatest length of a record of each section
-longestOf : Section → ℕ
-longestOf Groups = 130
-longestOf Rules = 11
-longestOf Constraints = 43
-
-formed-length : (s : Section) (g : ℕ) (r : List ℕ) → Formed s g r → length r ≤ longestOf s
-unfolding kindIn longestOf
-formed-length Groups g r f =
-    let k = eqb-true (getD r 1 0) 1 (f .kind) in
-    length-cases (getD r 1 0) (length r) (shape-kind r (f .shape)) (λ _ _ h _. h) (λ j _. absurd (omega arith)) (λ j _. absurd (omega arith)) (λ j _ _ _. absurd (omega arith))
-formed-length Rules g r f =
-    let b = both (leb 2 (getD r 1 0)) (leb (getD r 1 0) 3) (f .kind) in
-    let low = leb-true 2 (getD r 1 0) (b .0) in
-    let high = leb-true (getD r 1 0) 3 (b .1) in
-    length-cases (getD r 1 0) (length r) (shape-kind r (f .shape)) (λ j _ _ _. absurd (omega arith)) (λ _ h. omega arith) (λ _ h. omega arith) (λ j _ _ _. absurd (omega arith))
-formed-length Constraints g r f =
-    let k = eqb-true (getD r 1 0) 4 (f .kind) in
-    length-cases (getD r 1 0) (length r) (shape-kind r (f .shape)) (λ j _ _ _. absurd (omega arith)) (λ j _. absurd (omega arith)) (λ j _. absurd (omega arith)) (λ _ _ h _. h)
-
-flatten-length : (n : ℕ) (rs : List (List ℕ)) → ((r : List ℕ) → List·Memᴰ r rs → length r ≤ n) → length (flatten rs) ≤ n * length rs
-unfolding flatten
-flatten-length n [] h = omega arith
-flatten-length n (r ∷ rs) h =
-    let x = h r (List·Memᴰ·head refl) in
-    let y = flatten-length n rs (λ z m. h z (List·Memᴰ·tail m)) in
-    rw (length-append r (flatten rs)) (omega arith)
-
--- the longest body that the limits allow
-module _ (p : Policy) (few : (s : Section) → length (recordsOf p s) ≤ limitOf s) (g : ℕ)
-    (formed : (s : Section) (r : List ℕ) → List·Memᴰ r (recordsOf p s) → Formed s g r) where
-  section-length : (s : Section) → length (flatten (recordsOf p s)) ≤ longestOf s * length (recordsOf p s)
-  section-length s = flatten-length (longestOf s) (recordsOf p s) (λ r m. formed-length s g r (formed s r m))
-
-  longest-body : 9 + length (bodyOf p) ≤ 55561
-  unfolding bodyOf recordsOf limitOf longestOf
-  longest-body =
-      let a = section-length Groups in
-      let b = section-length Rules in
-      let c = section-length Constraints in
-      let x = few Groups in
-      let y = few Rules in
-      let z = few Constraints in
-      rw (length-append (flatten (p .groups)) (flatten (p .rules) ++ flatten (p .constraints)), length-append (flatten (p .rules)) (flatten (p .constraints)))
-      (omega arith)
-
-pub longest-image : LongestImage
-longest-image l e =
-    let k = longest-body (policyOf l) (λ s. rw (records-count l s) (accepted-header l e .few s)) (countOf l Groups) (policy-formed l e) in
-    omega (arith, length-drop 9 l, ap length (body-of-policy l e), accepted-header l e .long)
-
 module _ (p : Policy) (w : Sound p) where
   shaped : (s : Section) → Shaped (recordsOf p s)
   shaped s r m = w .formed s r m .shape
@@ -356,7 +305,8 @@ module _ (p : Policy) (w : Sound p) where
       let y = w .few Rules in
       let z = w .few Constraints in
       let v = eqb-true (p .version) 1 (w .version) in
-      let m = longest-body p (w .few) (length (p .groups)) (w .formed) in
+      let m = longest-image (imageOf p) image-accepted in
+      let n = image-length p in
       let l₁ : List ℕ = putWord (length (p .constraints)) (bodyOf p) in
       let l₂ : List ℕ = putWord (length (p .rules)) l₁ in
       let l₃ : List ℕ = putWord (length (p .groups)) l₂ in

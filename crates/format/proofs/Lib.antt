@@ -5,6 +5,7 @@ pub mod ByCase
 pub mod Shapes
 pub mod Records
 pub mod Accepted
+pub mod Reach
 pub mod Front
 pub mod Fields
 pub mod Images
@@ -13,4 +14,5 @@ pub mod References
 pub mod Sample
 pub mod Places
 pub mod Longest
+pub mod Furthest
 pub mod Bounds

@@ -90,7 +90,7 @@ replicate-mem : (n : ℕ) (x r : List ℕ) → List·Memᴰ r (replicate n x) �
 replicate-mem zero x r m = absurd (List·Memᴰ·not-nil m)
 replicate-mem (suc n) x r m = ⊎-elim (λ e. e) (λ t. replicate-mem n x r t) (List·Memᴰ·cases-cons m)
 
-group-length : (k : ℕ) → length (longGroup k) ≡ 130
+pub group-length : (k : ℕ) → length (longGroup k) ≡ 130
 unfolding longGroup countUp putWord
 group-length k = refl
 
@@ -132,11 +132,11 @@ pub longest-sound : Sound longest
 longest-sound =
     record { version = longest-version; few = λ s. omega (arith, longest-full s); formed = longest-formed (length (longest .groups)); bytes = longest-bytes }
 
-rule-length : length longRule ≡ 11
+pub rule-length : length longRule ≡ 11
 unfolding longRule
 rule-length = refl
 
-constraint-length : length longConstraint ≡ 43
+pub constraint-length : length longConstraint ≡ 43
 unfolding longConstraint
 constraint-length = refl
 

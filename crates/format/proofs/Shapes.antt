@@ -134,7 +134,9 @@ unfolding readFields
 fields-bad none n i e = let z : _≡_ {A = ℕ} 0 1 = cc in absurd (omega arith)
 fields-bad (some j) n i e = cc
 
-pub read-bad-field : (s : Section) (g i : ℕ) (part : List ℕ) → readOf s g part ≡ BadField i → (shapeOk (firstRecord part) ≡ true) × (badField g (firstRecord part) ≡ some i)
+pub read-bad-field :
+    (s : Section) (g i : ℕ) (part : List ℕ) → readOf s g part ≡ BadField i
+    → (shapeOk (firstRecord part) ≡ true) × (badField g (firstRecord part) ≡ some i) × (kindIn s (getD (firstRecord part) 1 0) ≡ true)
 unfolding readOf
 read-bad-field s g i part e = go (shapeOk r && kindIn s (getD r 1 0)) refl e
   where
@@ -142,8 +144,8 @@ read-bad-field s g i part e = go (shapeOk r && kindIn s (getD r 1 0)) refl e
     r = firstRecord part
 
     go : (b : Bool) → (shapeOk r && kindIn s (getD r 1 0)) ≡ b → cond b (readFields (badField g r) (length r)) Malformed ≡ BadField i
-        → (shapeOk r ≡ true) × (badField g r ≡ some i)
-    go true h q = (both (shapeOk r) (kindIn s (getD r 1 0)) h .0, fields-bad (badField g r) (length r) i q)
+        → (shapeOk r ≡ true) × (badField g r ≡ some i) × (kindIn s (getD r 1 0) ≡ true)
+    go true h q = let a = both (shapeOk r) (kindIn s (getD r 1 0)) h in (a .0, fields-bad (badField g r) (length r) i q, a .1)
     go false h q = let z : _≡_ {A = ℕ} 0 1 = cc in absurd (omega arith)
 
 fields-formed : (f : Option ℕ) (n : ℕ) → readFields f n ≡ Malformed → ⊥

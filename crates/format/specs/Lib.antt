@@ -7,5 +7,6 @@ pub mod Give
 pub mod Answers
 pub mod Claims
 pub mod Longest
+pub mod Reach
 pub mod Sample
 pub mod Inner

@@ -19,12 +19,13 @@ use Rattle.format.specs.Policy.{recordAt, placeAfter, startOf, placeOf, endOf}
 use Rattle.format.specs.Check.{sectionFault, headerFault, bodyFault, check, Accepted}
 use Rattle.format.specs.Give.{giveFault, givenRecord}
 use Rattle.format.specs.Answers.{gives, outcome, starts, extent}
-use Rattle.format.proofs.Chain.{orElse-next, orElse-first, need-some}
-use Rattle.format.proofs.Records.{place-least}
-use Rattle.format.proofs.Accepted.{section-inside, record-stands, record-is, give-none, given-at}
+use Rattle.format.specs.Reach.{faultBefore, Reaches}
+use Rattle.format.proofs.Chain.{orElse-none, orElse-next, orElse-first, need-some}
+use Rattle.format.proofs.Reach.{places-bounded, accepted-bounded}
+use Rattle.format.proofs.Accepted.{section-inside, place-first, record-stands, record-is, give-none, given-at}
 use Rattle.image.specs.declared.checker.Walked.{Walked}
 use Rattle.image.specs.declared.checker.Walked.the-variants.{To, Stop}
-use Rattle.image.specs.Inner.Walk.{walkedTo, walkOf, endsOf, startIn, Hops}
+use Rattle.image.specs.Inner.Walk.{walkedTo, walkOf, Fits, endsOf, startIn, Hops}
 
 walked-to : (f : Option Refusal) (at e : ℕ) → walkedTo f at ≡ To e → (f ≡ none) × (at ≡ e)
 walked-to none at e q = (refl, cc)
@@ -43,13 +44,22 @@ module _ (l : List ℕ) (s : Section) (at n : ℕ) where
   unfolding walkOf
   walk-stops f q = walked-stop (sectionFault l s at n) (placeAfter l at n) f q
 
-  -- a walk ends within the image, and not before where it began
-  pub walk-inside : (e : ℕ) → 9 ≤ at → at ≤ length l → walkOf l s at n ≡ To e → (9 ≤ e) × (e ≤ length l)
-  walk-inside e low h q =
+  -- a walk ends within the image
+  pub walk-inside : (e : ℕ) → at ≤ length l → walkOf l s at n ≡ To e → e ≤ length l
+  walk-inside e h q =
       let p = walk-passes e q in
       let i = section-inside l s at n h (p .0) in
-      let g = place-least l at n in
-      (omega (arith, p .1), omega (arith, p .1))
+      omega (arith, p .1)
+
+  -- no place that a walk over a section reaches is above 55,561, where the header passes
+  section-fits : headerFault eqb l ≡ none → faultBefore l s ≡ none → at ≡ startOf l s → n ≡ countOf l s → Fits l s at n
+  unfolding placeOf
+  section-fits h f a c =
+      record {
+        place = λ k j e.
+            (let r : Reaches l s k = record { before = f; counted = omega arith; passed = rw a at e } in
+            rw a (places-bounded eqb l h s k r .whole));
+      }
 
 module _ (l : List ℕ) where
   abbrev groups-walk : Walked
@@ -60,6 +70,10 @@ module _ (l : List ℕ) where
 
   abbrev constraints-walk : ℕ → Walked
   constraints-walk at = walkOf l Constraints at (countOf l Constraints)
+
+  pub groups-fit : headerFault eqb l ≡ none → (n : ℕ) → n ≡ countOf l Groups → Fits l Groups 9 n
+  unfolding faultBefore startOf
+  groups-fit h n c = section-fits l Groups 9 n h refl refl c
 
   -- where a section stops, so does the body
   pub groups-stop : (f : Refusal) → groups-walk ≡ Stop f → bodyFault l ≡ some f
@@ -74,6 +88,10 @@ module _ (l : List ℕ) where
     groups-none : sectionFault l Groups 9 (countOf l Groups) ≡ none
     groups-none = walk-passes l Groups 9 (countOf l Groups) a e₁ .0
 
+    pub rules-fit : headerFault eqb l ≡ none → (n : ℕ) → n ≡ countOf l Rules → Fits l Rules a n
+    unfolding faultBefore startOf
+    rules-fit h n c = section-fits l Rules a n h groups-none (sym rules-at) c
+
     pub rules-stop : (f : Refusal) → rules-walk a ≡ Stop f → bodyFault l ≡ some f
     unfolding bodyFault startOf
     rules-stop f e = orElse-next _ groups-none ∙ orElse-first _ (walk-stops l Rules (startOf l Rules) (countOf l Rules) f (rw rules-at e))
@@ -85,6 +103,10 @@ module _ (l : List ℕ) where
       pub constraints-at : startOf l Constraints ≡ b
       unfolding startOf
       constraints-at = rules-pass .1
+
+      pub constraints-fit : headerFault eqb l ≡ none → (n : ℕ) → n ≡ countOf l Constraints → Fits l Constraints b n
+      unfolding faultBefore startOf
+      constraints-fit h n c = section-fits l Constraints b n h (orElse-none groups-none (rules-pass .0)) (sym constraints-at) c
 
       pub constraints-stop : (f : Refusal) → constraints-walk b ≡ Stop f → bodyFault l ≡ some f
       unfolding bodyFault startOf
@@ -124,6 +146,9 @@ module _ (l : List ℕ) where
   start-in Rules = refl
   start-in Constraints = refl
 
+  pub start-most : Accepted l → (s : Section) → startOf l s ≤ 55561
+  start-most e s = rw (place-first l s) at (accepted-bounded l e s 0 (omega arith) .whole)
+
   module _ (s : Section) (n : ℕ) where
     pub give-refused : (f : Refusal) → check l ≡ some f → giveFault l s n ≡ some f
     unfolding giveFault
@@ -149,6 +174,7 @@ hops l s n e h =
     record {
       byte = λ k j. place-byte l s k e (omega arith);
       inside = λ k j. let m : placeOf l s k < length l = place-byte l s k e (omega arith) in omega arith;
+      fits = λ k j. accepted-bounded l e s k (omega arith) .whole;
     }
 
 -- the bytes between a record's place and its end

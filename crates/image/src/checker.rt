@@ -1,5 +1,7 @@
 // The check of an image: one pass over its bytes.
 use crate::reader::read_record;
+use crate::word::narrow;
+use crate::word::wide_word;
 use crate::word::word_in;
 use format::Checked;
 use format::Read;
@@ -17,21 +19,23 @@ ghost use Rattle.format.specs.Answers.{outcome, refusalOf, sectionsOutcome, sta
 ghost use Rattle.image.specs.Survey.{Surveys};
 ghost use Rattle.image.specs.Inner.Walk.{walkOf, endsOf, Ahead, Walks, ChecksBody, Checks};
 ghost use Rattle.format.specs.Refusals.{refusal};
-ghost use mathlib.Core.Option.{some};
+ghost use mathlib.Core.Option.{none, some};
 
-// Where a walk over records ends: past the last, or at the first refusal.
+// The place of the first record, behind the header.
+const FIRST: u16 = 9;
+
+// Where a walk over records ends: past the last, or at the first refusal. A walk carries its place in 16 bits.
 pub(crate) enum Walked {
-    To(usize),
+    To(u16),
     Stop(Refusal),
 }
 
 // A place goes into slot k of a table, where it has that slot.
-fn note(places: &mut [u16], k: usize, at: usize)
-    requires { ⌜ at < 65536 ⌝ }
+fn note(places: &mut [u16], k: usize, at: u16)
     ensures { λ _. ⌜ now (places .exit) ≡ set (now (places .entry)) k at ⌝ }
 {
     if k < places.len() {
-        places[k] = at as u16;
+        places[k] = at;
     }
 }
 
@@ -42,29 +46,31 @@ fn walk(
     groups: usize,
     section: Section,
     count: usize,
-    from: usize,
+    from: u16,
     places: &mut [u16],
 ) -> Walked
-    requires { ⌜ Ahead (now image) groups from ⌝ }
+    requires { ⌜ Ahead (now image) section groups from count ⌝ }
     ensures { λ r. ⌜ Walks (now (image .entry)) section from count (now (places .entry)) r (now (places .exit)) ⌝ }
 {
     let mut at = from;
+    let mut part = &image[wide_word(from)..];
     for k in 0..count {
         note(places, k, at);
-        match read_record(&image[at..], section, groups) {
+        match read_record(part, section, groups) {
             Read::Whole(length) => {
-                at += length;
+                part = &part[length..];
+                at += narrow(length);
             }
             Read::Malformed => {
                 return Walked::Stop(Refusal {
                     number: 5,
-                    place: at,
+                    place: wide_word(at),
                 });
             }
             Read::BadField(i) => {
                 return Walked::Stop(Refusal {
                     number: 6,
-                    place: at + i,
+                    place: wide_word(at) + i,
                 });
             }
         }
@@ -73,8 +79,8 @@ fn walk(
 }
 
 // The same, and no place is noted.
-fn walk_on(image: &[u8], groups: usize, section: Section, count: usize, from: usize) -> Walked
-    requires { ⌜ Ahead (now image) groups from ⌝ }
+fn walk_on(image: &[u8], groups: usize, section: Section, count: usize, from: u16) -> Walked
+    requires { ⌜ Ahead (now image) section groups from count ⌝ }
     ensures { λ r. ⌜ r ≡ walkOf (now (image .entry)) section from count ⌝ }
 {
     let mut none = [0u16; 1];
@@ -117,25 +123,26 @@ fn check_header(image: &[u8]) -> Checked
 }
 
 // Refusal 7, for records that end at a place.
-fn check_end(image: &[u8], rules: usize, constraints: usize, end: usize) -> Sections
+fn check_end(image: &[u8], rules: u16, constraints: u16, end: u16) -> Sections
     ensures { λ r. ⌜ sectionsOutcome r ≡ endsOf (now (image .entry)) rules constraints end ⌝ }
 {
-    if end < image.len() {
-        return Sections::Refused(Refusal {
-            number: 7,
-            place: end,
-        });
+    let place = wide_word(end);
+    if place < image.len() {
+        return Sections::Refused(Refusal { number: 7, place });
     }
-    Sections::At(Starts { rules, constraints })
+    Sections::At(Starts {
+        rules: wide_word(rules),
+        constraints: wide_word(constraints),
+    })
 }
 
 // Refusals 5 to 7, and the groups' places.
 fn check_body(image: &[u8], places: &mut [u16]) -> Sections
-    requires { ⌜ (9 ≤ length (now image)) × (length (now image) < 65536) ⌝ }
+    requires { ⌜ headerFault eqb (now image) ≡ none ⌝ }
     ensures { λ r. ⌜ ChecksBody (now (image .entry)) (now (places .entry)) r (now (places .exit)) ⌝ }
 {
     let groups = word_in(image, header::GROUPS_AT);
-    match walk(image, groups, Section::Groups, groups, header::SIZE, places) {
+    match walk(image, groups, Section::Groups, groups, FIRST, places) {
         Walked::Stop(f) => Sections::Refused(f),
         Walked::To(rules) => match walk_on(
             image,

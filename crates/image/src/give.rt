@@ -1,6 +1,9 @@
 // Record n of a section.
 use crate::checker::layout;
+use crate::word::half;
+use crate::word::narrow;
 use crate::word::wide;
+use crate::word::wide_word;
 use crate::word::word_in;
 use format::Extent;
 use format::Found;
@@ -41,14 +44,17 @@ fn start_in(starts: Starts, section: Section) -> usize
     }
 }
 
-// The place past so many records, from a place on: from each length byte to the next.
-fn place_after(image: &[u8], from: usize, count: usize) -> usize
+// The place past so many records, from a place on: from each length byte to the next, in 16 bits.
+fn place_after(image: &[u8], from: u16, count: usize) -> u16
     requires { ⌜ Hops (now image) from count ⌝ }
     ensures { λ r. ⌜ r ≡ placeAfter (now (image .entry)) from count ⌝ }
 {
     let mut at = from;
+    let mut part = &image[wide_word(from)..];
     for k in 0..count {
-        at += wide(image[at]);
+        let length = part[0];
+        part = &part[wide(length)..];
+        at += half(length);
     }
     at
 }
@@ -66,7 +72,8 @@ pub fn find(image: &[u8], section: Section, n: usize) -> Found
                     place: 0,
                 });
             }
-            let place = place_after(image, start_in(starts, section), n);
+            let start = narrow(start_in(starts, section));
+            let place = wide_word(place_after(image, start, n));
             Found::At(Extent {
                 place,
                 length: wide(image[place]),

@@ -10,16 +10,24 @@ pub(crate) fn wide(x: u8) -> usize
     x as usize
 }
 
-fn half(x: u8) -> u16
+pub(crate) fn half(x: u8) -> u16
     ensures { λ r. ⌜ (r ≡ x) × (r < 256) ⌝ }
 {
     x as u16
 }
 
-fn wide_word(x: u16) -> usize
+pub(crate) fn wide_word(x: u16) -> usize
     ensures { λ r. ⌜ (r ≡ x) × (r < 65536) ⌝ }
 {
     x as usize
+}
+
+// A place in 16 bits, and no bit is lost.
+pub(crate) fn narrow(x: usize) -> u16
+    requires { ⌜ x < 65536 ⌝ }
+    ensures { λ r. ⌜ r ≡ x ⌝ }
+{
+    x as u16
 }
 
 // The 2-byte number at a place; a byte past the end counts as 0.

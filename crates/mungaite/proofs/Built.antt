@@ -10,7 +10,7 @@ use Rattle.format.specs.Check.{imageIn}
 use Rattle.format.specs.Answers.{Outcome, refused, gives}
 use Rattle.format.proofs.Front.{front-accepted}
 use Rattle.format.proofs.Accepted.{accepted-header}
-use Rattle.format.proofs.Images.{longest-image}
+use Rattle.format.proofs.Reach.{longest-image}
 use Rattle.text.specs.Build.{Made, built}
 use Rattle.text.proofs.Follow.{refused-short, refused-keeps}
 use Rattle.text.proofs.Accepted.{built-accepted, each-row-added, own-numbers}

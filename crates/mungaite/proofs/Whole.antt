@@ -9,7 +9,6 @@ use native.Mathlib.Omega.{arith}
 use lib.ListN.{length, getD}
 use Rattle.format.specs.declared.Section.{Section}
 use Rattle.format.specs.declared.Refusal.{Refusal}
-use Rattle.format.specs.Bytes.{Bytes}
 use Rattle.format.specs.Refusals.{refusal, _orElse_}
 use Rattle.format.specs.Policy.{recordAt, placeOf}
 use Rattle.format.specs.Check.{check}
@@ -19,7 +18,7 @@ use Rattle.format.proofs.Chain.{orElse-refuses}
 use Rattle.format.proofs.ByCase.{limit-most}
 use Rattle.format.proofs.Shapes.{shape-most}
 use Rattle.format.proofs.Accepted.{record-formed, record-is, give-split, given-at}
-use Rattle.format.proofs.Images.{longest-image}
+use Rattle.format.proofs.Reach.{longest-image}
 use Rattle.format.proofs.Bounds.{front-small, give-refused}
 use Rattle.extension.specs.Add.{sectionOf, newNumber, addFault}
 use Rattle.extension.proofs.Adds.{own-refused, add-refused, number-few}
@@ -42,12 +41,12 @@ outcome-fits P (some f) a h k = h f refl
 -- ---- the check
 
 pub check-whole : CheckWhole
-check-whole l b = fault-fits (check l) (check-fits l b)
+check-whole l b = fault-fits (check l) (check-fits l)
 
 -- ---- a record's place and length
 
-give-fits : (l : List ℕ) → Bytes l → (s : Section) (n : ℕ) (f : Refusal) → giveFault l s n ≡ some f → RefusalFits f
-give-fits l b s n f e = ⊎-elim (check-fits l b f) (λ z. known-fits 14 0 f (sym z) (omega arith) (omega arith)) (give-refused l s n f e)
+give-fits : (l : List ℕ) (s : Section) (n : ℕ) (f : Refusal) → giveFault l s n ≡ some f → RefusalFits f
+give-fits l s n f e = ⊎-elim (check-fits l f) (λ z. known-fits 14 0 f (sym z) (omega arith) (omega arith)) (give-refused l s n f e)
 
 extent-fits : (l : List ℕ) (s : Section) (n : ℕ) → giveFault l s n ≡ none → ExtentFits (extent l s n)
 extent-fits l s n e =
@@ -59,17 +58,17 @@ extent-fits l s n e =
 
 pub record-whole : RecordWhole
 record-whole l b = (
-  λ s n. outcome-fits ExtentFits (giveFault l s n) (extent l s n) (give-fits l b s n) (extent-fits l s n),
+  λ s n. outcome-fits ExtentFits (giveFault l s n) (extent l s n) (give-fits l s n) (extent-fits l s n),
   fault-fits (check l orElse some (refusal 14 0))
-      (orElse-refuses RefusalFits (check l) (some (refusal 14 0)) (check-fits l b)
+      (orElse-refuses RefusalFits (check l) (some (refusal 14 0)) (check-fits l)
       (λ _ f e. let z : refusal 14 0 ≡ f = cc in known-fits 14 0 f z (omega arith) (omega arith))),
 )
 
 -- ---- an added record's number
 
-add-fits : (b : List ℕ) → Bytes b → (r : List ℕ) (f : Refusal) → addFault b r ≡ some f → RefusalFits f
-add-fits b h r f e =
-    ⊎-elim (λ k. let q = front-small b h f k in (omega (arith, q .0), q .1))
+add-fits : (b r : List ℕ) (f : Refusal) → addFault b r ≡ some f → RefusalFits f
+add-fits b r f e =
+    ⊎-elim (λ k. let q = front-small b f k in (omega (arith, q .0), omega (arith, q .1)))
     (λ k. let q = own-refused b r f k in (omega (arith, q .1), omega (arith, q .2)))
     (add-refused b r f e)
 
@@ -77,13 +76,13 @@ number-fits : (b r : List ℕ) → addFault b r ≡ none → NumberFits (newNumb
 number-fits b r e = omega (arith, number-few b r e, limit-most (sectionOf (getD r 1 0)))
 
 pub add-whole : AddWhole
-add-whole b h r = outcome-fits NumberFits (addFault b r) (newNumber b r) (add-fits b h r) (number-fits b r)
+add-whole b h r = outcome-fits NumberFits (addFault b r) (newNumber b r) (add-fits b r) (number-fits b r)
 
 -- ---- what a run comes to
 
-run-fits : (l : List ℕ) → Bytes l → (n m : ℕ) (f : Refusal) → numbersFault l n m ≡ some f → RefusalFits f
-run-fits l b n m f e =
-    ⊎-elim (check-fits l b f)
+run-fits : (l : List ℕ) (n m : ℕ) (f : Refusal) → numbersFault l n m ≡ some f → RefusalFits f
+run-fits l n m f e =
+    ⊎-elim (check-fits l f)
     (⊎-elim (λ z. known-fits 16 0 f (sym z) (omega arith) (omega arith)) (λ z. known-fits 17 0 f (sym z) (omega arith) (omega arith)))
     (numbers-named l n m f e)
 
@@ -97,4 +96,4 @@ row-fits l ns m e = go (firstUnfit l (rowsOf ns)) refl
 pub run-whole : RunWhole
 run-whole l b ns m =
     subst (OutcomeFits RowFits) (sym (numbers-run-is l ns m))
-    (outcome-fits RowFits (numbersFault l (length ns) m) (firstUnfit l (rowsOf ns)) (run-fits l b (length ns) m) (row-fits l ns m))
+    (outcome-fits RowFits (numbersFault l (length ns) m) (firstUnfit l (rowsOf ns)) (run-fits l (length ns) m) (row-fits l ns m))

@@ -13,7 +13,8 @@ use Rattle.format.specs.Bytes.{Bytes, wordAt}
 use Rattle.format.specs.Format.{limitOf, countOf}
 use Rattle.format.specs.Policy.{Policy, imageOf}
 use Rattle.format.proofs.Shapes.{Formed}
-use Rattle.format.proofs.Images.{Sound, image-accepted, longest-image}
+use Rattle.format.proofs.Reach.{longest-image}
+use Rattle.format.proofs.Images.{Sound, image-accepted}
 use Rattle.extension.specs.Add.{sectionOf, withRecord, addFault}
 use Rattle.extension.proofs.Adds.{with-length, passes-own}
 use Rattle.extension.proofs.Causes.{short-formed, not-short}

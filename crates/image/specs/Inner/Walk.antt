@@ -2,11 +2,12 @@
 --     walkOf l s at n      n records of a section from a place on: the place past them, or the first refusal
 --     notedFrom l s at k n ps   a table of places after that walk: record i of those that it comes to goes to slot k + i
 --     noted l ps           the same of an image's groups
---     Ahead l g at         an image with g groups, and a place where a walk may begin
+--     Fits l s at n        each place that a walk over n records of a section reaches, from a place on, is at most 55,561
+--     Ahead l s g at n     an image with g groups, and a place where a walk over n records of a section may begin
 --     Walks, ChecksBody, Checks   what a walk, the check of the body and the whole check answer, and the table before and after
 --     endsOf l r c e       refusal 7, for records that end at e
 --     startIn y s          where a section starts
---     Hops l at n          the first n length bytes from a place on lie in the image, and so do the records
+--     Hops l at n          the first n length bytes from a place on lie in the image, and so do the records, up to 55,561 at most
 use Prim.Native.Nat.{ℕ, zero, suc, _+_, _≤_, _<_}
 use mathlib.Core.Path.{_≡_}
 use mathlib.Core.Option.{Option, none, some}
@@ -24,6 +25,7 @@ use Rattle.format.specs.Refusals.{refusal, need, unlessRefused}
 use Rattle.format.specs.Answers.{Outcome, outcome, sectionsOutcome, starts}
 use Rattle.format.specs.Format.{headerLength, countOf}
 use Rattle.format.specs.Policy.{placeAfter}
+use Rattle.format.specs.Longest.{longestLength}
 use Rattle.format.specs.Check.{readOf, readFault, sectionFault, headerFault, bodyFault, check}
 
 abbrev pub walkedTo : Option Refusal → ℕ → Walked
@@ -43,11 +45,13 @@ notedFrom l s at k (suc n) ps =
 abbrev pub noted : List ℕ → List ℕ → List ℕ
 noted l ps = notedFrom l Groups headerLength 0 (countOf l Groups) ps
 
-pub record Ahead (l : List ℕ) (g at : ℕ) : Type 0 where
+pub record Fits (l : List ℕ) (s : Section) (at n : ℕ) : Type 0 where
+  pub place : (k : ℕ) → k ≤ n → sectionFault l s at k ≡ none → placeAfter l at k ≤ longestLength
+
+pub record Ahead (l : List ℕ) (s : Section) (g at n : ℕ) : Type 0 where
   pub groups : g ≡ countOf l Groups
-  pub low : headerLength ≤ at
   pub inside : at ≤ length l
-  pub short : length l < 65536
+  pub fits : Fits l s at n
 
 pub record Walks (l : List ℕ) (s : Section) (at n : ℕ) (before : List ℕ) (r : Walked) (after : List ℕ) : Type 0 where
   pub comes : r ≡ walkOf l s at n
@@ -72,3 +76,4 @@ startIn y Constraints = y .constraints
 pub record Hops (l : List ℕ) (at n : ℕ) : Type 0 where
   pub byte : (k : ℕ) → k < n → placeAfter l at k < length l
   pub inside : (k : ℕ) → k ≤ n → placeAfter l at k ≤ length l
+  pub fits : (k : ℕ) → k ≤ n → placeAfter l at k ≤ longestLength

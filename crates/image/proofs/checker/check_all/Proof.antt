@@ -1,18 +1,11 @@
 -- `check_all` meets its contract: the header is checked before the body, and a bad header leaves the table. Assumes nothing.
-use native.Mathlib.Omega.{arith}
-use Prim.Native.Nat.{_<_}
 use mathlib.Core.Path.{_≡_, sym, ap, _∙_}
 use mathlib.Core.Option.{none}
 use denote.Ref.{now}
-use lib.ListN.{length}
 use lib.Dec.{eqb}
-use borrow.Author.Tests.{eqb-true}
-use Rattle.format.specs.Bytes.{wordAt}
 use Rattle.format.specs.Check.{headerFault}
 use Rattle.format.specs.Answers.{refusalOf, outcome, starts}
-use Rattle.format.proofs.Bytes.{word-small}
 use Rattle.format.proofs.Chain.{unless-accepted, unless-refused}
-use Rattle.format.proofs.Accepted.{header-holds}
 use Rattle.image.proofs.BodyLaws.{header-stops, header-passes}
 use borrow.Author.Needs.{needs}
 use Rattle.image.proofs.checker.check_all.Statement.{statement}
@@ -21,14 +14,8 @@ use Rattle.image.proofs.checker.check_all.Tie as tie
 passed : (d : tie.After-enum-told) → headerFault eqb (now (d .before .before .before .before .before .args .image)) ≡ none
 passed d = sym (d .before .before .check-header .ensures) ∙ ap refusalOf (d .enum-told .given .1)
 
--- the length is that of the field, which has 16 bits
-short : (d : tie.After-enum-told) → length (now (d .before .before .before .before .before .args .image)) < 65536
-short d =
-    let l = now (d .before .before .before .before .before .args .image) in
-    omega (arith, eqb-true (wordAt l 1) (length l) (header-holds eqb _ (passed d) .fit), word-small l (λ i. omega (arith, d .before .before .before .before .shared-slice-known .given i)) 1)
-
 check-body-requires : tie.Need-check-body-requires
-check-body-requires c κs = (header-holds eqb _ (passed (c .before)) .long, short (c .before))
+check-body-requires c κs = passed (c .before)
 
 returns : tie.Need-returns
 returns c =

@@ -1,14 +1,18 @@
 -- `check_body` meets its contract: where a section stops, the body does, and else the end decides. Assumes nothing.
 use native.Mathlib.Omega.{arith}
+use Prim.Native.Nat.{_≤_}
 use mathlib.Core.Path.{_≡_, sym, ap, _∙_}
 use denote.Ref.{now}
+use lib.ListN.{length}
+use lib.Dec.{eqb}
 use Rattle.format.specs.declared.Section.the-variants.{Groups, Rules, Constraints}
 use Rattle.format.specs.Format.{countOf}
+use Rattle.format.proofs.Accepted.{header-holds}
 use Rattle.format.proofs.ByCase.{count-groups, count-rules, count-constraints}
 use Rattle.image.specs.declared.checker.Walked.{Walked}
 use Rattle.image.specs.declared.checker.Walked.the-variants.{To}
 use Rattle.image.specs.Inner.Walk.{walkOf, notedFrom, noted}
-use Rattle.image.proofs.BodyLaws.{walk-inside, groups-stop, rules-stop, constraints-stop, body-ends}
+use Rattle.image.proofs.BodyLaws.{walk-inside, groups-fit, rules-fit, constraints-fit, groups-stop, rules-stop, constraints-stop, body-ends}
 use borrow.Author.Needs.{needs}
 use Rattle.image.proofs.checker.check_body.Statement.{statement}
 use Rattle.image.proofs.checker.check_body.Tie as tie
@@ -46,21 +50,35 @@ groups-to d = first (d .before .before .before .before) _ (d .rules .given .1)
 rules-to : (d : tie.After-constraints) → walkOf (now (d .before .before .before .before .before .before .before .before .before .before .before .before .before .before .args .image)) Rules (d .before .before .before .before .before .rules .given .0 .0) (countOf (now (d .before .before .before .before .before .before .before .before .before .before .before .before .before .before .args .image)) Rules) ≡ To (d .constraints .given .0 .0)
 rules-to d = second (d .before .before) _ (d .constraints .given .1)
 
+-- the header's own length, and what is told of an image whose header passes
+long : (d : tie.Start) → 9 ≤ length (now (d .args .image))
+long d = header-holds eqb _ (d .pre) .long
+
 walk-requires : tie.Need-walk-requires
-walk-requires c κs = let p = c .before .before .before .before .pre in record { groups = counted (c .before); low = omega arith; inside = p .0; short = p .1 }
+walk-requires c κs =
+    let d = c .before .before .before .before in
+    record { groups = counted (c .before); inside = long d; fits = groups-fit _ (d .pre) _ (counted (c .before)) }
 
 walk-on-requires : tie.Need-walk-on-requires
 walk-on-requires c κs =
-    let p = c .before .before .before .before .before .before .before .before .before .before .before .pre in
-    let i = walk-inside _ _ _ _ _ (omega arith) (p .0) (groups-to (c .before .before)) in
-    record { groups = counted (c .before .before .before .before .before .before .before .before); low = i .0; inside = i .1; short = p .1 }
+    let d = c .before .before .before .before .before .before .before .before .before .before .before in
+    let e = groups-to (c .before .before) in
+    record {
+      groups = counted (c .before .before .before .before .before .before .before .before);
+      inside = walk-inside _ _ _ _ _ (long d) e;
+      fits = rules-fit _ _ e (d .pre) _ (c .word-in2 .ensures .0 ∙ sym (count-rules _));
+    }
 
 walk-on-requires-2 : tie.Need-walk-on-requires-2
 walk-on-requires-2 c κs =
-    let p = c .before .before .before .before .before .before .before .before .before .before .before .before .before .before .before .before .pre in
-    let i = walk-inside _ _ _ _ _ (omega arith) (p .0) (groups-to (c .before .before .before .before .before .before .before)) in
-    let j = walk-inside _ _ _ _ _ (i .0) (i .1) (rules-to (c .before .before)) in
-    record { groups = counted (c .before .before .before .before .before .before .before .before .before .before .before .before .before); low = j .0; inside = j .1; short = p .1 }
+    let d = c .before .before .before .before .before .before .before .before .before .before .before .before .before .before .before .before in
+    let e = groups-to (c .before .before .before .before .before .before .before) in
+    let f = rules-to (c .before .before) in
+    record {
+      groups = counted (c .before .before .before .before .before .before .before .before .before .before .before .before .before);
+      inside = walk-inside _ _ _ _ _ (walk-inside _ _ _ _ _ (long d) e) f;
+      fits = constraints-fit _ _ e _ f (d .pre) _ (c .word-in3 .ensures .0 ∙ sym (count-constraints _));
+    }
 
 returns : tie.Need-returns
 returns c = let d = c .before .before .before .before .before in record { sections = rw (groups-stop _ _ (first d _ (c .before .f .given .1))); table = table d }
@@ -90,15 +108,15 @@ pub check-body-spec : {M : Type 1} → statement M
 check-body-spec =
     tie.close
     (tie.spec
-    (λ c κs. search needs)
+    (λ c κs. omega (arith, long (c .before .before)))
     walk-requires
     (λ c. search needs)
     (λ c. search needs)
-    (λ c κs. search needs)
+    (λ c κs. omega (arith, long (c .before .before .before .before .before .before .before .before .before .before)))
     walk-on-requires
     (λ c. search needs)
     (λ c. search needs)
-    (λ c κs. search needs)
+    (λ c κs. omega (arith, long (c .before .before .before .before .before .before .before .before .before .before .before .before .before .before .before)))
     walk-on-requires-2
     (λ c. search needs)
     (λ c. search needs)

@@ -2,6 +2,7 @@
 use native.Mathlib.Omega.{arith}
 use denote.Ref.{now}
 use lib.ListN.{length}
+use borrow.Author.Needs.{needs}
 use borrow.Author.Tests.{le-leb, lt-leb}
 use Rattle.format.specs.Refusals.{need}
 use Rattle.image.specs.Inner.Walk.{endsOf}
@@ -10,11 +11,14 @@ use Rattle.image.proofs.checker.check_end.Tie as tie
 
 returns : tie.Need-returns
 unfolding endsOf need
-returns c = simp (lt-leb (length (now (c .before .args .image))) (c .before .args .end) (omega arith))
+returns c = rw (c .before .wide-word .ensures .0) (simp (lt-leb (length (now (c .before .before .before .args .image))) (c .before .before .before .args .end) (omega (arith, c .before .wide-word .ensures .0))))
 
 returns-2 : tie.Need-returns-2
 unfolding endsOf need
-returns-2 c = simp (le-leb (length (now (c .before .args .image))) (c .before .args .end) (omega arith))
+returns-2 c =
+    let a = c .before .before .before .before .before .args in
+    rw (c .before .wide-word2 .ensures .0, c .wide-word3 .ensures .0)
+    (simp (le-leb (length (now (a .image))) (a .end) (omega (arith, c .before .before .before .wide-word .ensures .0))))
 
 pub check-end-spec : {M : Type 1} → statement M
-check-end-spec = tie.close (tie.spec returns returns-2)
+check-end-spec = tie.close (tie.spec (λ c κs. search needs) returns (λ c κs. search needs) (λ c κs. search needs) returns-2)

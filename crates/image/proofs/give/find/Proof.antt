@@ -10,7 +10,7 @@ use Rattle.format.specs.Answers.{sectionsOutcome, starts}
 use Rattle.format.proofs.Chain.{outcome-gives, outcome-refused}
 use Rattle.format.proofs.Accepted.{accepted-header}
 use Rattle.image.specs.Inner.Walk.{startIn}
-use Rattle.image.proofs.BodyLaws.{start-in, give-refused, give-past, place-byte, extent-is, hops}
+use Rattle.image.proofs.BodyLaws.{start-in, start-most, give-refused, give-past, place-byte, extent-is, hops}
 use borrow.Author.Needs.{needs}
 use Rattle.image.proofs.give.find.Statement.{statement}
 use Rattle.image.proofs.give.find.Tie as tie
@@ -24,31 +24,41 @@ counted d = omega (arith, d .before .count-in .ensures)
 
 started : (d : tie.After-start-in) → d .start-in .result ≡ startOf (now (d .before .before .before .before .before .before .before .before .args .image)) (d .before .before .before .before .before .before .before .before .args .section)
 started d =
-    d .start-in .ensures
-    ∙ ap (λ y. startIn y (d .before .before .before .before .before .before .before .before .args .section)) (accepted (d .before .before .before .before) .1)
-    ∙ start-in (now (d .before .before .before .before .before .before .before .before .args .image)) (d .before .before .before .before .before .before .before .before .args .section)
+    let a = d .before .before .before .before .before .before .before .before .args in
+    d .start-in .ensures ∙ ap (λ y. startIn y (a .section)) (accepted (d .before .before .before .before) .1) ∙ start-in (now (a .image)) (a .section)
 
-placed : (d : tie.After-place-after) → d .place-after .result ≡ placeOf (now (d .before .before .before .before .before .before .before .before .before .args .image)) (d .before .before .before .before .before .before .before .before .before .args .section) (d .before .before .before .before .before .before .before .before .before .args .n)
+-- in 16 bits too
+narrowed : (d : tie.After-narrow) → d .narrow .result ≡ startOf (now (d .before .before .before .before .before .before .before .before .before .args .image)) (d .before .before .before .before .before .before .before .before .before .args .section)
+narrowed d = d .narrow .ensures ∙ started (d .before)
+
+placed : (d : tie.After-wide-word) → d .wide-word .result ≡ placeOf (now (d .before .before .before .before .before .before .before .before .before .before .before .args .image)) (d .before .before .before .before .before .before .before .before .before .before .before .args .section) (d .before .before .before .before .before .before .before .before .before .before .before .args .n)
 unfolding placeOf
-placed d = d .place-after .ensures ∙ ap (λ at. placeAfter (now (d .before .before .before .before .before .before .before .before .before .args .image)) at (d .before .before .before .before .before .before .before .before .before .args .n)) (started (d .before))
+placed d =
+    let a = d .before .before .before .before .before .before .before .before .before .before .before .args in
+    d .wide-word .ensures .0 ∙ d .before .place-after .ensures ∙ ap (λ at. placeAfter (now (a .image)) at (a .n)) (narrowed (d .before .before))
 
 count-in-requires : tie.Need-count-in-requires
 count-in-requires c κs = accepted-header _ (accepted (c .before) .0) .long
 
 returns : tie.Need-returns
-returns c = rw (give-past (now (c .before .before .before .before .before .before .before .args .image)) (c .before .before .before .before .before .before .before .args .section) (c .before .before .before .before .before .before .before .args .n) (accepted (c .before .before .before) .0) (omega (arith, c .before .count-in .ensures)))
+returns c =
+    let a = c .before .before .before .before .before .before .before .args in
+    rw (give-past (now (a .image)) (a .section) (a .n) (accepted (c .before .before .before) .0) (omega (arith, c .before .count-in .ensures)))
+
+narrow-requires : tie.Need-narrow-requires
+narrow-requires c κs = omega (arith, started c, start-most _ (accepted (c .before .before .before .before) .0) (c .before .before .before .before .before .before .before .before .args .section))
 
 place-after-requires : tie.Need-place-after-requires
-place-after-requires c κs = rw (started c) (hops _ _ _ (accepted (c .before .before .before .before) .0) (counted (c .before)))
+place-after-requires c κs = rw (narrowed c) (hops _ _ _ (accepted (c .before .before .before .before .before) .0) (counted (c .before .before)))
 
-shared-slice-read-wide : tie.Need-shared-slice-read-wide
-shared-slice-read-wide c = rw (placed (c .before)) (place-byte _ _ _ (accepted (c .before .before .before .before .before .before) .0) (counted (c .before .before .before)))
+byte-inside : tie.Need-shared-slice-read-wide
+byte-inside c = rw (placed (c .before)) (place-byte _ _ _ (accepted (c .before .before .before .before .before .before .before .before) .0) (counted (c .before .before .before .before .before)))
 
 returns-2 : tie.Need-returns-2
 returns-2 c = rw (give-refused _ (c .before .before .before .before .before .args .section) (c .before .before .before .before .before .args .n) _ (outcome-refused _ _ (sym (ap sectionsOutcome (c .before .f .given .1)) ∙ c .before .before .before .layout .ensures)))
 
 returns-3 : tie.Need-returns-3
-returns-3 c = extent-is _ _ _ (accepted (c .before .before .before .before .before .before .before) .0) (counted (c .before .before .before .before)) _ _ (placed (c .before .before)) (c .wide .ensures .0)
+returns-3 c = extent-is _ _ _ (accepted (c .before .before .before .before .before .before .before .before .before) .0) (counted (c .before .before .before .before .before .before)) _ _ (placed (c .before .before)) (c .wide .ensures .0)
 
 pub find-spec : {M : Type 1} → statement M
 find-spec =
@@ -60,8 +70,10 @@ find-spec =
     count-in-requires
     returns
     (λ c κs. search needs)
+    narrow-requires
     place-after-requires
-    shared-slice-read-wide
+    (λ c κs. search needs)
+    byte-inside
     (λ c κs. search needs)
     returns-2
     returns-3)

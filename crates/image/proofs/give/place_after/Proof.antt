@@ -1,51 +1,90 @@
--- `place_after` meets its contract: it has come past k records. Assumes nothing.
+-- `place_after` meets its contract: it has come past k records, to a place that fits, and the part starts there. Assumes nothing.
 use native.Mathlib.Omega.{arith}
 use Prim.Native.Nat.{_+_, _-_, _≤_}
 use mathlib.Core.Path.{_≡_, refl, sym, ap, _∙_}
 use native.Mathlib.Numerals.{add-one}
-use lib.ListN.{getD}
 use denote.Ref.{now}
+use lib.ListN.{length, getD, drop}
 use Rattle.format.specs.Policy.{placeAfter}
 use Rattle.format.proofs.Records.{place-snoc}
+use Rattle.image.proofs.WalkLaws.{part-from, part-length, part-first, part-next}
 use borrow.Author.Needs.{needs}
 use Rattle.image.proofs.give.place_after.Statement.{statement}
 use Rattle.image.proofs.give.place_after.Tie as tie
 
 abbrev Inv-loop : tie.InvT-loop
-Inv-loop image from count at₀ k₀ at k = (k ≤ count) × (at ≡ placeAfter image from k)
+Inv-loop image from count at₀ part₀ k₀ at part k = (k ≤ count) × (at ≡ placeAfter image from k) × (part ≡ drop at image)
 
 abbrev μ-loop : tie.MeasureT-loop
-μ-loop image from count at₀ k₀ at k = count - k
+μ-loop image from count at₀ part₀ k₀ at part k = count - k
+
+-- a turn, its arguments, and what they ask
+abbrev turn : tie.After-shared-slice-known2 Inv-loop μ-loop → tie.At-loop Inv-loop μ-loop
+turn d = d .before .before
+
+abbrev start : tie.At-loop Inv-loop μ-loop → tie.Start Inv-loop μ-loop
+start t = t .before .before .before .before
+
+-- the length byte, in 64 bits and in 16
+size : (d : tie.After-wide Inv-loop μ-loop) → d .wide .result ≡ getD (now (start (turn (d .before)) .args .image)) (turn (d .before) .loop .at) 0
+size d = let t = turn (d .before) in d .wide .ensures .0 ∙ part-first (now (start t .args .image)) _ (t .loop .at) (t .loop .inv .2)
+
+same : (d : tie.After-half Inv-loop μ-loop) → d .half .result ≡ d .before .before .wide .result
+same d = d .half .ensures .0 ∙ sym (d .before .before .wide .ensures .0)
 
 -- the next place
 next :
     (d : tie.After-wide Inv-loop μ-loop)
-    → d .before .before .before .loop .at + d .wide .result
-    ≡ placeAfter (now (d .before .before .before .before .before .args .image)) (d .before .before .before .before .before .args .from) (d .before .before .before .loop .k + 1)
+    → turn (d .before) .loop .at + d .wide .result
+    ≡ placeAfter (now (start (turn (d .before)) .args .image)) (start (turn (d .before)) .args .from) (turn (d .before) .loop .k + 1)
 next d =
-    let l = now (d .before .before .before .before .before .args .image) in
-    let from = d .before .before .before .before .before .args .from in
-    let k = d .before .before .before .loop .k in
-    ap (λ b. d .before .before .before .loop .at + b) (d .wide .ensures .0)
-    ∙ ap (λ at. at + getD l at 0) (d .before .before .before .loop .inv .1)
-    ∙ sym (place-snoc l from k)
-    ∙ ap (placeAfter l from) (sym (add-one k))
+    let t = turn (d .before) in
+    let l = now (start t .args .image) in
+    let from = start t .args .from in
+    ap (λ b. t .loop .at + b) (size d)
+    ∙ ap (λ at. at + getD l at 0) (t .loop .inv .1)
+    ∙ sym (place-snoc l from (t .loop .k))
+    ∙ ap (placeAfter l from) (sym (add-one (t .loop .k)))
+
+from-inside : (d : tie.After-wide-word Inv-loop μ-loop) → d .wide-word .result ≤ length (now (d .before .before .args .image))
+unfolding placeAfter
+from-inside d = omega (arith, d .wide-word .ensures .0, d .before .before .pre .inside 0 (omega arith))
 
 loop-holds : tie.Need-loop-holds Inv-loop μ-loop
 unfolding placeAfter
-loop-holds c = (omega arith, refl)
+loop-holds c =
+    let l = now (c .before .before .before .args .image) in
+    (omega arith, refl, part-from l _ ∙ ap (λ at. drop at l) (c .before .wide-word .ensures .0))
 
-shared-slice-read-wide : tie.Need-shared-slice-read-wide Inv-loop μ-loop
-shared-slice-read-wide c = omega (arith, c .before .before .loop .inv .1, c .before .before .before .before .pre .byte (c .before .before .loop .k) (omega arith))
+byte-inside : tie.Need-shared-slice-read-length Inv-loop μ-loop
+byte-inside c =
+    let t = turn c .loop in
+    omega (arith, part-length (now (start (turn c) .args .image)) _ (t .at) (t .inv .2), t .inv .1, start (turn c) .pre .byte (t .k) (omega arith))
+
+record-inside : tie.Need-sub-part-2 Inv-loop μ-loop
+record-inside c =
+    let t = turn (c .before) in
+    omega (arith, part-length (now (start t .args .image)) _ (t .loop .at) (t .loop .inv .2), next c, start t .pre .inside (t .loop .k + 1) (omega arith))
 
 add-at : tie.Need-add-at Inv-loop μ-loop
-add-at c = omega (arith, next c, c .before .before .before .before .before .pre .inside (c .before .before .before .loop .k + 1) (omega arith))
+add-at c =
+    let t = turn (c .before .before .before) in
+    omega (arith, same c, next (c .before .before), start t .pre .fits (t .loop .k + 1) (omega arith))
 
 loop-again : tie.Need-loop-again Inv-loop μ-loop
-loop-again c = (omega arith, next c)
+loop-again c =
+    let t = turn (c .before .before .before) in
+    (
+      omega arith,
+      ap (λ b. t .loop .at + b) (same c) ∙ next (c .before .before),
+      part-next (now (start t .args .image)) _ (t .loop .at) _ (t .loop .inv .2) ∙ ap (λ b. drop (t .loop .at + b) (now (start t .args .image))) (sym (same c)),
+    )
 
 returns : tie.Need-returns Inv-loop μ-loop
-returns c = let e : c .before .loop .k ≡ c .before .before .before .args .count = omega arith in c .before .loop .inv .1 ∙ ap (placeAfter (now (c .before .before .before .args .image)) (c .before .before .before .args .from)) e
+returns c =
+    let a = start (c .before) .args in
+    let e : c .before .loop .k ≡ a .count = omega arith in
+    c .before .loop .inv .1 ∙ ap (placeAfter (now (a .image)) (a .from)) e
 
 pub place-after-spec : {M : Type 1} → statement M
 place-after-spec =
@@ -53,8 +92,16 @@ place-after-spec =
     (tie.spec
     Inv-loop
     μ-loop
+    (λ c κs. search needs)
+    from-inside
+    from-inside
+    (λ c. omega arith)
     loop-holds
-    shared-slice-read-wide
+    byte-inside
+    (λ c κs. search needs)
+    record-inside
+    record-inside
+    (λ c. omega arith)
     (λ c κs. search needs)
     add-at
     (λ c. omega arith)
