@@ -5,6 +5,7 @@ mod contest;
 mod measure;
 mod ours;
 mod program;
+mod records;
 mod rows;
 mod table;
 mod texts;
@@ -53,6 +54,7 @@ fn main() {
     );
     table::print_decisions("Permitted queries: decide", &sizes::permitted(), effort);
     table::print_decisions("UnKnown queries: decide", &sizes::unknown(), effort);
+    records::print(&sizes, effort);
     rows::print(&sizes, effort);
     rows::print_held(&held, effort);
     texts::print(&cases::texts::all(), effort);

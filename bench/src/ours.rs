@@ -1,8 +1,8 @@
 //! Mungaite's functions, as libmungaite.a exports them to C, by the raw declarations of the crate in `rust/`.
 //! None of them decides without a check, so `contest` takes the decision alone as a difference.
 
-use mungaite::raw::{mungaite_build, mungaite_check, mungaite_decide, mungaite_run};
-use mungaite::Query;
+use mungaite::raw::{mungaite_build, mungaite_check, mungaite_decide, mungaite_record, mungaite_run};
+use mungaite::{Query, Section};
 
 pub fn check(image: &[u8]) -> u64 {
     // SAFETY: the pointer and the length are those of one slice, only read.
@@ -13,6 +13,11 @@ pub fn decide(image: &[u8], query: Query) -> u64 {
     let Query { source, destination, class, action } = query;
     // SAFETY: the pointer and the length are those of one slice, only read.
     unsafe { mungaite_decide(source, destination, class, action, image.as_ptr(), image.len()) }
+}
+
+pub fn record(image: &[u8], section: Section, n: u16) -> u64 {
+    // SAFETY: the pointer and the length are those of one slice, only read.
+    unsafe { mungaite_record(section as u16, n, image.as_ptr(), image.len()) }
 }
 
 /// Rows of four numbers, and a slot for each.

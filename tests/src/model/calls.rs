@@ -29,7 +29,7 @@ impl Subject for Model {
         let record = records.of(section).get(n).ok_or(refusal(14, 0))?;
         let earlier = Section::ALL.into_iter().filter(|other| *other < section).flat_map(|other| records.of(other));
         let before: usize = earlier.chain(&records.of(section)[..n]).map(Vec::len).sum();
-        let place = 9 + before;
+        let place = if self.slips(Slip::RecordIn15Bits) { (9 + before) % 32_768 } else { 9 + before };
         Ok(place..place + record.len())
     }
 

@@ -86,6 +86,9 @@ impl Model {
                 }
                 records.push(section_of(record[1]).unwrap_or(section), record);
                 place += record.len();
+                if self.slips(Slip::CheckIn15Bits) {
+                    place %= 32_768;
+                }
             }
         }
         if place < image.len() && !self.slips(Slip::TrailingPasses) {

@@ -155,6 +155,7 @@ slips! { Slip
     FieldBeforeShape => "a rule's bad source comes before its wrong length",
     FieldsAfterSection => "a section's records are framed before a field of theirs is looked at",
     FieldsAfterRecords => "all records are framed before any field is looked at",
+    CheckIn15Bits => "the place that the check comes to has 15 bits",
     TrailingPasses => "bytes after the last record pass",
     LastTrailingNamed => "of the bytes after the last record the last is named",
     // Checking: fields.
@@ -185,6 +186,7 @@ slips! { Slip
     RecordBeforeImage => "a section without that record comes before the image's causes",
     RecordPastEnd => "the record number that equals the count gives the last record",
     RecordsFromOne => "records are numbered from 1",
+    RecordIn15Bits => "the place of the record that is given has 15 bits",
     AddedBeforeImage => "an added record's own causes come before the image's",
     LentLengthIgnored => "an added record may have bytes behind it",
     ImageToBufferEnd => "adding takes the whole buffer for the image",

@@ -69,6 +69,19 @@ pub const ROWS: &[Row] = &[
     ("a constraint of length 14", || constraints(&[vec![14, 4, 0, 1, 0, 2, 0, 3, 0, 4, 2, 0, 7, 0]]), no(5, 9)),
     ("a last constraint of length 255", || with(&SAMPLE, &[(69, 255)]), no(5, 69)),
     ("the longest image, one group fewer counted", || longest_with(3, &[0, 255]), no(5, 33_159)),
+    // How far a walk reaches: past the last of 256 groups of 130 bytes, 1,024 rules of 11 and 256 constraints of 43. Bytes
+    // may lie behind that up to 65,535, which the length field can say.
+    ("the longest image", || longest_and(0), Ok(())),
+    ("the longest image and a byte", || longest_and(1), no(7, 55_561)),
+    ("the longest image and bytes up to 65,535", || longest_and(9_974), no(7, 55_561)),
+    ("the longest image, its last constraint of length 45, and bytes", || with(&longest_and(9_974), &[(55_518, 45)]), no(5, 55_518)),
+    ("the longest image, its last constraint of length 255, and bytes", || with(&longest_and(9_974), &[(55_518, 255)]), no(5, 55_518)),
+    ("the longest image, its last rule of length 12", || with(&longest_and(0), &[(44_542, 12)]), no(5, 44_542)),
+    ("the longest image, its last rule a transition", || with(&longest_and(0), &[(44_542, 8), (44_543, 3)]), no(5, 44_550)),
+    ("the longest image, a bad source in its first rule", || with(&longest_and(0), &[(33_291, 4)]), no(6, 33_291)),
+    ("the longest image, its last constraint one type shorter", || with(&longest_and(0), &[(55_518, 41)]), no(7, 55_559)),
+    ("65,535 bytes, no record, and no count", || with(&vec![0; 65_535], &[(0, 1), (1, 255), (2, 255)]), no(7, 9)),
+    ("65,535 bytes of 255, each count at its limit", || [vec![1, 255, 255, 1, 0, 4, 0, 1, 0], vec![255; 65_526]].concat(), no(5, 9)),
     ("record length 0", || vec![1, 0, 11, 0, 1, 0, 0, 0, 0, 0, 1], no(5, 9)),
     ("a rule of length 12 and a bad source", || rules(&[vec![12, 2, 4, 0, 0, 2, 0, 3, 0, 4, 1, 0]]), no(5, 9)),
     ("a rule past the image and a bad source", || vec![1, 0, 19, 0, 0, 0, 1, 0, 0, 11, 2, 4, 0, 0, 2, 0, 3, 0, 4], no(5, 9)),
@@ -149,6 +162,15 @@ fn with(bytes: &[u8], changes: &[(usize, u8)]) -> Vec<u8> {
         bytes[place] = value;
     }
     bytes
+}
+
+/// The longest image and so many bytes behind it, with a length field that says so.
+fn longest_and(more: usize) -> Vec<u8> {
+    let mut image = longest_with(0, &[1]);
+    image.resize(55_561 + more, 0);
+    let length = image.len() as u16;
+    image[1..3].copy_from_slice(&length.to_be_bytes());
+    image
 }
 
 fn rising(count: u16) -> Vec<u16> {

@@ -1,5 +1,5 @@
 //! Document 01's worked cases with its answers, and further rows whose answers were worked out by hand from its clauses
-//! and from requests [1] to [3]. Both engines and the model must give them.
+//! and from requests [1] to [4]. Both engines and the model must give them.
 
 mod add;
 mod build;
@@ -55,6 +55,7 @@ pub const TESTS: &[Cases] = &[
     Cases { name: "worked/add", count: Count::Listed(add::ROWS.len() as u64), run: add::run },
     Cases { name: "worked/permit", count: Count::Listed(permit::ROWS.len() as u64), run: permit::run },
     Cases { name: "worked/permit-many", count: Count::Listed(1), run: permit::many },
+    Cases { name: "worked/record-longest", count: Count::Listed(record::LONGEST.len() as u64), run: record::longest },
 ];
 
 /// Texts, and what they build.

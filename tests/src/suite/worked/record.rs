@@ -1,5 +1,6 @@
 //! Records, by their places in the image.
 
+use super::permit::longest_with;
 use super::{both, no};
 use crate::compare::{equal, hex, Outcome, Pair};
 use crate::sample::{EMPTY, SAMPLE};
@@ -40,6 +41,23 @@ pub const ROWS: &[Row] = &[
 pub fn run(pair: &Pair, case: u64) -> Outcome {
     let (image, section, n, expected) = ROWS[case as usize].clone();
     both(pair, &format!("{section:?} {n} of {}", hex(image)), expected, |subject| subject.record(image, section, n))
+}
+
+/// The longest image: each section's first place, the length of its records, and how many they are.
+pub const LONGEST: &[(Section, usize, usize, u16)] =
+    &[(Section::Groups, 9, 130, 256), (Section::Rules, 33_289, 11, 1024), (Section::Constraints, 44_553, 43, 256)];
+
+/// Each of its records, and the number past the last.
+pub fn longest(pair: &Pair, case: u64) -> Outcome {
+    let image = longest_with(0, &[1]);
+    let (section, first, length, count) = LONGEST[case as usize];
+    for n in 0..=count {
+        let place = first + length * usize::from(n);
+        let expected = if n < count { Ok(place..place + length) } else { no(14, 0) };
+        let what = format!("{section:?} {n} of the longest image");
+        both(pair, &what, expected, |subject| subject.record(&image, section, n))?;
+    }
+    Ok(())
 }
 
 /// A section above 2 has no record: 14, after the image's own causes. Only the C function can be asked for one.
