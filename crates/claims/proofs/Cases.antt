@@ -8,7 +8,8 @@ use lib.ListN.{length, getD, take, drop, replicate}
 use lib.Dec.{eqb}
 use Rattle.format.specs.declared.Section.the-variants.{Rules, Constraints}
 use Rattle.format.specs.Bytes.{Bytes, wordAt, words}
-use Rattle.format.specs.Format.{knownVersion, limitOf, countPlace, countOf, kindIn, lengthOk, isType, isCondition, listOk, firstRecord, shapeOk}
+use Rattle.format.specs.Format.{knownVersion, limitOf, countPlace, countOf, kindIn, lengthOk, firstRecord, shapeOk}
+use Rattle.format.specs.Format.{isType, isCondition, listOk}
 use Rattle.format.specs.Format.{badMember, badType, badGroup, badAllow, badTransition, badConstraint, badField}
 use Rattle.format.specs.Policy.{placeAfter, startOf, placeOf, endOf}
 use Rattle.format.specs.Check.{readFields, readOf, readFault, sectionFault, countFault, headerFault, bodyFault, Accepted, imageIn}
@@ -159,8 +160,8 @@ pub record Refused : Type 0 where
   pub long-refused : bodyFault longSample ≡ some (refusal 7 80)
 
 pub refused-samples : Refused
-unfolding wordAt words need _orElse_ knownVersion limitOf countPlace countOf kindIn lengthOk isType isCondition listOk firstRecord shapeOk
-    badMember badType badGroup badAllow badTransition badConstraint badField placeAfter startOf placeOf endOf readFields readOf readFault
-    sectionFault countFault headerFault bodyFault sample
+unfolding wordAt words need _orElse_ knownVersion limitOf countPlace countOf kindIn lengthOk isType isCondition listOk
+    firstRecord shapeOk badMember badType badGroup badAllow badTransition badConstraint badField placeAfter startOf placeOf endOf
+    readFields readOf readFault sectionFault countFault headerFault bodyFault sample
 refused-samples =
     record { cut-header = refl; cut-refused = refl; bad-header = refl; bad-refused = refl; long-header = refl; long-refused = refl }

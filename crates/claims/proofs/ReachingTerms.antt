@@ -37,14 +37,16 @@ module _ (p : Promises) where
     bytes-behind e =
         let q = p .reaching .stops-reached eqb l h (refusal 7 at) e in
         ⊎-elim (λ z. apart 7 5 at _ z (λ n. omega arith))
-        (⊎-elim (λ z. (q .section, q .past, q .reached, ap (λ (f : Refusal). f .place) z)) (λ z. apart 7 6 at _ (z .1) (λ n. omega arith)))
+        (⊎-elim (λ z. (q .section, q .past, q .reached, ap (λ (f : Refusal). f .place) z))
+        (λ z. apart 7 6 at _ (z .1) (λ n. omega arith)))
         (q .place)
 
     bad-field : bodyFault l ≡ some (refusal 6 at) → (s : Section) × (k : ℕ) × (i : ℕ) × Reaches l s k × (at ≡ placeOf l s k + i)
     bad-field e =
         let q = p .reaching .stops-reached eqb l h (refusal 6 at) e in
         ⊎-elim (λ z. apart 6 5 at _ z (λ n. omega arith))
-        (⊎-elim (λ z. apart 6 7 at _ z (λ n. omega arith)) (λ z. (q .section, q .past, z .0, q .reached, ap (λ (f : Refusal). f .place) (z .1))))
+        (⊎-elim (λ z. apart 6 7 at _ z (λ n. omega arith))
+        (λ z. (q .section, q .past, z .0, q .reached, ap (λ (f : Refusal). f .place) (z .1))))
         (q .place)
 
   -- the furthest places, in numbers
@@ -54,7 +56,8 @@ module _ (p : Promises) where
   rule-places : (l : List ℕ) → headerFault eqb l ≡ none → (k : ℕ) → Reaches l Rules k → placeOf l Rules k ≤ 33289 + 11 * k
   rule-places l h k r = omega (arith, p .reaching .places-bounded eqb l h Rules k r .by-section, most-rules k)
 
-  constraint-places : (l : List ℕ) → headerFault eqb l ≡ none → (k : ℕ) → Reaches l Constraints k → placeOf l Constraints k ≤ 44553 + 43 * k
+  constraint-places :
+      (l : List ℕ) → headerFault eqb l ≡ none → (k : ℕ) → Reaches l Constraints k → placeOf l Constraints k ≤ 44553 + 43 * k
   constraint-places l h k r = omega (arith, p .reaching .places-bounded eqb l h Constraints k r .by-section, most-constraints k)
 
   pub reaching-met : ReachingMet

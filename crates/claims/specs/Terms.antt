@@ -11,8 +11,8 @@
 --     left text b         what a text leaves of the buffer b
 --     cutSample, longSample, badSample   the sample cut, with a byte behind it, with a condition that is none
 --     outsideBehind n     n line feeds and one more, and a row outside the form
---     ReadingMet, AddingMet, DecidingMet, OrderingMet, RunningMet, NearingMet, BuildingMet, ReachingMet, PrintingMet, CallingMet   by the
---                                parts of the statement
+--     ReadingMet, AddingMet, DecidingMet, OrderingMet, RunningMet, NearingMet, BuildingMet, ReachingMet, PrintingMet, CallingMet
+--                         by the parts of the statement
 use Prim.Native.Nat.{ℕ, suc, _+_, _*_, _/_, _%_, _<_, _≤_}
 use Prim.Native.String.{String}
 use mathlib.Core.Path.{_≡_}
@@ -541,10 +541,13 @@ pub record ReachingMet : Type 0 where
   -- PlacesBounded: every image whose header passes, and a buffer that goes on behind it, in numbers
   pub group-places : (l : List ℕ) → headerFault eqb l ≡ none → (k : ℕ) → Reaches l Groups k → placeOf l Groups k ≤ 9 + 130 * k
   pub rule-places : (l : List ℕ) → headerFault eqb l ≡ none → (k : ℕ) → Reaches l Rules k → placeOf l Rules k ≤ 33289 + 11 * k
-  pub constraint-places : (l : List ℕ) → headerFault eqb l ≡ none → (k : ℕ) → Reaches l Constraints k → placeOf l Constraints k ≤ 44553 + 43 * k
+  pub constraint-places :
+      (l : List ℕ) → headerFault eqb l ≡ none → (k : ℕ) → Reaches l Constraints k → placeOf l Constraints k ≤ 44553 + 43 * k
   pub buffer-places : (b : List ℕ) → headerFault leb b ≡ none → (s : Section) (k : ℕ) → Reaches b s k → placeOf b s k ≤ 55561
-  pub next-length : (l : List ℕ) → Bytes l → headerFault eqb l ≡ none → (s : Section) (k : ℕ) → Reaches l s k → placeOf l s k + getD l (placeOf l s k) 0 ≤ 55816
-  -- StopsReached: where each of 5, 6 and 7 stands, in every image, and of the sample cut, with a bad field, and with a byte behind it
+  pub next-length :
+      (l : List ℕ) → Bytes l → headerFault eqb l ≡ none → (s : Section) (k : ℕ) → Reaches l s k
+      → placeOf l s k + getD l (placeOf l s k) 0 ≤ 55816
+  -- StopsReached: where each of 5, 6 and 7 stands, in every image; the sample cut, with a bad field, with a byte behind it
   pub malformed :
       (l : List ℕ) → headerFault eqb l ≡ none → (p : ℕ) → bodyFault l ≡ some (refusal 5 p)
       → (s : Section) × (k : ℕ) × Reaches l s k × (p ≡ placeOf l s k)

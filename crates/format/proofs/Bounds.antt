@@ -1,6 +1,6 @@
 -- How large a refusal's number and place are, for the layers above, which never open the chain. Assumes nothing.
---     check-small          a refusal of the check: its number is at most 7, and its place at most 55,561; and front-small, of the image that
---                          a buffer starts with
+--     check-small          a refusal of the check: its number is at most 7, and its place at most 55,561
+--     front-small          the same of the image that a buffer starts with
 --     give-refused         a refusal of giving a record is one of these, or 14 with the place 0
 use Prim.Native.Nat.{ℕ, _≤_}
 use mathlib.Core.Path.{_≡_, refl, sym, subst, _∙_}
@@ -51,12 +51,14 @@ header-refused fits l =
 stop-number : (p : ℕ) (f : Refusal) → StopsAt p f → f .number ≤ 7
 stop-number p f =
     ⊎-elim (λ e. subst (λ f. f .number ≤ 7) (sym e) (omega arith))
-    (⊎-elim (λ e. subst (λ f. f .number ≤ 7) (sym e) (omega arith)) (λ e. subst (λ f. f .number ≤ 7) (sym (e .1)) (omega arith)))
+    (⊎-elim (λ e. subst (λ f. f .number ≤ 7) (sym e) (omega arith))
+    (λ e. subst (λ f. f .number ≤ 7) (sym (e .1)) (omega arith)))
 
 pub check-small : (l : List ℕ) (f : Refusal) → check l ≡ some f → Near 55561 f
 unfolding check
 check-small l =
-    orElse-refuses (Near 55561) (headerFault eqb l) (bodyFault l) (λ f e. let q = header-refused eqb l f e in (q .0, omega (arith, q .1)))
+    orElse-refuses (Near 55561) (headerFault eqb l) (bodyFault l)
+    (λ f e. let q = header-refused eqb l f e in (q .0, omega (arith, q .1)))
     (λ h f e. let q = stops-reached eqb l h f e in (stop-number _ f (q .place), q .whole))
 
 pub front-small : (b : List ℕ) (f : Refusal) → checkFront b ≡ some f → Near 55561 f

@@ -8,7 +8,7 @@ use lib.Dec.{eqb}
 use Rattle.format.specs.declared.Section.{Section}
 use Rattle.format.specs.declared.Section.the-variants.{Groups, Rules, Constraints}
 use Rattle.format.specs.Format.{limitOf, countOf}
-use Rattle.format.specs.Policy.{Policy, recordsOf, imageOf, placeAfter, startOf, placeOf, endOf}
+use Rattle.format.specs.Policy.{Policy, recordsOf, imageOf, placeAfter, startOf, placeOf}
 use Rattle.format.specs.Check.{Accepted}
 use Rattle.format.specs.Longest.{longGroups, longRule, longConstraint, longest}
 use Rattle.format.specs.Reach.{mostPlace, BoundReached}

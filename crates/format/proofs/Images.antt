@@ -5,27 +5,26 @@
 --     policy-of-image        the policy of a sound policy's image is that policy
 --     image-accepted         and that image is accepted
 --     policy-formed          each record of an accepted image's policy is formed
-use Prim.Native.Nat.{ℕ, suc, _+_, _*_, _≤_, _<_}
+use Prim.Native.Nat.{ℕ, suc, _+_, _≤_, _<_}
 use mathlib.Core.Path.{_≡_, refl, sym, subst, ap, _∙_}
 use mathlib.Core.Bool.{true}
 use mathlib.Core.Option.{none}
-use mathlib.Core.List.{List, [], _∷_, _++_, flatten, append-assoc, append-nil, List·Memᴰ, List·Memᴰ·head, List·Memᴰ·tail}
+use mathlib.Core.List.{List, [], _∷_, _++_, flatten, append-assoc, append-nil, List·Memᴰ}
 use native.Mathlib.Omega.{arith}
 use lib.ListN.{length, getD, drop, length-append, length-drop}
 use lib.Seq.{drop-cons, drop-length}
-use lib.Dec.{T, leb, ltb, eqb, ltb→lt}
-use borrow.Author.Tests.{eqb-true, leb-true, le-leb, eq-eqb}
+use lib.Dec.{T, ltb, eqb, ltb→lt}
+use borrow.Author.Tests.{eqb-true, le-leb, eq-eqb}
 use Rattle.format.specs.declared.Section.{Section}
 use Rattle.format.specs.declared.Section.the-variants.{Groups, Rules, Constraints}
 use Rattle.format.specs.Bytes.{Bytes, wordAt, putWord}
-use Rattle.format.specs.Format.{knownVersion, limitOf, countPlace, countOf, kindIn, firstRecord}
+use Rattle.format.specs.Format.{knownVersion, limitOf, countPlace, countOf, firstRecord}
 use Rattle.format.specs.Policy.{Policy, recordsOf, bodyOf, imageOf, recordAt, recordsAt, placeAfter, startOf, placeOf, endOf, policyOf}
 use Rattle.format.specs.Check.{sectionFault, headerFault, bodyFault, check, Accepted}
 use Rattle.format.specs.Claims.{WellFormed, AcceptedIsWellFormed, WellFormedIsAccepted}
-use Rattle.format.proofs.Tests.{both}
 use Rattle.format.proofs.Chain.{orElse-none, need-none}
 use Rattle.format.proofs.Bytes.{bytes-cons, bytes-append, bytes-drop, bytes-take, bytes-flatten, bytes-word, word-bytes, word-back}
-use Rattle.format.proofs.Shapes.{Formed, length-cases, shape-kind}
+use Rattle.format.proofs.Shapes.{Formed}
 use Rattle.format.proofs.Records.{records-mem, records-flatten, Runs, runs-records, runs-place, runs-fault, runs-flatten, Shaped}
 use Rattle.format.proofs.Fields.{formed-is, is-formed}
 use Rattle.format.proofs.Reach.{longest-image}

@@ -4,10 +4,10 @@
 --     stops-reached      a refusal of the records stands at a place that a walk reaches, or at a field of the record there
 --     accepted-reaches   a walk over an accepted image reaches every record, and the place past the last
 use Prim.Native.Nat.{ℕ, zero, suc, _+_, _*_, _≤_, _<_}
-use mathlib.Core.Path.{_≡_, refl, sym, subst, _∙_}
+use mathlib.Core.Path.{_≡_, refl, sym, subst}
 use mathlib.Core.Logic.{inl, inr}
 use mathlib.Core.Bool.{Bool, true}
-use mathlib.Core.Option.{none, some}
+use mathlib.Core.Option.{Option, none, some}
 use mathlib.Core.List.{List}
 use native.Mathlib.Omega.{arith}
 use lib.ListN.{length, getD, drop}
@@ -17,7 +17,7 @@ use Rattle.format.specs.declared.Section.the-variants.{Groups, Rules, Co
 use Rattle.format.specs.declared.Refusal.{Refusal}
 use Rattle.format.specs.declared.Read.{Read}
 use Rattle.format.specs.declared.Read.the-variants.{Whole, Malformed, BadField}
-use Rattle.format.specs.Refusals.{refusal, need}
+use Rattle.format.specs.Refusals.{refusal}
 use Rattle.format.specs.Format.{limitOf, countOf, kindIn, firstRecord, shapeOk}
 use Rattle.format.specs.Policy.{recordAt, placeAfter, startOf, placeOf, endOf}
 use Rattle.format.specs.Check.{readOf, readFault, sectionFault, headerFault, bodyFault, Accepted}
@@ -39,14 +39,16 @@ record-most : (s : Section) (r : List ℕ) → shapeOk r ≡ true → kindIn s (
 unfolding longestOf
 record-most Groups r h k =
     let e = groups-kind (getD r 1 0) k in
-    length-cases (getD r 1 0) (length r) (shape-kind r h) (λ _ _ h _. h) (λ j _. absurd (omega arith)) (λ j _. absurd (omega arith)) (λ j _ _ _. absurd (omega arith))
+    length-cases (getD r 1 0) (length r) (shape-kind r h)
+    (λ _ _ h _. h) (λ j _. absurd (omega arith)) (λ j _. absurd (omega arith)) (λ j _ _ _. absurd (omega arith))
 record-most Rules r h k =
     let e = rules-kind (getD r 1 0) k in
     length-cases (getD r 1 0) (length r) (shape-kind r h)
     (λ j _ _ _. absurd (omega (arith, e .0))) (λ _ h. omega arith) (λ _ h. omega arith) (λ j _ _ _. absurd (omega (arith, e .1)))
 record-most Constraints r h k =
     let e = constraints-kind (getD r 1 0) k in
-    length-cases (getD r 1 0) (length r) (shape-kind r h) (λ j _ _ _. absurd (omega arith)) (λ j _. absurd (omega arith)) (λ j _. absurd (omega arith)) (λ _ _ h _. h)
+    length-cases (getD r 1 0) (length r) (shape-kind r h)
+    (λ j _ _ _. absurd (omega arith)) (λ j _. absurd (omega arith)) (λ j _. absurd (omega arith)) (λ _ _ h _. h)
 
 -- records that are each at most so long
 place-most : (l : List ℕ) (at c n : ℕ) → ((k : ℕ) → k < n → getD l (placeAfter l at k) 0 ≤ c) → placeAfter l at n ≤ at + c * n
@@ -128,16 +130,20 @@ places-bounded fits l e s k r =
 
 -- ---- where it stops
 
+-- what is refused of the record at a place
+abbrev recordFault : List ℕ → Section → ℕ → Option Refusal
+recordFault l s at = readFault at (readOf s (countOf l Groups) (drop at l))
+
 -- a section's first refusal: the records before it have none
 section-stops :
     (l : List ℕ) (s : Section) (at n : ℕ) (f : Refusal) → sectionFault l s at n ≡ some f
-    → (k : ℕ) × (k < n) × (sectionFault l s at k ≡ none) × (readFault (placeAfter l at k) (readOf s (countOf l Groups) (drop (placeAfter l at k) l)) ≡ some f)
+    → (k : ℕ) × (k < n) × (sectionFault l s at k ≡ none) × (recordFault l s (placeAfter l at k) ≡ some f)
 unfolding sectionFault placeAfter
 section-stops l s at zero = λ f e. some-not-none (sym e)
 section-stops l s at (suc n) =
     orElse-refuses
-    (λ f. (k : ℕ) × (k < suc n) × (sectionFault l s at k ≡ none) × (readFault (placeAfter l at k) (readOf s (countOf l Groups) (drop (placeAfter l at k) l)) ≡ some f))
-    (readFault at (readOf s (countOf l Groups) (drop at l)))
+    (λ f. (k : ℕ) × (k < suc n) × (sectionFault l s at k ≡ none) × (recordFault l s (placeAfter l at k) ≡ some f))
+    (recordFault l s at)
     (sectionFault l s (at + getD l at 0) n)
     (λ f e. (0, omega arith, refl, e))
     (λ h f e. let q = section-stops l s (at + getD l at 0) n f e in (suc (q .0), omega (arith, q .1), orElse-none h (q .2), q .3))
@@ -161,12 +167,14 @@ read-stops l s g at (BadField i) e f q =
 
 module _ (fits : ℕ → ℕ → Bool) (l : List ℕ) (h : headerFault fits l ≡ none) where
   -- the section's record that is refused is one of those counted, and the bound past it holds
-  stops-in : (s : Section) → faultBefore l s ≡ none → (f : Refusal) → sectionFault l s (startOf l s) (countOf l s) ≡ some f → Stops l f
+  stops-in :
+      (s : Section) → faultBefore l s ≡ none → (f : Refusal) → sectionFault l s (startOf l s) (countOf l s) ≡ some f → Stops l f
   unfolding placeOf
   stops-in s b f e =
       let few = header-holds fits l h .few in
       let q = section-stops l s (startOf l s) (countOf l s) f e in
-      let t = read-stops l s (countOf l Groups) (placeAfter l (startOf l s) (q .0)) (readOf s (countOf l Groups) (drop (placeAfter l (startOf l s) (q .0)) l)) refl f (q .3) in
+      let at = placeAfter l (startOf l s) (q .0) in
+      let t = read-stops l s (countOf l Groups) at (readOf s (countOf l Groups) (drop at l)) refl f (q .3) in
       let r : Reaches l s (q .0) = record { before = b; counted = omega (arith, q .1); passed = q .2 } in
       let m = reached-most l few s (q .0) r in
       let n = few s in
@@ -180,8 +188,9 @@ module _ (fits : ℕ → ℕ → Bool) (l : List ℕ) (h : headerFault fits l �
   stops =
       orElse-refuses (Stops l) (sectionFault l Groups (startOf l Groups) (countOf l Groups)) _ (stops-in Groups refl)
       (λ e. orElse-refuses (Stops l) (sectionFault l Rules (startOf l Rules) (countOf l Rules)) _ (stops-in Rules e)
-      (λ e₁. orElse-refuses (Stops l) (sectionFault l Constraints (startOf l Constraints) (countOf l Constraints)) _ (stops-in Constraints (orElse-none e e₁))
-      (λ e₂. let r : Reaches l Constraints (countOf l Constraints) = record { before = orElse-none e e₁; counted = omega arith; passed = e₂ } in
+      (λ e₁. let b : faultBefore l Constraints ≡ none = orElse-none e e₁ in
+      orElse-refuses (Stops l) (sectionFault l Constraints (startOf l Constraints) (countOf l Constraints)) _ (stops-in Constraints b)
+      (λ e₂. let r : Reaches l Constraints (countOf l Constraints) = record { before = b; counted = omega arith; passed = e₂ } in
       need-refuses (Stops l) (leb (length l) (endOf l)) (refusal 7 (endOf l))
       (record {
         section = Constraints;

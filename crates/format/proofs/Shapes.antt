@@ -136,7 +136,9 @@ fields-bad (some j) n i e = cc
 
 pub read-bad-field :
     (s : Section) (g i : ℕ) (part : List ℕ) → readOf s g part ≡ BadField i
-    → (shapeOk (firstRecord part) ≡ true) × (badField g (firstRecord part) ≡ some i) × (kindIn s (getD (firstRecord part) 1 0) ≡ true)
+    → (shapeOk (firstRecord part) ≡ true)
+    × (badField g (firstRecord part) ≡ some i)
+    × (kindIn s (getD (firstRecord part) 1 0) ≡ true)
 unfolding readOf
 read-bad-field s g i part e = go (shapeOk r && kindIn s (getD r 1 0)) refl e
   where

@@ -51,7 +51,8 @@ pub record Bounded (l : List ℕ) (s : Section) (k : ℕ) : Type 0 where
 
 -- however the header's length field is compared: the bound comes from the counts and from the records' lengths
 abbrev pub PlacesBounded : Type 0
-PlacesBounded = (fits : ℕ → ℕ → Bool) (l : List ℕ) → headerFault fits l ≡ none → (s : Section) (k : ℕ) → Reaches l s k → Bounded l s k
+PlacesBounded =
+    (fits : ℕ → ℕ → Bool) (l : List ℕ) → headerFault fits l ≡ none → (s : Section) (k : ℕ) → Reaches l s k → Bounded l s k
 
 abbrev pub StopsAt : ℕ → Refusal → Type 0
 StopsAt p f = (f ≡ refusal 5 p) ⊎ (f ≡ refusal 7 p) ⊎ ((i : ℕ) × (f ≡ refusal 6 (p + i)))

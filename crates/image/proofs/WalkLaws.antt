@@ -76,7 +76,8 @@ module _ (l : List ℕ) (s : Section) (at : ℕ) where
     unfolding sectionFault placeAfter
     fits-here f = f .place 0 (omega arith) refl
 
-    pub fits-whole : (m len : ℕ) → n ≡ suc m → readOf s (countOf l Groups) (drop at l) ≡ Whole len → Fits l s at n → Fits l s (at + len) m
+    pub fits-whole :
+        (m len : ℕ) → n ≡ suc m → readOf s (countOf l Groups) (drop at l) ≡ Whole len → Fits l s at n → Fits l s (at + len) m
     unfolding sectionFault placeAfter readFault _orElse_
     fits-whole m len e r f = rw (whole-size len r) (record { place = λ k h q. f .place (suc k) (omega arith) (simp r q) })
 

@@ -11,8 +11,7 @@ use format::Sections;
 use format::Starts;
 use format::header;
 ghost use mathlib.Core.Path.{_≡_};
-ghost use Prim.Native.Nat.{_≤_, _<_};
-ghost use lib.ListN.{length, set};
+ghost use lib.ListN.{set};
 ghost use lib.Dec.{eqb};
 ghost use Rattle.format.specs.Check.{headerFault, check};
 ghost use Rattle.format.specs.Answers.{outcome, refusalOf, sectionsOutcome, starts};
@@ -22,7 +21,7 @@ ghost use Rattle.format.specs.Refusals.{refusal};
 ghost use mathlib.Core.Option.{none, some};
 
 // The place of the first record, behind the header.
-const FIRST: u16 = 9;
+const FIRST: u16 = header::SIZE as u16;
 
 // Where a walk over records ends: past the last, or at the first refusal. A walk carries its place in 16 bits.
 pub(crate) enum Walked {

@@ -11,7 +11,10 @@ use Rattle.image.proofs.checker.check_end.Tie as tie
 
 returns : tie.Need-returns
 unfolding endsOf need
-returns c = rw (c .before .wide-word .ensures .0) (simp (lt-leb (length (now (c .before .before .before .args .image))) (c .before .before .before .args .end) (omega (arith, c .before .wide-word .ensures .0))))
+returns c =
+    let a = c .before .before .before .args in
+    let e = c .before .wide-word .ensures .0 in
+    rw e (simp (lt-leb (length (now (a .image))) (a .end) (omega (arith, e))))
 
 returns-2 : tie.Need-returns-2
 unfolding endsOf need

@@ -1,12 +1,14 @@
 -- `walk` meets its contract. The walk comes to a place, and the part starts there: the rest of the walk from there answers as the
 -- whole does, leaves the same table, and reaches no place above 55,561, so that each sum fits 16 bits. Assumes nothing.
 use native.Mathlib.Omega.{arith}
-use Prim.Native.Nat.{_+_, _-_, _≤_}
+use Prim.Native.Nat.{ℕ, _+_, _-_, _≤_}
 use mathlib.Core.Path.{_≡_, refl, sym, ap, _∙_}
+use mathlib.Core.List.{List}
 use native.Mathlib.Nat.{sub-zero}
 use denote.Ref.{now}
 use lib.ListN.{length, drop, set, length-set}
 use Rattle.format.specs.declared.Section.the-variants.{Groups}
+use Rattle.format.specs.declared.Read.{Read}
 use Rattle.format.specs.declared.Read.the-variants.{Whole, BadField}
 use Rattle.format.specs.Format.{countOf}
 use Rattle.format.specs.Check.{readOf}
@@ -38,37 +40,47 @@ turn d = d .before .before .before .before .before .before
 abbrev start : tie.At-loop Inv-loop μ-loop → tie.Start Inv-loop μ-loop
 start t = t .before .before .before .before .before
 
+abbrev l : tie.At-loop Inv-loop μ-loop → List ℕ
+l t = now (start t .args .image)
+
 -- what the record reader answers, of the image and the place that the walk has come to
-read :
-    (d : tie.After-read-record Inv-loop μ-loop)
-    → d .read-record .result
-    ≡ readOf (start (turn d) .args .section) (countOf (now (start (turn d) .args .image)) Groups) (drop (turn d .loop .at) (now (start (turn d) .args .image)))
+abbrev reading : tie.At-loop Inv-loop μ-loop → Read
+reading t = readOf (start t .args .section) (countOf (l t) Groups) (drop (t .loop .at) (l t))
+
+read : (d : tie.After-read-record Inv-loop μ-loop) → d .read-record .result ≡ reading (turn d)
 read d =
     let t = turn d in
     let a = start t .args in
     d .read-record .ensures
     ∙ ap (λ p. readOf (a .section) (a .groups) p) (t .loop .inv .6)
-    ∙ ap (λ g. readOf (a .section) g (drop (t .loop .at) (now (a .image)))) (start t .pre .groups)
+    ∙ ap (λ g. readOf (a .section) g (drop (t .loop .at) (l t))) (start t .pre .groups)
 
 -- the table as it was before the place was noted, with the place
-table : (d : tie.After-read-record Inv-loop μ-loop) → d .before .before .before .note .last .0 ≡ set (turn d .loop .places) (turn d .loop .k) (turn d .loop .at)
+abbrev places : tie.After-read-record Inv-loop μ-loop → List ℕ
+places d = d .before .before .before .note .last .0
+
+table : (d : tie.After-read-record Inv-loop μ-loop) → places d ≡ set (turn d .loop .places) (turn d .loop .k) (turn d .loop .at)
 table d = d .before .before .before .note .ensures
 
-kept : (d : tie.After-read-record Inv-loop μ-loop) → length (d .before .before .before .note .last .0) ≡ length (now (start (turn d) .args .places))
-kept d = ap length (table d) ∙ length-set (turn d .loop .places) (turn d .loop .k) (turn d .loop .at) ∙ turn d .loop .inv .2
+kept : (d : tie.After-read-record Inv-loop μ-loop) → length (places d) ≡ length (now (start (turn d) .args .places))
+kept d = let t = turn d .loop in ap length (table d) ∙ length-set (t .places) (t .k) (t .at) ∙ t .inv .2
 
--- the record is whole, it lies in the part, and a walk from the place past it fits
-whole :
-    (d : tie.After-length Inv-loop μ-loop)
-    → readOf (start (turn (d .before .before)) .args .section) (countOf (now (start (turn (d .before .before)) .args .image)) Groups) (drop (turn (d .before .before) .loop .at) (now (start (turn (d .before .before)) .args .image)))
-    ≡ Whole (d .length .given .0 .0)
+-- the turn in which a record is whole: a walk from the place past it fits
+abbrev past : tie.After-length Inv-loop μ-loop → tie.At-loop Inv-loop μ-loop
+past d = turn (d .before .before)
+
+whole : (d : tie.After-length Inv-loop μ-loop) → reading (past d) ≡ Whole (d .length .given .0 .0)
 whole d = sym (read (d .before .before)) ∙ d .length .given .1
 
 fits :
     (d : tie.After-length Inv-loop μ-loop)
-    → Fits (now (start (turn (d .before .before)) .args .image)) (start (turn (d .before .before)) .args .section) (turn (d .before .before) .loop .at + d .length .given .0 .0)
-    (start (turn (d .before .before)) .args .count - (turn (d .before .before) .loop .k + 1))
-fits d = fits-whole _ _ _ _ _ _ (omega arith) (whole d) (turn (d .before .before) .loop .inv .5)
+    → Fits (l (past d)) (start (past d) .args .section) (past d .loop .at + d .length .given .0 .0)
+    (start (past d) .args .count - (past d .loop .k + 1))
+fits d = fits-whole _ _ _ _ _ _ (omega arith) (whole d) (past d .loop .inv .5)
+
+-- and the one in which a field breaks its rule
+bad : (d : tie.After-i Inv-loop μ-loop) → reading (turn (d .before .before)) ≡ BadField (d .i .given .0 .0)
+bad d = sym (read (d .before .before)) ∙ d .i .given .1
 
 from-inside : tie.Need-sub-part Inv-loop μ-loop
 from-inside c = omega (arith, c .wide-word .ensures .0, c .before .before .before .pre .inside)
@@ -76,22 +88,20 @@ from-inside c = omega (arith, c .wide-word .ensures .0, c .before .before .befor
 loop-holds : tie.Need-loop-holds Inv-loop μ-loop
 loop-holds c =
     let d = c .before .before .before .before in
-    let l = now (d .args .image) in
-    (
+    let image = now (d .args .image) in (
       omega arith,
       d .pre .inside,
       refl,
       rw sub-zero,
       rw sub-zero,
       rw sub-zero (d .pre .fits),
-      part-from l _ ∙ ap (λ at. drop at l) (c .before .wide-word .ensures .0),
+      part-from image _ ∙ ap (λ at. drop at image) (c .before .wide-word .ensures .0),
     )
 
 record-inside : tie.Need-sub-part-2 Inv-loop μ-loop
 record-inside c =
-    let t = turn (c .before .before .before) in
-    let l = now (start t .args .image) in
-    omega (arith, part-length l _ (t .loop .at) (t .loop .inv .6), whole-inside l _ (t .loop .at) _ (whole (c .before)))
+    let t = past (c .before) in
+    omega (arith, part-length (l t) _ (t .loop .at) (t .loop .inv .6), whole-inside (l t) _ (t .loop .at) _ (whole (c .before)))
 
 narrow-requires : tie.Need-narrow-requires Inv-loop μ-loop
 narrow-requires c κs = omega (arith, fits-here _ _ _ _ (fits (c .before .before)))
@@ -110,10 +120,6 @@ returns c =
       comes = rw (c .wide-word2 .ensures .0) (sym (turn d .loop .inv .3 ∙ walk-malformed _ _ _ _ (omega arith) e));
       table = table d ∙ sym (turn d .loop .inv .4 ∙ note-malformed _ _ _ _ _ _ (omega arith) e);
     }
-
--- the field that breaks its rule
-bad : (d : tie.After-i Inv-loop μ-loop) → readOf (start (turn (d .before .before)) .args .section) (countOf (now (start (turn (d .before .before)) .args .image)) Groups) (drop (turn (d .before .before) .loop .at) (now (start (turn (d .before .before)) .args .image))) ≡ BadField (d .i .given .0 .0)
-bad d = sym (read (d .before .before)) ∙ d .i .given .1
 
 add-place : tie.Need-add-t28 Inv-loop μ-loop
 add-place c =
@@ -137,15 +143,14 @@ loop-again c =
     let d = c .before .before .before .before .before in
     let t = turn d .loop in
     let e = whole (c .before .before .before) in
-    rw (c .narrow .ensures)
-    (
+    rw (c .narrow .ensures) (
       omega arith,
       omega (arith, whole-inside _ _ (t .at) _ e),
       kept d,
       t .inv .3 ∙ walk-whole _ _ _ _ _ _ (omega arith) e,
       rw (table d) (t .inv .4 ∙ note-whole _ _ _ _ _ _ _ _ (omega arith) e),
       fits (c .before .before .before),
-      part-next (now (start (turn d) .args .image)) _ (t .at) _ (t .inv .6),
+      part-next (l (turn d)) _ (t .at) _ (t .inv .6),
     )
 
 same-length-3 : tie.Need-same-length-3 Inv-loop μ-loop

@@ -1,7 +1,8 @@
 -- `place_after` meets its contract: it has come past k records, to a place that fits, and the part starts there. Assumes nothing.
 use native.Mathlib.Omega.{arith}
-use Prim.Native.Nat.{_+_, _-_, _≤_}
+use Prim.Native.Nat.{ℕ, _+_, _-_, _≤_}
 use mathlib.Core.Path.{_≡_, refl, sym, ap, _∙_}
+use mathlib.Core.List.{List}
 use native.Mathlib.Numerals.{add-one}
 use denote.Ref.{now}
 use lib.ListN.{length, getD, drop}
@@ -25,9 +26,12 @@ turn d = d .before .before
 abbrev start : tie.At-loop Inv-loop μ-loop → tie.Start Inv-loop μ-loop
 start t = t .before .before .before .before
 
+abbrev l : tie.At-loop Inv-loop μ-loop → List ℕ
+l t = now (start t .args .image)
+
 -- the length byte, in 64 bits and in 16
-size : (d : tie.After-wide Inv-loop μ-loop) → d .wide .result ≡ getD (now (start (turn (d .before)) .args .image)) (turn (d .before) .loop .at) 0
-size d = let t = turn (d .before) in d .wide .ensures .0 ∙ part-first (now (start t .args .image)) _ (t .loop .at) (t .loop .inv .2)
+size : (d : tie.After-wide Inv-loop μ-loop) → d .wide .result ≡ getD (l (turn (d .before))) (turn (d .before) .loop .at) 0
+size d = let t = turn (d .before) in d .wide .ensures .0 ∙ part-first (l t) _ (t .loop .at) (t .loop .inv .2)
 
 same : (d : tie.After-half Inv-loop μ-loop) → d .half .result ≡ d .before .before .wide .result
 same d = d .half .ensures .0 ∙ sym (d .before .before .wide .ensures .0)
@@ -36,15 +40,14 @@ same d = d .half .ensures .0 ∙ sym (d .before .before .wide .ensures .0)
 next :
     (d : tie.After-wide Inv-loop μ-loop)
     → turn (d .before) .loop .at + d .wide .result
-    ≡ placeAfter (now (start (turn (d .before)) .args .image)) (start (turn (d .before)) .args .from) (turn (d .before) .loop .k + 1)
+    ≡ placeAfter (l (turn (d .before))) (start (turn (d .before)) .args .from) (turn (d .before) .loop .k + 1)
 next d =
     let t = turn (d .before) in
-    let l = now (start t .args .image) in
     let from = start t .args .from in
     ap (λ b. t .loop .at + b) (size d)
-    ∙ ap (λ at. at + getD l at 0) (t .loop .inv .1)
-    ∙ sym (place-snoc l from (t .loop .k))
-    ∙ ap (placeAfter l from) (sym (add-one (t .loop .k)))
+    ∙ ap (λ at. at + getD (l t) at 0) (t .loop .inv .1)
+    ∙ sym (place-snoc (l t) from (t .loop .k))
+    ∙ ap (placeAfter (l t) from) (sym (add-one (t .loop .k)))
 
 from-inside : (d : tie.After-wide-word Inv-loop μ-loop) → d .wide-word .result ≤ length (now (d .before .before .args .image))
 unfolding placeAfter
@@ -53,18 +56,18 @@ from-inside d = omega (arith, d .wide-word .ensures .0, d .before .before .pre .
 loop-holds : tie.Need-loop-holds Inv-loop μ-loop
 unfolding placeAfter
 loop-holds c =
-    let l = now (c .before .before .before .args .image) in
-    (omega arith, refl, part-from l _ ∙ ap (λ at. drop at l) (c .before .wide-word .ensures .0))
+    let image = now (c .before .before .before .args .image) in
+    (omega arith, refl, part-from image _ ∙ ap (λ at. drop at image) (c .before .wide-word .ensures .0))
 
 byte-inside : tie.Need-shared-slice-read-length Inv-loop μ-loop
 byte-inside c =
     let t = turn c .loop in
-    omega (arith, part-length (now (start (turn c) .args .image)) _ (t .at) (t .inv .2), t .inv .1, start (turn c) .pre .byte (t .k) (omega arith))
+    omega (arith, part-length (l (turn c)) _ (t .at) (t .inv .2), t .inv .1, start (turn c) .pre .byte (t .k) (omega arith))
 
 record-inside : tie.Need-sub-part-2 Inv-loop μ-loop
 record-inside c =
     let t = turn (c .before) in
-    omega (arith, part-length (now (start t .args .image)) _ (t .loop .at) (t .loop .inv .2), next c, start t .pre .inside (t .loop .k + 1) (omega arith))
+    omega (arith, part-length (l t) _ (t .loop .at) (t .loop .inv .2), next c, start t .pre .inside (t .loop .k + 1) (omega arith))
 
 add-at : tie.Need-add-at Inv-loop μ-loop
 add-at c =
@@ -73,11 +76,10 @@ add-at c =
 
 loop-again : tie.Need-loop-again Inv-loop μ-loop
 loop-again c =
-    let t = turn (c .before .before .before) in
-    (
+    let t = turn (c .before .before .before) in (
       omega arith,
       ap (λ b. t .loop .at + b) (same c) ∙ next (c .before .before),
-      part-next (now (start t .args .image)) _ (t .loop .at) _ (t .loop .inv .2) ∙ ap (λ b. drop (t .loop .at + b) (now (start t .args .image))) (sym (same c)),
+      part-next (l t) _ (t .loop .at) _ (t .loop .inv .2) ∙ ap (λ b. drop (t .loop .at + b) (l t)) (sym (same c)),
     )
 
 returns : tie.Need-returns Inv-loop μ-loop
