@@ -19,6 +19,7 @@ use Rattle.format.specs.Refusals.{refusal, need}
 use Rattle.format.specs.Format.{knownVersion, limitOf, countPlace, countOf}
 use Rattle.format.specs.Check.{countFault, headerFault, bodyFault, check, checkFront, leading}
 use Rattle.format.specs.Give.{giveFault}
+use Rattle.format.specs.Longest.{longestLength}
 use Rattle.format.specs.Reach.{StopsAt}
 use Rattle.format.proofs.Chain.{orElse-refuses, need-refuses}
 use Rattle.format.proofs.ByCase.{count-place-most}
@@ -54,14 +55,14 @@ stop-number p f =
     (⊎-elim (λ e. subst (λ f. f .number ≤ 7) (sym e) (omega arith))
     (λ e. subst (λ f. f .number ≤ 7) (sym (e .1)) (omega arith)))
 
-pub check-small : (l : List ℕ) (f : Refusal) → check l ≡ some f → Near 55561 f
+pub check-small : (l : List ℕ) (f : Refusal) → check l ≡ some f → Near longestLength f
 unfolding check
 check-small l =
-    orElse-refuses (Near 55561) (headerFault eqb l) (bodyFault l)
+    orElse-refuses (Near longestLength) (headerFault eqb l) (bodyFault l)
     (λ f e. let q = header-refused eqb l f e in (q .0, omega (arith, q .1)))
     (λ h f e. let q = stops-reached eqb l h f e in (stop-number _ f (q .place), q .whole))
 
-pub front-small : (b : List ℕ) (f : Refusal) → checkFront b ≡ some f → Near 55561 f
+pub front-small : (b : List ℕ) (f : Refusal) → checkFront b ≡ some f → Near longestLength f
 front-small b f e = check-small (leading b) f (leading-check b ∙ e)
 
 pub give-refused : (l : List ℕ) (s : Section) (n : ℕ) (f : Refusal) → giveFault l s n ≡ some f → (check l ≡ some f) ⊎ (f ≡ refusal 14 0)

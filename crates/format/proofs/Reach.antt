@@ -68,19 +68,6 @@ section-most l s at n e = place-most l at (longestOf s) n (λ k h. short k (sect
         let m = record-most s (recordAt l (placeAfter l at k)) (f .shape) (f .kind) in
         omega arith
 
--- the bound, by section
-pub most-groups : (k : ℕ) → mostPlace Groups k ≡ 9 + 130 * k
-unfolding mostPlace
-most-groups k = refl
-
-pub most-rules : (k : ℕ) → mostPlace Rules k ≡ 9 + 130 * 256 + 11 * k
-unfolding mostPlace
-most-rules k = refl
-
-pub most-constraints : (k : ℕ) → mostPlace Constraints k ≡ 9 + 130 * 256 + 11 * 1024 + 43 * k
-unfolding mostPlace
-most-constraints k = refl
-
 -- past k records of a section, as many lengths further
 pub most-further : (s : Section) (k : ℕ) → mostPlace s k ≡ mostPlace s 0 + longestOf s * k
 unfolding mostPlace longestOf
@@ -229,3 +216,17 @@ longest-image l e =
     let b = accepted-bounded l e Constraints (countOf l Constraints) (omega arith) .whole in
     let n = accepted-end l e in
     omega arith
+
+-- ---- the bound, by section
+
+pub most-groups : (k : ℕ) → mostPlace Groups k ≡ 9 + 130 * k
+unfolding mostPlace
+most-groups k = refl
+
+pub most-rules : (k : ℕ) → mostPlace Rules k ≡ 9 + 130 * 256 + 11 * k
+unfolding mostPlace
+most-rules k = refl
+
+pub most-constraints : (k : ℕ) → mostPlace Constraints k ≡ 9 + 130 * 256 + 11 * 1024 + 43 * k
+unfolding mostPlace
+most-constraints k = refl
