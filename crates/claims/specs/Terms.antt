@@ -10,25 +10,27 @@
 --     sampleBytes, trans  document 01's sample as text, and a row by itself
 --     left text b         what a text leaves of the buffer b
 --     cutSample, longSample, badSample   the sample cut, with a byte behind it, with a condition that is none
+--     Pass l s k, AllPass l s   the first k records of a section pass, all do
+--     LongestAt s k p     a walk over the longest image reaches the place p past k records of a section
 --     outsideBehind n     n line feeds and one more, and a row outside the form
 --     ReadingMet, AddingMet, DecidingMet, OrderingMet, RunningMet, NearingMet, BuildingMet, ReachingMet, PrintingMet, CallingMet
 --                         by the parts of the statement
 use Prim.Native.Nat.{ℕ, suc, _+_, _*_, _/_, _%_, _<_, _≤_}
 use Prim.Native.String.{String}
 use mathlib.Core.Path.{_≡_}
-use mathlib.Core.Bool.{true, false}
+use mathlib.Core.Bool.{Bool, true, false}
 use mathlib.Core.Option.{Option, none, some}
 use mathlib.Core.List.{List, [], _∷_, _++_, map, List·Memᴰ}
 use lib.ListN.{length, getD, take, drop, replicate}
-use lib.Dec.{leb, eqb}
+use lib.Dec.{eqb}
 use Rattle.format.specs.declared.Section.{Section}
 use Rattle.format.specs.declared.Section.the-variants.{Groups, Rules, Constraints}
 use Rattle.format.specs.declared.Refusal.{Refusal}
 use Rattle.format.specs.Bytes.{Bytes}
 use Rattle.format.specs.Refusals.{refusal}
-use Rattle.format.specs.Format.{limitOf}
-use Rattle.format.specs.Policy.{Policy, recordsOf, imageOf, policyOf, placeOf}
-use Rattle.format.specs.Check.{headerFault, bodyFault, check, Accepted, imageIn, checkFront}
+use Rattle.format.specs.Format.{limitOf, countOf}
+use Rattle.format.specs.Policy.{Policy, recordsOf, imageOf, policyOf, startOf, placeOf, endOf}
+use Rattle.format.specs.Check.{sectionFault, headerFault, bodyFault, check, Accepted, imageIn, checkFront}
 use Rattle.format.specs.Answers.{Outcome, refused, gives, outcome, extent}
 use Rattle.format.specs.Give.{giveFault, givenRecord}
 use Rattle.format.specs.Claims.{IsType, typeFields, WellFormed, givenFrom}
@@ -537,35 +539,53 @@ pub record BuildingMet : Type 0 where
       built (ascii "trans 12 20 5\nx") (replicate 17 7) ≡ record { answer = refused (refusal 18 14); buffer = oneTransition }
   pub return-refused : built (ascii "group 1\r\n") (replicate 13 7) ≡ record { answer = refused (refusal 18 0); buffer = empty ++ replicate 4 7 }
 
+-- the first k records of a section pass; and all that the header counts
+abbrev pub Pass : List ℕ → Section → ℕ → Type 0
+Pass l s k = sectionFault l s (startOf l s) k ≡ none
+
+abbrev pub AllPass : List ℕ → Section → Type 0
+AllPass l s = Pass l s (countOf l s)
+
+-- a place of the longest image
+abbrev pub LongestAt : Section → ℕ → ℕ → Type 0
+LongestAt s k p = Reaches (imageOf longest) s k × (placeOf (imageOf longest) s k ≡ p)
+
 pub record ReachingMet : Type 0 where
-  -- PlacesBounded: every image whose header passes, and a buffer that goes on behind it, in numbers
-  pub group-places : (l : List ℕ) → headerFault eqb l ≡ none → (k : ℕ) → Reaches l Groups k → placeOf l Groups k ≤ 9 + 130 * k
-  pub rule-places : (l : List ℕ) → headerFault eqb l ≡ none → (k : ℕ) → Reaches l Rules k → placeOf l Rules k ≤ 33289 + 11 * k
+  -- PlacesBounded: every image whose header passes, however its length field is compared, past k records that pass, in numbers
+  pub group-places :
+      (fits : ℕ → ℕ → Bool) (l : List ℕ) → headerFault fits l ≡ none → (k : ℕ) → k ≤ countOf l Groups → Pass l Groups k
+      → (placeOf l Groups k ≤ 9 + 130 * k) × (placeOf l Groups k ≤ 55561)
+  pub rule-places :
+      (fits : ℕ → ℕ → Bool) (l : List ℕ) → headerFault fits l ≡ none → AllPass l Groups
+      → (k : ℕ) → k ≤ countOf l Rules → Pass l Rules k
+      → (placeOf l Rules k ≤ 33289 + 11 * k) × (placeOf l Rules k ≤ 55561)
   pub constraint-places :
-      (l : List ℕ) → headerFault eqb l ≡ none → (k : ℕ) → Reaches l Constraints k → placeOf l Constraints k ≤ 44553 + 43 * k
-  pub buffer-places : (b : List ℕ) → headerFault leb b ≡ none → (s : Section) (k : ℕ) → Reaches b s k → placeOf b s k ≤ 55561
+      (fits : ℕ → ℕ → Bool) (l : List ℕ) → headerFault fits l ≡ none → AllPass l Groups → AllPass l Rules
+      → (k : ℕ) → k ≤ countOf l Constraints → Pass l Constraints k
+      → (placeOf l Constraints k ≤ 44553 + 43 * k) × (placeOf l Constraints k ≤ 55561)
   pub next-length :
-      (l : List ℕ) → Bytes l → headerFault eqb l ≡ none → (s : Section) (k : ℕ) → Reaches l s k
+      (fits : ℕ → ℕ → Bool) (l : List ℕ) → Bytes l → headerFault fits l ≡ none → (s : Section) (k : ℕ) → Reaches l s k
       → placeOf l s k + getD l (placeOf l s k) 0 ≤ 55816
   -- StopsReached: where each of 5, 6 and 7 stands, in every image; the sample cut, with a bad field, with a byte behind it
   pub malformed :
-      (l : List ℕ) → headerFault eqb l ≡ none → (p : ℕ) → bodyFault l ≡ some (refusal 5 p)
-      → (s : Section) × (k : ℕ) × Reaches l s k × (p ≡ placeOf l s k)
+      (fits : ℕ → ℕ → Bool) (l : List ℕ) → headerFault fits l ≡ none → (p : ℕ) → bodyFault l ≡ some (refusal 5 p)
+      → (s : Section) × (k : ℕ) × Reaches l s k × (k < countOf l s) × (p ≡ placeOf l s k)
   pub bad-field :
-      (l : List ℕ) → headerFault eqb l ≡ none → (p : ℕ) → bodyFault l ≡ some (refusal 6 p)
-      → (s : Section) × (k : ℕ) × (i : ℕ) × Reaches l s k × (p ≡ placeOf l s k + i)
+      (fits : ℕ → ℕ → Bool) (l : List ℕ) → headerFault fits l ≡ none → (p : ℕ) → bodyFault l ≡ some (refusal 6 p)
+      → (s : Section) × (k : ℕ) × (i : ℕ) × Reaches l s k × (k < countOf l s) × (i < getD l (placeOf l s k) 0) × (p ≡ placeOf l s k + i)
   pub bytes-behind :
-      (l : List ℕ) → headerFault eqb l ≡ none → (p : ℕ) → bodyFault l ≡ some (refusal 7 p)
-      → (s : Section) × (k : ℕ) × Reaches l s k × (p ≡ placeOf l s k)
-  pub stop-places : (b : List ℕ) → headerFault leb b ≡ none → (f : Refusal) → bodyFault b ≡ some f → f .place ≤ 55561
+      (fits : ℕ → ℕ → Bool) (l : List ℕ) → headerFault fits l ≡ none → (p : ℕ) → bodyFault l ≡ some (refusal 7 p)
+      → Reaches l Constraints (countOf l Constraints) × (p ≡ placeOf l Constraints (countOf l Constraints))
+  pub stop-places : (fits : ℕ → ℕ → Bool) (l : List ℕ) → headerFault fits l ≡ none → (f : Refusal) → bodyFault l ≡ some f → f .place ≤ 55561
   pub cut-stops : Stops cutSample (refusal 5 69)
   pub bad-stops : Stops badSample (refusal 6 25)
   pub long-stops : Stops longSample (refusal 7 80)
-  -- BoundReached: past the last group, the last rule, the last constraint
-  pub groups-end : placeOf (imageOf longest) Groups 256 ≡ 33289
-  pub rules-end : placeOf (imageOf longest) Rules 1024 ≡ 44553
-  pub constraints-end : placeOf (imageOf longest) Constraints 256 ≡ 55561
-  pub last-reached : Reaches (imageOf longest) Constraints 256
+  -- BoundReached: the longest image, past each of its records
+  pub longest-header : headerFault eqb (imageOf longest) ≡ none
+  pub longest-groups : (k : ℕ) → k ≤ 256 → LongestAt Groups k (9 + 130 * k)
+  pub longest-rules : (k : ℕ) → k ≤ 1024 → LongestAt Rules k (33289 + 11 * k)
+  pub longest-constraints : (k : ℕ) → k ≤ 256 → LongestAt Constraints k (44553 + 43 * k)
+  pub longest-end : endOf (imageOf longest) ≡ 55561
 
 pub record PrintingMet : Type 0 where
   -- DecimalFewest, DecimalRead: the largest usize

@@ -49,18 +49,20 @@ header-refused fits l =
 
 -- ---- the records
 
-stop-number : (p : ℕ) (f : Refusal) → StopsAt p f → f .number ≤ 7
-stop-number p f =
-    ⊎-elim (λ e. subst (λ f. f .number ≤ 7) (sym e) (omega arith))
-    (⊎-elim (λ e. subst (λ f. f .number ≤ 7) (sym e) (omega arith))
-    (λ e. subst (λ f. f .number ≤ 7) (sym (e .1)) (omega arith)))
+known-number : (n p : ℕ) (f : Refusal) → f ≡ refusal n p → n ≤ 7 → f .number ≤ 7
+known-number n p f e h = subst (λ f. f .number ≤ 7) (sym e) h
+
+stop-number : (l : List ℕ) (s : Section) (k : ℕ) (f : Refusal) → StopsAt l s k f → f .number ≤ 7
+stop-number l s k f =
+    ⊎-elim (λ e. known-number 5 _ f (e .1) (omega arith))
+    (⊎-elim (λ e. known-number 6 _ f (e .1 .2) (omega arith)) (λ e. known-number 7 _ f (e .2) (omega arith)))
 
 pub check-small : (l : List ℕ) (f : Refusal) → check l ≡ some f → Near longestLength f
 unfolding check
 check-small l =
     orElse-refuses (Near longestLength) (headerFault eqb l) (bodyFault l)
     (λ f e. let q = header-refused eqb l f e in (q .0, omega (arith, q .1)))
-    (λ h f e. let q = stops-reached eqb l h f e in (stop-number _ f (q .place), q .whole))
+    (λ h f e. let q = stops-reached eqb l h f e in (stop-number l _ _ f (q .place), q .whole))
 
 pub front-small : (b : List ℕ) (f : Refusal) → checkFront b ≡ some f → Near longestLength f
 front-small b f e = check-small (leading b) f (leading-check b ∙ e)

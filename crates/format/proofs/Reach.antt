@@ -5,7 +5,7 @@
 --     accepted-reaches   a walk over an accepted image reaches every record, and the place past the last
 use Prim.Native.Nat.{ℕ, zero, suc, _+_, _*_, _≤_, _<_}
 use mathlib.Core.Path.{_≡_, refl, sym, subst}
-use mathlib.Core.Logic.{inl, inr}
+use mathlib.Core.Logic.{_⊎_, inl, inr, ⊎-elim}
 use mathlib.Core.Bool.{Bool, true}
 use mathlib.Core.Option.{Option, none, some}
 use mathlib.Core.List.{List}
@@ -75,6 +75,23 @@ most-further Groups k = omega arith
 most-further Rules k = omega arith
 most-further Constraints k = omega arith
 
+-- what stands before a section
+module _ (l : List ℕ) where
+  pub before-groups : faultBefore l Groups ≡ none
+  unfolding faultBefore
+  before-groups = refl
+
+  pub before-rules : sectionFault l Groups (startOf l Groups) (countOf l Groups) ≡ none → faultBefore l Rules ≡ none
+  unfolding faultBefore
+  before-rules e = e
+
+  pub before-constraints :
+      sectionFault l Groups (startOf l Groups) (countOf l Groups) ≡ none
+      → sectionFault l Rules (startOf l Rules) (countOf l Rules) ≡ none
+      → faultBefore l Constraints ≡ none
+  unfolding faultBefore
+  before-constraints e h = orElse-none e h
+
 module _ (l : List ℕ) (few : (s : Section) → countOf l s ≤ limitOf s) where
   -- where a section starts, behind sections that are full at most
   start-most : (s : Section) → faultBefore l s ≡ none → startOf l s ≤ mostPlace s 0
@@ -136,21 +153,26 @@ section-stops l s at (suc n) =
     (λ h f e. let q = section-stops l s (at + getD l at 0) n f e in (suc (q .0), omega (arith, q .1), orElse-none h (q .2), q .3))
 
 -- the refusal of one record: at its place, or at a field of it
+abbrev RecordStops : List ℕ → ℕ → ℕ → Refusal → Type 0
+RecordStops l at most f =
+    ((f ≡ refusal 5 at) ⊎ ((i : ℕ) × (i < getD l at 0) × (f ≡ refusal 6 (at + i)))) × (f .place ≤ at + most)
+
 read-stops :
     (l : List ℕ) (s : Section) (g at : ℕ) (x : Read) → readOf s g (drop at l) ≡ x → (f : Refusal) → readFault at x ≡ some f
-    → StopsAt at f × (f .place ≤ at + longestOf s)
-unfolding readFault
+    → RecordStops l at (longestOf s) f
+unfolding readFault recordAt
 read-stops l s g at (Whole n) e f q = some-not-none (sym q)
 read-stops l s g at Malformed e f q =
     let z : refusal 5 at ≡ f = cc in
-    subst (λ f. StopsAt at f × (f .place ≤ at + longestOf s)) z (inl refl, omega arith)
+    subst (RecordStops l at (longestOf s)) z (inl refl, omega arith)
 read-stops l s g at (BadField i) e f q =
     let b = read-bad-field s g i (drop at l) e in
     let r = firstRecord (drop at l) in
     let k = field-inside g r i (b .0) (b .1) in
     let m = record-most s r (b .0) (b .2) in
+    let n = stands l at (b .0) .size in
     let z : refusal 6 (at + i) ≡ f = cc in
-    subst (λ f. StopsAt at f × (f .place ≤ at + longestOf s)) z (inr (inr (i, refl)), omega arith)
+    subst (RecordStops l at (longestOf s)) z (inr (i, omega arith, refl), omega arith)
 
 module _ (fits : ℕ → ℕ → Bool) (l : List ℕ) (h : headerFault fits l ≡ none) where
   -- the section's record that is refused is one of those counted, and the bound past it holds
@@ -168,14 +190,20 @@ module _ (fits : ℕ → ℕ → Bool) (l : List ℕ) (h : headerFault fits l �
       let w = most-whole s (suc (q .0)) (omega (arith, q .1)) in
       let c = most-further s (q .0) in
       let d = most-further s (suc (q .0)) in
-      record { section = s; past = q .0; reached = r; place = t .0; whole = omega (arith, t .1) }
+      record {
+        section = s;
+        past = q .0;
+        reached = r;
+        place = ⊎-elim (λ z. inl (q .1, z)) (λ z. inr (inl (q .1, z))) (t .0);
+        whole = omega (arith, t .1);
+      }
 
   stops : (f : Refusal) → bodyFault l ≡ some f → Stops l f
-  unfolding bodyFault faultBefore endOf
+  unfolding bodyFault endOf
   stops =
-      orElse-refuses (Stops l) (sectionFault l Groups (startOf l Groups) (countOf l Groups)) _ (stops-in Groups refl)
-      (λ e. orElse-refuses (Stops l) (sectionFault l Rules (startOf l Rules) (countOf l Rules)) _ (stops-in Rules e)
-      (λ e₁. let b : faultBefore l Constraints ≡ none = orElse-none e e₁ in
+      orElse-refuses (Stops l) (sectionFault l Groups (startOf l Groups) (countOf l Groups)) _ (stops-in Groups (before-groups l))
+      (λ e. orElse-refuses (Stops l) (sectionFault l Rules (startOf l Rules) (countOf l Rules)) _ (stops-in Rules (before-rules l e))
+      (λ e₁. let b = before-constraints l e e₁ in
       orElse-refuses (Stops l) (sectionFault l Constraints (startOf l Constraints) (countOf l Constraints)) _ (stops-in Constraints b)
       (λ e₂. let r : Reaches l Constraints (countOf l Constraints) = record { before = b; counted = omega arith; passed = e₂ } in
       need-refuses (Stops l) (leb (length l) (endOf l)) (refusal 7 (endOf l))
@@ -183,7 +211,7 @@ module _ (fits : ℕ → ℕ → Bool) (l : List ℕ) (h : headerFault fits l �
         section = Constraints;
         past = countOf l Constraints;
         reached = r;
-        place = inr (inl refl);
+        place = inr (inr (refl, refl, refl));
         whole = places-bounded fits l h Constraints (countOf l Constraints) r .whole;
       }))))
 
@@ -194,10 +222,9 @@ stops-reached fits l h f e = stops fits l h f e
 
 module _ (l : List ℕ) (e : Accepted l) where
   none-before : (s : Section) → faultBefore l s ≡ none
-  unfolding faultBefore
-  none-before Groups = refl
-  none-before Rules = body-sections l (accepted-body l e) Groups
-  none-before Constraints = orElse-none (body-sections l (accepted-body l e) Groups) (body-sections l (accepted-body l e) Rules)
+  none-before Groups = before-groups l
+  none-before Rules = before-rules l (body-sections l (accepted-body l e) Groups)
+  none-before Constraints = before-constraints l (body-sections l (accepted-body l e) Groups) (body-sections l (accepted-body l e) Rules)
 
   pub accepted-reaches : (s : Section) (k : ℕ) → k ≤ countOf l s → Reaches l s k
   accepted-reaches s k h =

@@ -8,7 +8,7 @@
 --     Stops l f            a refusal at a place that a walk reaches, or at a field of the record there; at most 55,561
 --     StopsReached         each refusal of the records is so
 --     BoundReached         the longest image reaches each of these places, and 55,561 past its last record
-use Prim.Native.Nat.{ℕ, _+_, _*_, _≤_}
+use Prim.Native.Nat.{ℕ, _+_, _*_, _≤_, _<_}
 use mathlib.Core.Path.{_≡_}
 use mathlib.Core.Bool.{Bool}
 use mathlib.Core.Logic.{_⊎_}
@@ -54,14 +54,18 @@ abbrev pub PlacesBounded : Type 0
 PlacesBounded =
     (fits : ℕ → ℕ → Bool) (l : List ℕ) → headerFault fits l ≡ none → (s : Section) (k : ℕ) → Reaches l s k → Bounded l s k
 
-abbrev pub StopsAt : ℕ → Refusal → Type 0
-StopsAt p f = (f ≡ refusal 5 p) ⊎ (f ≡ refusal 7 p) ⊎ ((i : ℕ) × (f ≡ refusal 6 (p + i)))
+-- 5 at a record that is counted; 6 at a field of one, within its length; 7 past the last of all
+abbrev pub StopsAt : List ℕ → Section → ℕ → Refusal → Type 0
+StopsAt l s k f =
+    ((k < countOf l s) × (f ≡ refusal 5 (placeOf l s k)))
+    ⊎ ((k < countOf l s) × ((i : ℕ) × (i < getD l (placeOf l s k) 0) × (f ≡ refusal 6 (placeOf l s k + i))))
+    ⊎ ((s ≡ Constraints) × (k ≡ countOf l s) × (f ≡ refusal 7 (placeOf l s k)))
 
 pub record Stops (l : List ℕ) (f : Refusal) : Type 0 where
   pub section : Section
   pub past : ℕ
   pub reached : Reaches l section past
-  pub place : StopsAt (placeOf l section past) f
+  pub place : StopsAt l section past f
   pub whole : f .place ≤ longestLength
 
 abbrev pub StopsReached : Type 0

@@ -20,8 +20,8 @@ use Rattle.format.specs.Check.{sectionFault, headerFault, bodyFault, check, Acc
 use Rattle.format.specs.Give.{giveFault, givenRecord}
 use Rattle.format.specs.Answers.{gives, outcome, starts, extent}
 use Rattle.format.specs.Reach.{faultBefore, Reaches}
-use Rattle.format.proofs.Chain.{orElse-none, orElse-next, orElse-first, need-some}
-use Rattle.format.proofs.Reach.{places-bounded, accepted-bounded}
+use Rattle.format.proofs.Chain.{orElse-next, orElse-first, need-some}
+use Rattle.format.proofs.Reach.{before-groups, before-rules, before-constraints, places-bounded, accepted-bounded}
 use Rattle.format.proofs.Accepted.{section-inside, place-first, record-stands, record-is, give-none, given-at}
 use Rattle.image.specs.declared.checker.Walked.{Walked}
 use Rattle.image.specs.declared.checker.Walked.the-variants.{To, Stop}
@@ -72,8 +72,8 @@ module _ (l : List ℕ) where
   constraints-walk at = walkOf l Constraints at (countOf l Constraints)
 
   pub groups-fit : headerFault eqb l ≡ none → (n : ℕ) → n ≡ countOf l Groups → Fits l Groups 9 n
-  unfolding faultBefore startOf
-  groups-fit h n c = section-fits l Groups 9 n h refl refl c
+  unfolding startOf
+  groups-fit h n c = section-fits l Groups 9 n h (before-groups l) refl c
 
   -- where a section stops, so does the body
   pub groups-stop : (f : Refusal) → groups-walk ≡ Stop f → bodyFault l ≡ some f
@@ -89,8 +89,8 @@ module _ (l : List ℕ) where
     groups-none = walk-passes l Groups 9 (countOf l Groups) a e₁ .0
 
     pub rules-fit : headerFault eqb l ≡ none → (n : ℕ) → n ≡ countOf l Rules → Fits l Rules a n
-    unfolding faultBefore startOf
-    rules-fit h n c = section-fits l Rules a n h groups-none (sym rules-at) c
+    unfolding startOf
+    rules-fit h n c = section-fits l Rules a n h (before-rules l groups-none) (sym rules-at) c
 
     pub rules-stop : (f : Refusal) → rules-walk a ≡ Stop f → bodyFault l ≡ some f
     unfolding bodyFault startOf
@@ -105,8 +105,8 @@ module _ (l : List ℕ) where
       constraints-at = rules-pass .1
 
       pub constraints-fit : headerFault eqb l ≡ none → (n : ℕ) → n ≡ countOf l Constraints → Fits l Constraints b n
-      unfolding faultBefore startOf
-      constraints-fit h n c = section-fits l Constraints b n h (orElse-none groups-none (rules-pass .0)) (sym constraints-at) c
+      unfolding startOf
+      constraints-fit h n c = section-fits l Constraints b n h (before-constraints l groups-none (rules-pass .0)) (sym constraints-at) c
 
       pub constraints-stop : (f : Refusal) → constraints-walk b ≡ Stop f → bodyFault l ≡ some f
       unfolding bodyFault startOf

@@ -22,7 +22,7 @@ pub(crate) fn wide_word(x: u16) -> usize
     x as usize
 }
 
-// A place in 16 bits, and no bit is lost.
+// A number in 16 bits, where no bit is lost.
 pub(crate) fn narrow(x: usize) -> u16
     requires { ⌜ x < 65536 ⌝ }
     ensures { λ r. ⌜ r ≡ x ⌝ }
