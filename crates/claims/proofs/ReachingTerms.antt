@@ -15,11 +15,11 @@ use Rattle.format.specs.Refusals.{refusal}
 use Rattle.format.specs.Format.{limitOf, countOf}
 use Rattle.format.specs.Policy.{placeOf}
 use Rattle.format.specs.Check.{headerFault, bodyFault}
-use Rattle.format.specs.Reach.{Reaches}
+use Rattle.format.specs.Reach.{Reaches, mostPlace}
 use Rattle.format.proofs.ByCase.{limit-groups, limit-rules, limit-constraints}
 use Rattle.format.proofs.Reach.{before-groups, before-rules, before-constraints, most-groups, most-rules, most-constraints}
 use Rattle.claims.specs.Promises.{Promises}
-use Rattle.claims.specs.Terms.{cutSample, longSample, badSample, Pass, AllPass, ReachingMet}
+use Rattle.claims.specs.Terms.{cutSample, longSample, badSample, Pass, AllPass, LongestAt, ReachingMet}
 use Rattle.claims.proofs.Cases.{refused-samples}
 
 -- refusals of different numbers are apart
@@ -32,7 +32,8 @@ same-place n m a b e = ap (λ (f : Refusal). f .place) e
 module _ (p : Promises) where
   module _ (fits : ℕ → ℕ → Bool) (l : List ℕ) (h : headerFault fits l ≡ none) where
     -- the furthest places, in numbers
-    group-places : (k : ℕ) → k ≤ countOf l Groups → Pass l Groups k → (placeOf l Groups k ≤ 9 + 130 * k) × (placeOf l Groups k ≤ 55561)
+    group-places :
+        (k : ℕ) → k ≤ countOf l Groups → Pass l Groups k → (placeOf l Groups k ≤ 9 + 130 * k) × (placeOf l Groups k ≤ 55561)
     group-places k c e =
         let b = p .reaching .places-bounded fits l h Groups k (record { before = before-groups l; counted = c; passed = e }) in
         (omega (arith, b .by-section, most-groups k), b .whole)
@@ -54,7 +55,8 @@ module _ (p : Promises) where
 
     -- where a refusal of the records stands, by its number
     module _ (at : ℕ) where
-      malformed : bodyFault l ≡ some (refusal 5 at) → (s : Section) × (k : ℕ) × Reaches l s k × (k < countOf l s) × (at ≡ placeOf l s k)
+      malformed :
+          bodyFault l ≡ some (refusal 5 at) → (s : Section) × (k : ℕ) × Reaches l s k × (k < countOf l s) × (at ≡ placeOf l s k)
       malformed e =
           let q = p .reaching .stops-reached fits l h (refusal 5 at) e in
           ⊎-elim (λ z. (q .section, q .past, q .reached, z .0, same-place 5 5 at _ (z .1)))
@@ -63,7 +65,8 @@ module _ (p : Promises) where
 
       bad-field :
           bodyFault l ≡ some (refusal 6 at)
-          → (s : Section) × (k : ℕ) × (i : ℕ) × Reaches l s k × (k < countOf l s) × (i < getD l (placeOf l s k) 0) × (at ≡ placeOf l s k + i)
+          → (s : Section) × (k : ℕ) × (i : ℕ) × Reaches l s k
+          × (k < countOf l s) × (i < getD l (placeOf l s k) 0) × (at ≡ placeOf l s k + i)
       bad-field e =
           let q = p .reaching .stops-reached fits l h (refusal 6 at) e in
           ⊎-elim (λ z. apart 6 5 at _ (z .1) (λ n. omega arith))
@@ -88,6 +91,12 @@ module _ (p : Promises) where
               subst (λ t. Reaches l t (countOf l t) × (at ≡ placeOf l t (countOf l t))) e₁
               (subst (λ n. Reaches l s n × (at ≡ placeOf l s n)) e₂ (r, e₃))
 
+  longest-at : (s : Section) (k n m : ℕ) → limitOf s ≡ n → k ≤ n → mostPlace s k ≡ m → LongestAt s k m
+  longest-at s k n m e h q =
+      let j : k ≤ limitOf s = omega arith in
+      let b = p .reaching .bound-reached in
+      (b .reaches s k j, b .each s k j ∙ q)
+
   pub reaching-met : ReachingMet
   reaching-met =
       let b = p .reaching .bound-reached in
@@ -105,11 +114,8 @@ module _ (p : Promises) where
         bad-stops = p .reaching .stops-reached eqb badSample (w .bad-header) (refusal 6 25) (w .bad-refused);
         long-stops = p .reaching .stops-reached eqb longSample (w .long-header) (refusal 7 80) (w .long-refused);
         longest-header = b .header;
-        longest-groups = λ k h.
-            (let m : k ≤ limitOf Groups = omega (arith, limit-groups) in (b .reaches Groups k m, b .each Groups k m ∙ most-groups k));
-        longest-rules = λ k h.
-            (let m : k ≤ limitOf Rules = omega (arith, limit-rules) in (b .reaches Rules k m, b .each Rules k m ∙ most-rules k));
-        longest-constraints = λ k h.
-            (let m : k ≤ limitOf Constraints = omega (arith, limit-constraints) in (b .reaches Constraints k m, b .each Constraints k m ∙ most-constraints k));
+        longest-groups = λ k h. longest-at Groups k 256 _ limit-groups h (most-groups k);
+        longest-rules = λ k h. longest-at Rules k 1024 _ limit-rules h (most-rules k);
+        longest-constraints = λ k h. longest-at Constraints k 256 _ limit-constraints h (most-constraints k);
         longest-end = b .last;
       }

@@ -572,11 +572,13 @@ pub record ReachingMet : Type 0 where
       → (s : Section) × (k : ℕ) × Reaches l s k × (k < countOf l s) × (p ≡ placeOf l s k)
   pub bad-field :
       (fits : ℕ → ℕ → Bool) (l : List ℕ) → headerFault fits l ≡ none → (p : ℕ) → bodyFault l ≡ some (refusal 6 p)
-      → (s : Section) × (k : ℕ) × (i : ℕ) × Reaches l s k × (k < countOf l s) × (i < getD l (placeOf l s k) 0) × (p ≡ placeOf l s k + i)
+      → (s : Section) × (k : ℕ) × (i : ℕ) × Reaches l s k
+      × (k < countOf l s) × (i < getD l (placeOf l s k) 0) × (p ≡ placeOf l s k + i)
   pub bytes-behind :
       (fits : ℕ → ℕ → Bool) (l : List ℕ) → headerFault fits l ≡ none → (p : ℕ) → bodyFault l ≡ some (refusal 7 p)
       → Reaches l Constraints (countOf l Constraints) × (p ≡ placeOf l Constraints (countOf l Constraints))
-  pub stop-places : (fits : ℕ → ℕ → Bool) (l : List ℕ) → headerFault fits l ≡ none → (f : Refusal) → bodyFault l ≡ some f → f .place ≤ 55561
+  pub stop-places :
+      (fits : ℕ → ℕ → Bool) (l : List ℕ) → headerFault fits l ≡ none → (f : Refusal) → bodyFault l ≡ some f → f .place ≤ 55561
   pub cut-stops : Stops cutSample (refusal 5 69)
   pub bad-stops : Stops badSample (refusal 6 25)
   pub long-stops : Stops longSample (refusal 7 80)

@@ -22,7 +22,7 @@ use Rattle.format.specs.Format.{limitOf, countOf, kindIn, firstRecord, s
 use Rattle.format.specs.Policy.{recordAt, placeAfter, startOf, placeOf, endOf}
 use Rattle.format.specs.Check.{readOf, readFault, sectionFault, headerFault, bodyFault, Accepted}
 use Rattle.format.specs.Longest.{LongestImage}
-use Rattle.format.specs.Reach.{faultBefore, Reaches, mostPlace, Bounded, PlacesBounded, StopsAt, Stops, StopsReached}
+use Rattle.format.specs.Reach.{faultBefore, Reaches, mostPlace, Bounded, PlacesBounded, Stops, StopsReached}
 use Rattle.format.proofs.Chain.{some-not-none, orElse-split, orElse-none, orElse-refuses, need-refuses}
 use Rattle.format.proofs.ByCase.{groups-kind, rules-kind, constraints-kind}
 use Rattle.format.proofs.Shapes.{Formed, length-cases, shape-kind, stands, read-bad-field}
@@ -201,10 +201,13 @@ module _ (fits : ℕ → ℕ → Bool) (l : List ℕ) (h : headerFault fits l �
   stops : (f : Refusal) → bodyFault l ≡ some f → Stops l f
   unfolding bodyFault endOf
   stops =
-      orElse-refuses (Stops l) (sectionFault l Groups (startOf l Groups) (countOf l Groups)) _ (stops-in Groups (before-groups l))
-      (λ e. orElse-refuses (Stops l) (sectionFault l Rules (startOf l Rules) (countOf l Rules)) _ (stops-in Rules (before-rules l e))
+      orElse-refuses (Stops l) (sectionFault l Groups (startOf l Groups) (countOf l Groups)) _
+      (stops-in Groups (before-groups l))
+      (λ e. orElse-refuses (Stops l) (sectionFault l Rules (startOf l Rules) (countOf l Rules)) _
+      (stops-in Rules (before-rules l e))
       (λ e₁. let b = before-constraints l e e₁ in
-      orElse-refuses (Stops l) (sectionFault l Constraints (startOf l Constraints) (countOf l Constraints)) _ (stops-in Constraints b)
+      orElse-refuses (Stops l) (sectionFault l Constraints (startOf l Constraints) (countOf l Constraints)) _
+      (stops-in Constraints b)
       (λ e₂. let r : Reaches l Constraints (countOf l Constraints) = record { before = b; counted = omega arith; passed = e₂ } in
       need-refuses (Stops l) (leb (length l) (endOf l)) (refusal 7 (endOf l))
       (record {
@@ -224,7 +227,8 @@ module _ (l : List ℕ) (e : Accepted l) where
   none-before : (s : Section) → faultBefore l s ≡ none
   none-before Groups = before-groups l
   none-before Rules = before-rules l (body-sections l (accepted-body l e) Groups)
-  none-before Constraints = before-constraints l (body-sections l (accepted-body l e) Groups) (body-sections l (accepted-body l e) Rules)
+  none-before Constraints =
+      before-constraints l (body-sections l (accepted-body l e) Groups) (body-sections l (accepted-body l e) Rules)
 
   pub accepted-reaches : (s : Section) (k : ℕ) → k ≤ countOf l s → Reaches l s k
   accepted-reaches s k h =

@@ -106,7 +106,8 @@ module _ (l : List ℕ) where
 
       pub constraints-fit : headerFault eqb l ≡ none → (n : ℕ) → n ≡ countOf l Constraints → Fits l Constraints b n
       unfolding startOf
-      constraints-fit h n c = section-fits l Constraints b n h (before-constraints l groups-none (rules-pass .0)) (sym constraints-at) c
+      constraints-fit h n c =
+          section-fits l Constraints b n h (before-constraints l groups-none (rules-pass .0)) (sym constraints-at) c
 
       pub constraints-stop : (f : Refusal) → constraints-walk b ≡ Stop f → bodyFault l ≡ some f
       unfolding bodyFault startOf
