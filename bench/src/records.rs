@@ -25,14 +25,14 @@ pub fn print(cases: &[Case], effort: Effort) {
     }
 }
 
-/// Compares the bytes that are given, and that there is no record behind them; then times.
+/// Compares the records that are given, as parts of the image, and that there is none behind them; then times.
 fn times(case: &Case, section: Section, effort: Effort) -> [f64; 2] {
     let image = case.image.as_slice();
     let count_at = 3 + 2 * section as usize;
     let count = u16::from_be_bytes([image[count_at], image[count_at + 1]]);
     for n in [count - 1, count] {
-        let ours = mungaite::record(image, section, n);
-        let its = hand_written::record(image, section, n).map(|part| &image[part]);
+        let ours = mungaite::record(image, section, n).map(<[u8]>::as_ptr_range);
+        let its = hand_written::record(image, section, n).map(|part| image[part].as_ptr_range());
         if ours != its || ours.is_ok() != (n < count) {
             case.fail(&format!("{section:?} {n}: {ours:?}, and {its:?}"));
         }

@@ -1,7 +1,7 @@
 //! One more record at the end of its section.
 
 use crate::check::check_front;
-use crate::format::{count, count_place, refusal, GROUPS, LIMITS};
+use crate::format::{count, count_place, refusal, GROUPS, HEADER, LIMITS};
 use crate::give::{place_after, records_before};
 use crate::record::{bad_field, section_of};
 use mungaite::Refusal;
@@ -21,7 +21,7 @@ pub fn add(buffer: &mut [u8], record: &[u8]) -> Result<u16, Refusal> {
     if grown > buffer.len() {
         return Err(refusal(13, 0));
     }
-    let at = place_after(buffer, records_before(buffer, section + 1));
+    let at = place_after(buffer, HEADER, records_before(buffer, section + 1));
     buffer.copy_within(at..length, at + record.len());
     buffer[at..at + record.len()].copy_from_slice(record);
     put(buffer, 1, grown as u16);

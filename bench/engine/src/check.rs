@@ -6,6 +6,11 @@ use mungaite::Refusal;
 
 /// Checks a slice that is to be an image, whole.
 pub fn check(image: &[u8]) -> Result<(), Refusal> {
+    starts(image).map(|_| ())
+}
+
+/// The same, with the place where each section starts.
+pub fn starts(image: &[u8]) -> Result<[usize; 3], Refusal> {
     if length_field(image)? != image.len() {
         return Err(refusal(3, 0));
     }
@@ -30,14 +35,14 @@ fn check_counts(image: &[u8]) -> Result<(), Refusal> {
     }
 }
 
-fn check_records(image: &[u8]) -> Result<(), Refusal> {
+fn check_records(image: &[u8]) -> Result<[usize; 3], Refusal> {
     let rules = check_section::<GROUPS>(image, HEADER)?;
     let constraints = check_section::<RULES>(image, rules)?;
     let end = check_section::<CONSTRAINTS>(image, constraints)?;
     if end < image.len() {
         return Err(refusal(7, end));
     }
-    Ok(())
+    Ok([HEADER, rules, constraints])
 }
 
 /// Checks the records of a section that starts at a place and gives its end.

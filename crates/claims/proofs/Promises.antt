@@ -4,6 +4,7 @@ use Rattle.format.proofs.Images as images
 use Rattle.format.proofs.References as references
 use Rattle.format.proofs.Longest as longest
 use Rattle.format.proofs.Reach as reach
+use Rattle.format.proofs.Stops as stops
 use Rattle.format.proofs.Furthest as furthest
 use Rattle.format.proofs.Sample as sample
 use Rattle.extension.proofs.Adds as adds
@@ -133,7 +134,7 @@ promises =
       };
       reaching = record {
         places-bounded = reach.places-bounded;
-        stops-reached = reach.stops-reached;
+        stops-reached = stops.stops-reached;
         bound-reached = furthest.bound-reached;
       };
       printing = record {

@@ -21,7 +21,7 @@ use mathlib.Core.Path.{_≡_}
 use mathlib.Core.Bool.{Bool, true, false}
 use mathlib.Core.Option.{Option, none, some}
 use mathlib.Core.List.{List, [], _∷_, _++_, map, List·Memᴰ}
-use lib.ListN.{length, getD, take, drop, replicate}
+use lib.ListN.{length, getD, take, drop, set, replicate}
 use lib.Dec.{eqb}
 use Rattle.format.specs.declared.Section.{Section}
 use Rattle.format.specs.declared.Section.the-variants.{Groups, Rules, Constraints}
@@ -108,15 +108,15 @@ left text b = built text b .buffer
 abbrev pub outsideBehind : ℕ → List ℕ
 outsideBehind n = replicate n 10 ++ (10 ∷ ascii "x")
 
--- the sample without its last byte, with one byte more, and with a condition that is none; each with a length field that says so
+-- the sample without its last byte and with one byte more, with length fields that say so; with a condition that is none
 abbrev pub cutSample : List ℕ
-cutSample = 1 ∷ 0 ∷ 79 ∷ take 76 (drop 3 sample)
+cutSample = take 79 (set sample 2 79)
 
 abbrev pub longSample : List ℕ
-longSample = 1 ∷ 0 ∷ 81 ∷ drop 3 sample ++ (0 ∷ [])
+longSample = set sample 2 81 ++ (0 ∷ [])
 
 abbrev pub badSample : List ℕ
-badSample = take 25 sample ++ (34 ∷ drop 26 sample)
+badSample = set sample 25 34
 
 -- a length field of 8, and more
 abbrev pub tooShort : List ℕ

@@ -23,11 +23,11 @@ use Rattle.format.specs.Longest.{longestLength}
 use Rattle.format.specs.Reach.{StopsAt}
 use Rattle.format.proofs.Chain.{orElse-refuses, need-refuses}
 use Rattle.format.proofs.ByCase.{count-place-most}
-use Rattle.format.proofs.Reach.{stops-reached}
+use Rattle.format.proofs.Stops.{stops-reached}
 use Rattle.format.proofs.Front.{leading-check}
 
 -- a refusal of the check, with its place no further than n
-abbrev pub Near : ℕ → Refusal → Type 0
+abbrev Near : ℕ → Refusal → Type 0
 Near n f = (f .number ≤ 7) × (f .place ≤ n)
 
 -- ---- the header: the place is 0, 3, 5 or 7
@@ -57,14 +57,14 @@ stop-number l s k f =
     ⊎-elim (λ e. known-number 5 _ f (e .1) (omega arith))
     (⊎-elim (λ e. known-number 6 _ f (e .1 .2) (omega arith)) (λ e. known-number 7 _ f (e .2) (omega arith)))
 
-pub check-small : (l : List ℕ) (f : Refusal) → check l ≡ some f → Near longestLength f
+pub check-small : (l : List ℕ) (f : Refusal) → check l ≡ some f → (f .number ≤ 7) × (f .place ≤ longestLength)
 unfolding check
 check-small l =
     orElse-refuses (Near longestLength) (headerFault eqb l) (bodyFault l)
     (λ f e. let q = header-refused eqb l f e in (q .0, omega (arith, q .1)))
     (λ h f e. let q = stops-reached eqb l h f e in (stop-number l _ _ f (q .place), q .whole))
 
-pub front-small : (b : List ℕ) (f : Refusal) → checkFront b ≡ some f → Near longestLength f
+pub front-small : (b : List ℕ) (f : Refusal) → checkFront b ≡ some f → (f .number ≤ 7) × (f .place ≤ longestLength)
 front-small b f e = check-small (leading b) f (leading-check b ∙ e)
 
 pub give-refused : (l : List ℕ) (s : Section) (n : ℕ) (f : Refusal) → giveFault l s n ≡ some f → (check l ≡ some f) ⊎ (f ≡ refusal 14 0)

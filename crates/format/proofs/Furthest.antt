@@ -3,7 +3,7 @@ use Prim.Native.Nat.{ℕ, zero, suc, _+_, _*_, _≤_, _<_}
 use mathlib.Core.Path.{_≡_, refl, sym, ap, _∙_}
 use mathlib.Core.List.{List, []}
 use native.Mathlib.Omega.{arith}
-use lib.ListN.{length, getD, replicate}
+use lib.ListN.{length, getD, getD-replicate}
 use lib.Dec.{eqb}
 use Rattle.format.specs.declared.Section.{Section}
 use Rattle.format.specs.declared.Section.the-variants.{Groups, Rules, Constraints}
@@ -24,16 +24,11 @@ nth-group zero k h = absurd (omega arith)
 nth-group (suc n) zero h = group-length n
 nth-group (suc n) (suc k) h = nth-group n k (omega arith)
 
-nth-same : (n k : ℕ) (r : List ℕ) → k < n → getD (replicate n r) k [] ≡ r
-nth-same zero k r h = absurd (omega arith)
-nth-same (suc n) zero r h = refl
-nth-same (suc n) (suc k) r h = nth-same n k r (omega arith)
-
 nth-length : (s : Section) (k : ℕ) → k < limitOf s → length (getD (recordsOf longest s) k []) ≡ longestOf s
 unfolding recordsOf limitOf longest longestOf
 nth-length Groups k h = nth-group 256 k h
-nth-length Rules k h = ap length (nth-same 1024 k longRule h) ∙ rule-length
-nth-length Constraints k h = ap length (nth-same 256 k longConstraint h) ∙ constraint-length
+nth-length Rules k h = ap length (getD-replicate 1024 k longRule [] h) ∙ rule-length
+nth-length Constraints k h = ap length (getD-replicate 256 k longConstraint [] h) ∙ constraint-length
 
 -- records that are each just so long
 place-even : (l : List ℕ) (at c n : ℕ) → ((k : ℕ) → k < n → getD l (placeAfter l at k) 0 ≡ c) → placeAfter l at n ≡ at + c * n

@@ -6,6 +6,7 @@ pub mod Shapes
 pub mod Records
 pub mod Accepted
 pub mod Reach
+pub mod Stops
 pub mod Front
 pub mod Fields
 pub mod Images

@@ -1,4 +1,5 @@
 -- The longest image that the limits allow is accepted: claim LongestReached. Assumes nothing.
+--     group-length, rule-length, constraint-length   how long its records are
 --     longest-full       each section has as many records as it may
 --     longest-sound      the policy `longest` passes the check's tests
 use Prim.Native.Nat.{ℕ, zero, suc, _+_, _*_, _≤_, _<_}

@@ -5,6 +5,7 @@
 --     mostPlace s k        the furthest place past k records of a section: records of 130, 11 and 43 bytes, behind full sections
 --     Bounded l s k        the place past k records of a section is at most that, and at most 55,561
 --     PlacesBounded        each place that a walk reaches is so
+--     StopsAt l s k f      the refusal f stands at record k of a section, at a field of it, or past the last record of all
 --     Stops l f            a refusal at a place that a walk reaches, or at a field of the record there; at most 55,561
 --     StopsReached         each refusal of the records is so
 --     BoundReached         the longest image reaches each of these places, and 55,561 past its last record
@@ -43,7 +44,7 @@ mostPlace Groups k = headerLength + 130 * k
 mostPlace Rules k = headerLength + 130 * 256 + 11 * k
 mostPlace Constraints k = headerLength + 130 * 256 + 11 * 1024 + 43 * k
 
--- with the length byte of the record there, which may yet be refused, it still fits 16 bits
+-- with the byte there added, the next record's length byte where one follows, it still fits 16 bits
 pub record Bounded (l : List ℕ) (s : Section) (k : ℕ) : Type 0 where
   pub by-section : placeOf l s k ≤ mostPlace s k
   pub whole : placeOf l s k ≤ longestLength

@@ -147,8 +147,8 @@ module _ (l : List ℕ) where
   start-in Rules = refl
   start-in Constraints = refl
 
-  pub start-most : Accepted l → (s : Section) → startOf l s ≤ 55561
-  start-most e s = rw (place-first l s) at (accepted-bounded l e s 0 (omega arith) .whole)
+  pub start-fits : Accepted l → (s : Section) → startOf l s ≤ 55561
+  start-fits e s = rw (place-first l s) at (accepted-bounded l e s 0 (omega arith) .whole)
 
   module _ (s : Section) (n : ℕ) where
     pub give-refused : (f : Refusal) → check l ≡ some f → giveFault l s n ≡ some f

@@ -39,7 +39,8 @@ fn note(places: &mut [u16], k: usize, at: u16)
 }
 
 // The records of a section, so many of them from a place on, in an image with so many groups. The place of each record
-// that the walk comes to is noted.
+// that the walk comes to is noted. With the place goes the part of the image that starts there: it is what the record reader
+// is handed.
 fn walk(
     image: &[u8],
     groups: usize,

@@ -44,7 +44,8 @@ fn start_in(starts: Starts, section: Section) -> usize
     }
 }
 
-// The place past so many records, from a place on: from each length byte to the next, in 16 bits.
+// The place past so many records, from a place on: from each length byte to the next. With the place goes the part of the image
+// that starts there.
 fn place_after(image: &[u8], from: u16, count: usize) -> u16
     requires { ⌜ Hops (now image) from count ⌝ }
     ensures { λ r. ⌜ r ≡ placeAfter (now (image .entry)) from count ⌝ }

@@ -7,7 +7,7 @@
 --     Walks, ChecksBody, Checks   what a walk, the check of the body and the whole check answer, and the table before and after
 --     endsOf l r c e       refusal 7, for records that end at e
 --     startIn y s          where a section starts
---     Hops l at n          the first n length bytes from a place on lie in the image, and so do the records, up to 55,561 at most
+--     Hops l at n          the first n length bytes from a place on, and the records, lie in the image; no place is above 55,561
 use Prim.Native.Nat.{ℕ, zero, suc, _+_, _≤_, _<_}
 use mathlib.Core.Path.{_≡_}
 use mathlib.Core.Option.{Option, none, some}

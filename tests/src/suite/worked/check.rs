@@ -73,6 +73,7 @@ pub const ROWS: &[Row] = &[
     // may lie behind that up to 65,535, which the length field can say.
     ("the longest image", || longest_and(0), Ok(())),
     ("the longest image and a byte", || longest_and(1), no(7, 55_561)),
+    ("the longest image and a byte of 255", || with(&longest_and(1), &[(55_561, 255)]), no(7, 55_561)),
     ("the longest image and bytes up to 65,535", || longest_and(9_974), no(7, 55_561)),
     ("the longest image, its last constraint of length 45, and bytes", || with(&longest_and(9_974), &[(55_518, 45)]), no(5, 55_518)),
     ("the longest image, its last constraint of length 255, and bytes", || with(&longest_and(9_974), &[(55_518, 255)]), no(5, 55_518)),

@@ -11,7 +11,7 @@ use Rattle.format.specs.Answers.{sectionsOutcome, starts}
 use Rattle.format.proofs.Chain.{outcome-gives, outcome-refused}
 use Rattle.format.proofs.Accepted.{accepted-header}
 use Rattle.image.specs.Inner.Walk.{startIn}
-use Rattle.image.proofs.BodyLaws.{start-in, start-most, give-refused, give-past, place-byte, extent-is, hops}
+use Rattle.image.proofs.BodyLaws.{start-in, start-fits, give-refused, give-past, place-byte, extent-is, hops}
 use borrow.Author.Needs.{needs}
 use Rattle.image.proofs.give.find.Statement.{statement}
 use Rattle.image.proofs.give.find.Tie as tie
@@ -68,7 +68,7 @@ returns c =
     rw (give-past (now (a .image)) (a .section) (a .n) (accepted d .0) (omega (arith, c .before .count-in .ensures)))
 
 narrow-requires : tie.Need-narrow-requires
-narrow-requires c κs = omega (arith, started c, start-most _ (accepted (told (c .before)) .0) (begun c .args .section))
+narrow-requires c κs = omega (arith, started c, start-fits _ (accepted (told (c .before)) .0) (begun c .args .section))
 
 place-after-requires : tie.Need-place-after-requires
 place-after-requires c κs =
