@@ -4,24 +4,21 @@ use mathlib.Core.Path.{_≡_, refl, sym, ap, _∙_}
 use mathlib.Core.Bool.{Bool, Bool·beq, true, false, not, _&&_, _||_}
 use mathlib.Core.List.{List, [], _∷_}
 use native.Mathlib.Omega.{arith}
-use lib.ListN.{getD, replicate}
+use lib.ListN.{getD}
 use lib.Dec.{eqb}
 use borrow.Author.Tests.{eq-eqb, ne-eqb}
-use Rattle.format.specs.declared.Section.the-variants.{Groups}
 use Rattle.format.specs.Bytes.{wordAt}
-use Rattle.format.specs.Format.{countOf}
 use Rattle.format.specs.Policy.{policyOf}
 use Rattle.format.specs.Check.{Accepted}
-use Rattle.format.specs.Claims.{IsType}
 use Rattle.format.specs.Inner.Places.{wordsAt, ConstraintAt}
 use Rattle.format.proofs.Shapes.{stands-word}
-use Rattle.decision.specs.Sets.{anyOf, allOf, isIn, setOf, unionOf, within, touches, sameSet}
+use Rattle.decision.specs.Sets.{anyOf, allOf, isIn, setOf, unionOf, within, touches}
 use Rattle.decision.specs.declared.Query.{Query}
 use Rattle.decision.specs.Reading.{Rule, Constraint, constraintOf, requestOf}
 use Rattle.decision.proofs.Search.{anyOf-same}
 use Rattle.decision.specs.Decide.{reaches, separationBroken, rosterBroken, companionBroken, broken, applies, inside, fails}
 use Rattle.decide.specs.Inner.Parts.{groupsIn, rulesIn, requestIn, setIn, setAt}
-use Rattle.decide.specs.Inner.Marks.{markAll, anyIs}
+use Rattle.decide.specs.Inner.Marks.{noMarks, markAll, anyIs}
 use Rattle.decide.specs.Inner.Rules.{reaching, reachingFrom, sharesSource}
 use Rattle.decide.proofs.TypeLaws.{set-rising}
 use Rattle.decide.proofs.MarkedLaws.{Small, rising-small, marked-blank}
@@ -31,13 +28,8 @@ use Rattle.decide.proofs.MarkedLaws.{Small, rising-small, marked-blank}
 pub record Marks (S : List ℕ) (ms : List Bool) : Type 0 where
   pub is : (m : ℕ) → getD ms m false ≡ isIn m S
 
-pub marks-small : (S U : List ℕ) (ms : List Bool) → Small U → S ≡ U → ms ≡ markAll (replicate 1024 false) U → Marks S ms
+pub marks-small : (S U : List ℕ) (ms : List Bool) → Small U → S ≡ U → ms ≡ markAll noMarks U → Marks S ms
 marks-small S U ms s e f = record { is = λ m. ap (λ x. getD x m false) f ∙ marked-blank U m s ∙ ap (isIn m) (sym e) }
-
-pub marks-type :
-    (l S : List ℕ) (ms : List Bool) (w t : ℕ) → Accepted l → IsType (countOf l Groups) w → t ≡ w → S ≡ setIn l w → ms ≡ markAll (replicate 1024 false) (setIn l t) → Marks S ms
-marks-type l S ms w t c ok is e f =
-    marks-small S (setIn l w) ms (rising-small 0 _ (set-rising l w c ok)) e (f ∙ ap (λ x. markAll (replicate 1024 false) (setIn l x)) is)
 
 beq-true : (b : Bool) → Bool·beq b true ≡ b
 beq-true true = refl
@@ -74,8 +66,8 @@ module _ (l : List ℕ) (C : Constraint) where
       → anyOf (reachingFrom first (sharesSource l second)) (rulesIn l) ≡ separationBroken (rulesIn l) C
   unfolding separationBroken sharesSource
   separation-is first second k h =
-      reaching-all (C .first) first k _ (λ X. anyOf (λ b. reaches (C .second) b && sameSet X (b .source)) (rulesIn l))
-      (λ X. reaching-all (C .second) second h (sameSet X) (sameSet X) (λ Y. refl) (rulesIn l))
+      reaching-all (C .first) first k _ (λ X. anyOf (λ b. reaches (C .second) b && touches X (b .source)) (rulesIn l))
+      (λ X. reaching-all (C .second) second h (touches X) (touches X) (λ Y. refl) (rulesIn l))
       (rulesIn l)
 
   pub roster-is : (second list : List Bool) → Marks (C .second) second → Marks (C .list) list → anyOf (reachingFrom second (anyIs list false)) (rulesIn l) ≡ rosterBroken (rulesIn l) C
@@ -112,6 +104,15 @@ module _ (l : List ℕ) (at : ℕ) (r : List ℕ) (h : ConstraintAt l at r) wher
   pub list-is : (n : ℕ) → n ≡ getD l at 0 → constraintOf (policyOf l) r .list ≡ unionOf (groupsIn l) (wordsAt l ((n - 11) / 2) (at + 11))
   unfolding constraintOf
   list-is n e = rw e (ap (unionOf (groupsIn l)) (h .list))
+
+  -- ---- the marks of its arguments
+
+  module _ (c : Accepted l) (ms : List Bool) where
+    pub marks-first : ms ≡ markAll noMarks (setAt l (at + 6)) → Marks (constraintOf (policyOf l) r .first) ms
+    marks-first = marks-small _ (setAt l (at + 6)) ms (rising-small 0 _ (set-rising l _ c (h .first))) first-is
+
+    pub marks-second : ms ≡ markAll noMarks (setAt l (at + 8)) → Marks (constraintOf (policyOf l) r .second) ms
+    marks-second = marks-small _ (setAt l (at + 8)) ms (rising-small 0 _ (set-rising l _ c (h .second))) second-is
 
 -- ---- the predicate
 

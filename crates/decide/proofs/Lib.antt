@@ -11,9 +11,7 @@ pub mod WalkLaws
 pub mod RuleLaws
 pub mod CoverLaws
 pub mod NearerLaws
-pub mod CompareLaws
-pub mod NameLaws
-pub mod TableLaws
+pub mod SourceLaws
 pub mod ConstraintLaws
 pub mod EngineLaws
 pub mod RowLaws

@@ -1,7 +1,7 @@
 -- Laws of walks over the members of a part of the image, one for each way that a turn goes. Assumes nothing.
 use Prim.Native.Nat.{ℕ, suc, _+_, _≤_, _<_}
-use mathlib.Core.Path.{_≡_}
-use mathlib.Core.Bool.{Bool, Bool·beq, true, false}
+use mathlib.Core.Path.{_≡_, sym, ap, _∙_}
+use mathlib.Core.Bool.{Bool, Bool·beq, true, false, or-true, or-false, _||_}
 use mathlib.Core.List.{List, [], _∷_}
 use native.Mathlib.Omega.{arith}
 use lib.ListN.{getD, set}
@@ -10,7 +10,7 @@ use Rattle.format.specs.Inner.Places.{wordsAt, Rising}
 use Rattle.format.proofs.Fields.{rising-nil, rising-cons, rising-parts}
 use Rattle.format.proofs.Places.{words-at-none, words-at-next}
 use Rattle.decision.specs.Sets.{anyOf}
-use Rattle.decide.specs.Inner.Marks.{markAll, anyIs, tallied}
+use Rattle.decide.specs.Inner.Marks.{markAll, anyIs, anyMarked, tallied}
 
 -- a rising list is rising from a lower bound too
 pub rising-lower : (low k : ℕ) (ms : List ℕ) → k ≤ low → Rising low ms → Rising k ms
@@ -66,3 +66,15 @@ hits-on hits a b e f g = omega arith
 
 pub hits-off : {total : ℕ} (hits : ℕ) {more : ℕ} (a b : ℕ) → total ≡ hits + a → a ≡ b → more ≡ hits → total ≡ more + b
 hits-off hits a b e f g = omega arith
+
+-- whether there are any: what was found before, or is found in what is left
+module _ {total : Bool} (ms : List Bool) (l : List ℕ) (at n : ℕ) (a : Bool) (sum : total ≡ a || anyMarked ms (wordsAt l n at)) where
+  pub found-end : n ≡ 0 → total ≡ a
+  found-end e = sum ∙ ap (λ b. a || b) (is-end ms l at n true e) ∙ or-false a
+
+  module _ (k : ℕ) (more : n ≡ suc k) (t : ℕ) (is : t ≡ wordAt l at) {b : Bool} where
+    pub found-yes : getD ms t false ≡ true → b ≡ true → total ≡ b || anyMarked ms (wordsAt l k (at + 2))
+    found-yes y e = sum ∙ ap (λ x. a || x) (is-yes ms l at n k more t is true (ap (λ x. Bool·beq x true) y)) ∙ or-true a ∙ ap (λ x. x || anyMarked ms (wordsAt l k (at + 2))) (sym e)
+
+    pub found-no : getD ms t false ≡ false → b ≡ a → total ≡ b || anyMarked ms (wordsAt l k (at + 2))
+    found-no y e = sum ∙ ap (λ x. a || x) (is-no ms l at n k more t is true (ap (λ x. Bool·beq x true) y)) ∙ ap (λ x. x || anyMarked ms (wordsAt l k (at + 2))) (sym e)

@@ -5,5 +5,5 @@ pub mod Kept
 pub mod Walks
 pub mod Rules
 pub mod Nearer
-pub mod Names
+pub mod Sources
 pub mod Steps

@@ -4,8 +4,8 @@ use crate::kept::inside;
 use crate::kept::keep;
 use crate::predicates::any_rule;
 use crate::separation::any_shared;
-use crate::sets::mark_type;
 use crate::sets::mark_types;
+use crate::sets::marks_at;
 use crate::word::wide;
 use crate::word::wide_word;
 use crate::word::word_in;
@@ -15,26 +15,17 @@ use format::header;
 ghost use mathlib.Core.Path.{_≡_};
 ghost use Rattle.decision.specs.Decide.{separationBroken, rosterBroken, companionBroken, broken, fails};
 ghost use Rattle.decide.specs.Inner.Parts.{Ready, ConstraintHere, NthConstraint, rulesIn, constraintIn, requestIn};
-ghost use Rattle.decide.specs.Inner.Kept.{Sides, KeptNames, KeptVerdicts, KeptPolicy, Leaves};
+ghost use Rattle.decide.specs.Inner.Kept.{Sides, KeptVerdicts, Leaves};
 ghost use Rattle.decide.specs.Inner.Rules.{firstConstraint};
 
 // Whether the separation at a place is broken.
-fn separation_broken(
-    image: &[u8],
-    groups: &[u16; 256],
-    s: Starts,
-    at: usize,
-    names: &mut [u16; 256],
-) -> bool
-    requires { ⌜ Ready (now image) (now groups) s × ConstraintHere (now image) at × KeptNames (now image) (now names) ⌝ }
-    ensures { λ r. ⌜ Leaves (separationBroken (rulesIn (now (image .entry))) (constraintIn (now (image .entry)) at))
-        (KeptNames (now (image .entry)) (now (names .exit))) r ⌝ }
+fn separation_broken(image: &[u8], groups: &[u16; 256], s: Starts, at: usize) -> bool
+    requires { ⌜ Ready (now image) (now groups) s × ConstraintHere (now image) at ⌝ }
+    ensures { λ r. ⌜ r ≡ separationBroken (rulesIn (now (image .entry))) (constraintIn (now (image .entry)) at) ⌝ }
 {
-    let mut first = [false; 1024];
-    mark_type(image, groups, word_in(image, at + 6), &mut first);
-    let mut second = [false; 1024];
-    mark_type(image, groups, word_in(image, at + 8), &mut second);
-    any_shared(image, groups, s, &first, &second, names)
+    let first = marks_at(image, groups, at + 6);
+    let second = marks_at(image, groups, at + 8);
+    any_shared(image, groups, s, &first, &second)
 }
 
 // Whether the roster at a place is broken: a rule reaches its second argument from off its list.
@@ -42,8 +33,7 @@ fn roster_broken(image: &[u8], groups: &[u16; 256], s: Starts, at: usize) -> boo
     requires { ⌜ Ready (now image) (now groups) s × ConstraintHere (now image) at ⌝ }
     ensures { λ r. ⌜ r ≡ rosterBroken (rulesIn (now (image .entry))) (constraintIn (now (image .entry)) at) ⌝ }
 {
-    let mut second = [false; 1024];
-    mark_type(image, groups, word_in(image, at + 8), &mut second);
+    let second = marks_at(image, groups, at + 8);
     let mut list = [false; 1024];
     let types = (wide(image[at]) - 11) / 2;
     mark_types(image, groups, at + 11, types, &mut list);
@@ -55,29 +45,20 @@ fn companion_broken(image: &[u8], groups: &[u16; 256], s: Starts, at: usize) -> 
     requires { ⌜ Ready (now image) (now groups) s × ConstraintHere (now image) at ⌝ }
     ensures { λ r. ⌜ r ≡ companionBroken (rulesIn (now (image .entry))) (constraintIn (now (image .entry)) at) ⌝ }
 {
-    let mut first = [false; 1024];
-    mark_type(image, groups, word_in(image, at + 6), &mut first);
-    let mut second = [false; 1024];
-    mark_type(image, groups, word_in(image, at + 8), &mut second);
+    let first = marks_at(image, groups, at + 6);
+    let second = marks_at(image, groups, at + 8);
     !any_rule(image, groups, s, &first, &second, true)
 }
 
 // Whether the predicate of the constraint at a place is broken: ban, separation, roster or companion. An accepted constraint
 // has no other number.
-fn predicate_broken(
-    image: &[u8],
-    groups: &[u16; 256],
-    s: Starts,
-    at: usize,
-    names: &mut [u16; 256],
-) -> bool
-    requires { ⌜ Ready (now image) (now groups) s × ConstraintHere (now image) at × KeptNames (now image) (now names) ⌝ }
-    ensures { λ r. ⌜ Leaves (broken (rulesIn (now (image .entry))) (constraintIn (now (image .entry)) at))
-        (KeptNames (now (image .entry)) (now (names .exit))) r ⌝ }
+fn predicate_broken(image: &[u8], groups: &[u16; 256], s: Starts, at: usize) -> bool
+    requires { ⌜ Ready (now image) (now groups) s × ConstraintHere (now image) at ⌝ }
+    ensures { λ r. ⌜ r ≡ broken (rulesIn (now (image .entry))) (constraintIn (now (image .entry)) at) ⌝ }
 {
     match image[at + 10] {
         0 => true,
-        1 => separation_broken(image, groups, s, at, names),
+        1 => separation_broken(image, groups, s, at),
         2 => roster_broken(image, groups, s, at),
         3 => companion_broken(image, groups, s, at),
         _ => false,
@@ -99,14 +80,13 @@ fn constraint_fails(
     at: usize,
     ksource: &mut [u8; 256],
     kdest: &mut [u8; 256],
-    names: &mut [u16; 256],
     verdicts: &mut [u8; 256],
 ) -> bool
     requires { ⌜ Ready (now image) (now groups) s × Sides (now image) q (now source) sources (now dest) dests (now ksource) (now kdest)
-        × NthConstraint (now image) n at × KeptPolicy (now image) (now names) (now verdicts) ⌝ }
+        × NthConstraint (now image) n at × KeptVerdicts (now image) (now verdicts) ⌝ }
     ensures { λ r. ⌜ Leaves (fails (rulesIn (now (image .entry))) (requestIn (now (image .entry)) q) (constraintIn (now (image .entry)) at))
         (Sides (now (image .entry)) q (now (source .entry)) sources (now (dest .entry)) dests (now (ksource .exit)) (now (kdest .exit))
-        × KeptPolicy (now (image .entry)) (now (names .exit)) (now (verdicts .exit))) r ⌝ }
+        × KeptVerdicts (now (image .entry)) (now (verdicts .exit))) r ⌝ }
 {
     if word_in(image, at + 2) != wide_word(q.class) {
         return false;
@@ -124,7 +104,7 @@ fn constraint_fails(
     if 0 < k {
         return k == 2;
     }
-    let found = predicate_broken(image, groups, s, at, names);
+    let found = predicate_broken(image, groups, s, at);
     keep(verdicts, n, found)
 }
 
@@ -147,7 +127,6 @@ pub(crate) fn first_constraint(
     ensures { λ r. ⌜ Leaves (firstConstraint (now (image .entry)) q) (KeptVerdicts (now (image .entry)) (now (verdicts .exit))) r ⌝ }
 {
     let count = word_in(image, header::CONSTRAINTS_AT);
-    let mut names = [0u16; 256];
     let mut at = s.constraints;
     let mut n: usize = 0;
     while n < count {
@@ -164,7 +143,6 @@ pub(crate) fn first_constraint(
             at,
             ksource,
             kdest,
-            &mut names,
             verdicts,
         ) {
             return Found::At(n);

@@ -10,7 +10,7 @@ ghost use lib.ListN.{set};
 ghost use Rattle.format.specs.declared.Section.the-variants.{Groups};
 ghost use Rattle.format.specs.Format.{countOf};
 ghost use Rattle.decide.specs.Inner.Parts.{Known, TypeAt, setAt, groupSet};
-ghost use Rattle.decide.specs.Inner.Marks.{Basic, anyIs, fullyMarked};
+ghost use Rattle.decide.specs.Inner.Marks.{Basic, anyIs, anyMarked, fullyMarked};
 ghost use Rattle.decide.specs.Inner.Kept.{bit, KeptTest, Side, Leaves, outsideIn, keepOutside};
 
 // Keeps what was found of a number, 1 for no and 2 for yes, and answers it.
@@ -120,4 +120,52 @@ pub(crate) fn meets(
     let s = group_span(image, groups, g);
     let found = any_is(image, s.from, s.count, marks, value);
     keep(kept, g, found)
+}
+
+// Finds and keeps, of the destination of a live rule at a place, where it is a group of which nothing is kept yet, whether it meets
+// the one marks, and the other. It is walked once for both, and to the end, as most groups miss one of them.
+pub(crate) fn meet_each(
+    image: &[u8],
+    groups: &[u16; 256],
+    at: usize,
+    live: bool,
+    first: &[bool; 1024],
+    second: &[bool; 1024],
+    kf: &mut [u8; 256],
+    ks: &mut [u8; 256],
+)
+    requires { ⌜ Known (now image) (now groups) × TypeAt (now image) (at + 4)
+        × KeptTest (anyMarked (now first)) (now image) (now kf) × KeptTest (anyMarked (now second)) (now image) (now ks) ⌝ }
+    ensures { λ _. ⌜ KeptTest (anyMarked (now (first .entry))) (now (image .entry)) (now (kf .exit))
+        × KeptTest (anyMarked (now (second .entry))) (now (image .entry)) (now (ks .exit)) ⌝ }
+{
+    if !live {
+        return;
+    }
+    let t = word_in(image, at + 4);
+    if t < 32768 {
+        return;
+    }
+    let g = t - 32768;
+    if 0 < kf[g] {
+        return;
+    }
+    let s = group_span(image, groups, g);
+    let mut m = s.from;
+    let mut left = s.count;
+    let mut a = false;
+    let mut b = false;
+    while 0 < left {
+        let x = word_in(image, m);
+        if first[x] {
+            a = true;
+        }
+        if second[x] {
+            b = true;
+        }
+        m += 2;
+        left -= 1;
+    }
+    keep(kf, g, a);
+    keep(ks, g, b);
 }

@@ -7,10 +7,8 @@ mod within; // within.rt: whether a type of the query is within the members of a
 mod kept; // kept.rt: the same for the type in a field, with what is found of a group kept
 mod sets; // sets.rt: the sets of types, as marks
 mod rules; // rules.rt: the rule at a place
-mod compare; // compare.rt: two lists of members that are the same
-mod names; // names.rt: names of sets, the same for types that stand for the same set
-mod predicates; // predicates.rt: what a roster and a companion ask of the rules
-mod separation; // separation.rt: what a separation asks of the rules
+mod predicates; // predicates.rt: rules that reach an argument, and what a roster and a companion ask of their sources
+mod separation; // separation.rt: what a separation asks of them
 mod cover; // cover.rt: the lowest rule that covers a query
 mod passes; // passes.rt: how many steps a rule passes
 mod nearest; // nearest.rt: the rule that came nearest to a query that none covers

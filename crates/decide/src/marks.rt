@@ -3,7 +3,7 @@ use crate::word::word_in;
 ghost use mathlib.Core.Path.{_≡_};
 ghost use Prim.Native.Nat.{_+_, _*_, _≤_};
 ghost use lib.ListN.{length};
-ghost use Rattle.decide.specs.Inner.Marks.{markAll, anyIs, fullyMarked};
+ghost use Rattle.decide.specs.Inner.Marks.{markAll, anyIs, fullyMarked, bothBelow};
 ghost use Rattle.format.specs.Inner.Places.{wordsAt, Rising};
 
 // Marks the members of a part.
@@ -66,4 +66,22 @@ pub(crate) fn fully_marked(
         left -= 1;
     }
     hits == size
+}
+
+// Whether a number is marked in both. It walks to the end and reads both marks, so that several numbers are looked at at once.
+pub(crate) fn any_both(a: &[bool; 1024], b: &[bool; 1024]) -> bool
+    ensures { λ r. ⌜ r ≡ bothBelow (now (a .entry)) (now (b .entry)) 1024 ⌝ }
+{
+    let mut found = false;
+    let mut i: usize = 0;
+    while i < 1024 {
+        let x = a[i];
+        if b[i] == x {
+            if x {
+                found = true;
+            }
+        }
+        i += 1;
+    }
+    found
 }

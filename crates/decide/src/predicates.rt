@@ -1,4 +1,5 @@
-// What a roster and a companion ask of the rules: live ones alone, of every class and action.
+// What predicates ask of the rules: live ones alone, of every class and action. A roster and a companion ask whether there is one
+// that reaches an argument, and what its source is.
 use crate::kept::meets;
 use crate::rules::is_live;
 use crate::rules::past;
@@ -8,39 +9,30 @@ use format::header;
 ghost use mathlib.Core.Path.{_≡_};
 ghost use Rattle.decision.specs.Sets.{anyOf};
 ghost use Rattle.decide.specs.Inner.Parts.{Ready, rulesIn, ruleIn};
-ghost use Rattle.decide.specs.Inner.Marks.{anyIs};
-ghost use Rattle.decide.specs.Inner.Kept.{KeptReach, Leaves};
-ghost use Rattle.decide.specs.Inner.Rules.{AtRule, reachingFrom};
+ghost use Rattle.decide.specs.Inner.Marks.{anyIs, anyMarked};
+ghost use Rattle.decide.specs.Inner.Kept.{KeptTest, Leaves};
+ghost use Rattle.decide.specs.Inner.Rules.{AtRule, reaching, reachingFrom};
 
-// Whether the rule at a place is live, its destination has a member that is marked in `reach`, and its source has one whose mark
-// in `source` is the value.
-fn reaches_from(
+// Whether the rule at a place is live and its destination has a member that is marked.
+pub(crate) fn reaches(
     image: &[u8],
     groups: &[u16; 256],
     at: usize,
     live: bool,
     reach: &[bool; 1024],
-    source: &[bool; 1024],
-    value: bool,
     kreach: &mut [u8; 256],
-    ksource: &mut [u8; 256],
 ) -> bool
-    requires { ⌜ AtRule (now image) (now groups) at live
-        × KeptReach (now image) (now reach) (anyIs (now source) value) (now kreach) (now ksource) ⌝ }
-    ensures { λ r. ⌜ Leaves (reachingFrom (now (reach .entry)) (anyIs (now (source .entry)) value) (ruleIn (now (image .entry)) at))
-        (KeptReach (now (image .entry)) (now (reach .entry)) (anyIs (now (source .entry)) value)
-        (now (kreach .exit)) (now (ksource .exit))) r ⌝ }
+    requires { ⌜ AtRule (now image) (now groups) at live × KeptTest (anyMarked (now reach)) (now image) (now kreach) ⌝ }
+    ensures { λ r. ⌜ Leaves (reaching (now (reach .entry)) (ruleIn (now (image .entry)) at))
+        (KeptTest (anyMarked (now (reach .entry))) (now (image .entry)) (now (kreach .exit))) r ⌝ }
 {
     if !live {
         return false;
     }
-    if !meets(image, groups, at + 4, reach, true, kreach) {
-        return false;
-    }
-    meets(image, groups, at + 2, source, value, ksource)
+    meets(image, groups, at + 4, reach, true, kreach)
 }
 
-// Whether there is such a rule.
+// Whether there is such a rule whose source has a member with a mark of the value in `source`.
 pub(crate) fn any_rule(
     image: &[u8],
     groups: &[u16; 256],
@@ -59,18 +51,10 @@ pub(crate) fn any_rule(
     let mut n: usize = 0;
     while n < count {
         let live = is_live(image, at);
-        if reaches_from(
-            image,
-            groups,
-            at,
-            live,
-            reach,
-            source,
-            value,
-            &mut kreach,
-            &mut ksource,
-        ) {
-            return true;
+        if reaches(image, groups, at, live, reach, &mut kreach) {
+            if meets(image, groups, at + 2, source, value, &mut ksource) {
+                return true;
+            }
         }
         at = past(image, at, live);
         n += 1;

@@ -9,9 +9,10 @@ ghost use Rattle.format.specs.Format.{countOf};
 ghost use Rattle.format.specs.Claims.{IsType};
 ghost use Rattle.format.specs.Inner.Places.{wordsAt};
 ghost use Rattle.decision.specs.Sets.{unionOf};
-ghost use Rattle.decide.specs.Inner.Parts.{Known, TypesAt, groupsIn, setIn};
-ghost use Rattle.decide.specs.Inner.Marks.{Basic, markAll};
+ghost use Rattle.decide.specs.Inner.Parts.{Known, TypeAt, TypesAt, groupsIn, setIn, setAt};
+ghost use Rattle.decide.specs.Inner.Marks.{Basic, noMarks, markAll};
 ghost use Rattle.decide.specs.Inner.Kept.{Unmarks};
+ghost use Rattle.decide.specs.Inner.Sources.{Joined, has, Marking};
 
 // Marks the basic types of a type, and tells how many they are.
 pub(crate) fn mark_type(
@@ -31,6 +32,42 @@ pub(crate) fn mark_type(
     let s = group_span(image, groups, t - 32768);
     mark(image, s.from, s.count, marks);
     s.count
+}
+
+// The marks of the type in the field at a place.
+pub(crate) fn marks_at(image: &[u8], groups: &[u16; 256], at: usize) -> [bool; 1024]
+    requires { ⌜ Known (now image) (now groups) × TypeAt (now image) at ⌝ }
+    ensures { λ r. ⌜ r ≡ markAll noMarks (setAt (now (image .entry)) at) ⌝ }
+{
+    let mut marks = [false; 1024];
+    mark_type(image, groups, word_in(image, at), &mut marks);
+    marks
+}
+
+// Marks the basic types of the type in the field at a place; a group's once, as is told by a table of those that were.
+pub(crate) fn mark_once(
+    image: &[u8],
+    groups: &[u16; 256],
+    at: usize,
+    marks: &mut [bool; 1024],
+    done: &mut [bool; 256],
+)
+    requires { ⌜ Known (now image) (now groups) × TypeAt (now image) at × Marking (now image) (now marks) (now done) ⌝ }
+    ensures { λ _. ⌜ Joined (now (marks .entry)) (has (setAt (now (image .entry)) at)) (now (marks .exit))
+        × Marking (now (image .entry)) (now (marks .exit)) (now (done .exit)) ⌝ }
+{
+    let t = word_in(image, at);
+    if t < 32768 {
+        marks[t] = true;
+        return;
+    }
+    let g = t - 32768;
+    if done[g] {
+        return;
+    }
+    done[g] = true;
+    let s = group_span(image, groups, g);
+    mark(image, s.from, s.count, marks);
 }
 
 // Marks the basic types of the types of a list, so many from a place on.

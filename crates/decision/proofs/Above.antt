@@ -1,5 +1,6 @@
 -- The order rule over rules, constraints and queries as they are read, whatever their records. Assumes nothing.
 --     height-permitted, height-unknown   the height of a decision
+--     found-order       a constraint that is found makes a decision no lower
 --     judge-says        what a decision says is told by whether some rule covers and some constraint fails
 --     Above             the order rule's terms
 --     judge-order       the order rule
@@ -16,9 +17,10 @@ use Rattle.format.proofs.Tests.{false-not-true}
 use Rattle.decision.specs.declared.Nearest.{Nearest}
 use Rattle.decision.specs.Sets.{anyOf, allOf, within}
 use Rattle.decision.specs.Reading.{Rule, Constraint, Request, asks}
-use Rattle.decision.specs.Decide.{tests, covers, reaches, separationBroken, rosterBroken, companionBroken, broken, applies, inside, fails, firstAt, nearest, Decision, notPermitted, permitted, unknown, decisionOf, judge}
+use Rattle.decision.specs.Decide.{tests, covers, separationBroken, rosterBroken, companionBroken, broken, applies, inside, fails, firstAt, nearest, Decision, notPermitted, permitted, unknown, decisionOf, judge}
 use Rattle.decision.specs.Order.{height}
 use Rattle.decision.proofs.Search.{isFound, firstAt-any}
+use Rattle.decision.proofs.Separation.{wider-all, separation-kept}
 use Rattle.decision.proofs.Implies.{_⟹_, id⟹, eq⟹, and⟹, not⟹, cond⟹, anyOf⟹, within⟹}
 
 -- ---- the height of a decision
@@ -47,6 +49,10 @@ module _ {C : Type 0} (says : Decision → C) (n p u : C)
 abbrev heightBy : Bool → Bool → ℕ
 heightBy a b = cond a (cond b 2 1) 0
 
+found-height : (x : Nearest) (a b : Option ℕ) → height (decisionOf x a b) ≡ heightBy (isFound a) (isFound b)
+unfolding height
+found-height = found-says height 0 1 2 (λ x. refl) (λ r. refl) (λ r c. refl)
+
 judge-height : (rs : List Rule) (cs : List Constraint) (a : Request) → height (judge rs cs a) ≡ heightBy (anyOf (covers a) rs) (anyOf (fails rs a) cs)
 unfolding height
 judge-height = judge-says height 0 1 2 (λ x. refl) (λ r. refl) (λ r c. refl)
@@ -58,6 +64,10 @@ heightBy-le true false true false f g = omega arith
 heightBy-le true false true true f g = omega arith
 heightBy-le true true true false f g = false-not-true (g .imp refl)
 heightBy-le true true true true f g = omega arith
+
+-- a constraint that fails makes a decision no lower
+pub found-order : (x : Nearest) (a b b′ : Option ℕ) → isFound b ⟹ isFound b′ → height (decisionOf x a b) ≤ height (decisionOf x a b′)
+found-order x a b b′ h = rw (found-height x a b, found-height x a b′) (heightBy-le (isFound a) (isFound b) (isFound a) (isFound b′) id⟹ h)
 
 -- ---- the terms, and the rule
 
@@ -96,8 +106,7 @@ module _ {rs₁ rs₂ : List Rule} {cs₁ cs₂ : List Constraint} {a₁ a₂ : 
 
   module _ (c : Constraint) where
     separation⟹ : separationBroken rs₁ c ⟹ separationBroken rs₂ c
-    unfolding separationBroken
-    separation⟹ = anyOf⟹ (λ a ma. (e .rules a ma, and⟹ {a = reaches (c .first) a} id⟹ (anyOf⟹ (λ b mb. (e .rules b mb, id⟹)))))
+    separation⟹ = record { imp = separation-kept rs₁ rs₂ c (wider-all (e .rules)) }
 
     roster⟹ : rosterBroken rs₁ c ⟹ rosterBroken rs₂ c
     unfolding rosterBroken

@@ -1,5 +1,5 @@
--- The tables of cases, by computation: claims MarkedCases, MarkedAdds, MarkedOrder, ClauseCases, RefusalCases, StepCases.
--- Assumes nothing.
+-- The tables of cases, by computation: claims MarkedCases, MarkedAdds, MarkedOrder, ClauseCases, RefusalCases, StepCases,
+-- SharedCases, SharedWas. Assumes nothing.
 use Prim.Native.Nat.{ℕ, zero, suc, _<_}
 use native.Mathlib.Omega.{arith}
 use mathlib.Core.Path.{_≡_, refl, sym, ap, _∙_}
@@ -16,31 +16,33 @@ use Rattle.format.specs.Sample.{sample, empty}
 use Rattle.extension.specs.Add.{sectionOf, withRecord, fieldFault, newNumber, ownFault, addFault, newImage, overwrite, bufferAfter}
 use Rattle.decision.specs.declared.Query.{Query}
 use Rattle.decision.specs.declared.Nearest.the-variants.{NoRules, Near}
-use Rattle.decision.specs.Sets.{anyOf, allOf, isIn, setOf, unionOf, within, touches, sameSet}
+use Rattle.decision.specs.Sets.{anyOf, allOf, isIn, setOf, unionOf, within, touches}
 use Rattle.decision.specs.Reading.{asks, live, ruleOf, constraintOf, requestOf, rulesOf, constraintsOf}
 use Rattle.decision.specs.Decide.{tests, covers, passes, steps, nearestOf, greatest, nearestBy, nearest, reaches, separationBroken, rosterBroken, companionBroken, broken, applies, inside, fails, firstAt, Decision, notPermitted, permitted, unknown, decisionOf, judge, decide, queryFault, answerFault, answer}
 use Rattle.decision.specs.Order.{NoCompanion}
 use Rattle.decision.specs.Cases.{withSpace, extended, g0, allow, companion, oneMember, banned, ask, cases, given, expectedOf, MarkedCases, MarkedAdds, MarkedOrder}
-use Rattle.decision.specs.Clauses.{separation, allowGroup, companionOfGroup, rosterOfGroup, backTransition, longRoster, clauseCases, ClauseCases, RefusalCases}
+use Rattle.decision.specs.Clauses.{allowGroup, companionOfGroup, rosterOfGroup, backTransition, longRoster, clauseCases, ClauseCases, RefusalCases}
 use Rattle.decision.specs.Steps.{off, stepCases, StepCases}
+use Rattle.decision.specs.Separation.{sameSet, separationWas, brokenWas, failsWas, decideWas, answerWas, separation, separate, cross, story, elsewhere, sharedCases, SharedCases, wasCases, givenWas, SharedWas}
 use Rattle.decision.specs.Growth.{reordered}
 
 -- a predicate that is no companion
 other : (n : ℕ) → n ≡ 3 → n < 3 → ⊥
 other n e h = omega arith
 
-computed : MarkedCases × MarkedAdds × MarkedOrder × ClauseCases × RefusalCases × StepCases
+computed : MarkedCases × MarkedAdds × MarkedOrder × ClauseCases × RefusalCases × StepCases × SharedCases × SharedWas
 unfolding
     flatten wordAt words putWord need _orElse_ unlessRefused
     knownVersion limitOf countPlace countOf kindIn lengthOk isType isCondition listOk firstRecord shapeOk badMember badType badGroup badAllow badTransition badConstraint badField
     bodyOf imageOf recordAt placeAfter recordsAt startOf placeOf endOf policyOf
     readFields readOf readFault sectionFault countFault headerFault bodyFault check imageIn checkFront
     sample empty sectionOf withRecord fieldFault newNumber ownFault addFault newImage overwrite bufferAfter
-    anyOf allOf isIn setOf unionOf within touches sameSet
+    anyOf allOf isIn setOf unionOf within touches
     asks live ruleOf constraintOf requestOf rulesOf constraintsOf
     tests covers passes steps nearestOf greatest nearestBy nearest reaches separationBroken rosterBroken companionBroken broken applies inside fails firstAt decisionOf judge decide queryFault answerFault answer
-    withSpace extended g0 allow companion oneMember banned separation allowGroup backTransition longRoster companionOfGroup rosterOfGroup ask cases clauseCases off stepCases given expectedOf reordered
-computed = (refl, adds, order, refl, refusals, refl)
+    withSpace extended g0 allow companion oneMember banned allowGroup backTransition longRoster companionOfGroup rosterOfGroup ask cases clauseCases off stepCases separation separate cross story elsewhere sharedCases wasCases given expectedOf reordered
+    sameSet separationWas brokenWas failsWas decideWas answerWas givenWas
+computed = (refl, adds, order, refl, refusals, refl, refl, refl)
   where
     adds : MarkedAdds
     adds = record { separated = refl; rostered = refl; companied = refl; helped = refl; numbered = refl; rules-stay = refl }
@@ -121,6 +123,12 @@ refusal-cases = computed .4
 
 pub step-cases : StepCases
 step-cases = computed .5
+
+pub shared-cases : SharedCases
+shared-cases = computed .6
+
+pub shared-was : SharedWas
+shared-was = computed .7
 
 -- some of the table's answers, each by itself
 abbrev asked : ℕ → ℕ → ℕ → ℕ → Query

@@ -8,7 +8,7 @@ use mathlib.Core.List.{List, List·Memᴰ, Memᴰ·cast}
 use lib.Dec.{eqb}
 use borrow.Author.Tests.{eqb-true, eq-eqb}
 use Rattle.format.proofs.Tests.{both, and-true, false-not-true}
-use Rattle.decision.specs.Sets.{anyOf, isIn, within}
+use Rattle.decision.specs.Sets.{anyOf, isIn, within, touches}
 use Rattle.decision.proofs.Search.{anyOf-intro, anyOf-elim, allOf-intro, allOf-elim}
 
 infix 4 _⟹_
@@ -41,7 +41,7 @@ anyOf⟹ {f} {g} {xs} h = record { imp = λ t. let r = anyOf-elim f xs t in let 
 
 -- ---- sets
 
-isIn-mem : (x : ℕ) (l : List ℕ) → isIn x l ≡ true → List·Memᴰ x l
+pub isIn-mem : (x : ℕ) (l : List ℕ) → isIn x l ≡ true → List·Memᴰ x l
 unfolding isIn
 isIn-mem x l t = let r = anyOf-elim (eqb x) l t in Memᴰ·cast (eqb-true x (r .0) (r .2)) (r .1)
 
@@ -56,3 +56,23 @@ within⟹ a₁ a₂ b h =
     record {
       imp = λ t. allOf-intro (λ x. isIn x b) a₂ (λ x m. allOf-elim (λ x. isIn x b) t (isIn-mem x a₁ (allOf-elim (λ x. isIn x a₁) h m)));
     }
+
+-- what is in a set is in one that holds it
+pub within-has : (a b : List ℕ) (x : ℕ) → within a b ≡ true → isIn x a ≡ true → isIn x b ≡ true
+unfolding within
+within-has a b x h t = allOf-elim (λ y. isIn y b) h (isIn-mem x a t)
+
+-- sets touch in an element of both
+pub touches-elim : (a b : List ℕ) → touches a b ≡ true → (x : ℕ) × (isIn x a ≡ true) × (isIn x b ≡ true)
+unfolding touches isIn
+touches-elim a b t =
+    let r = anyOf-elim (λ y. isIn y b) a t in
+    (r .0, anyOf-intro (eqb (r .0)) (r .1) (eq-eqb (r .0) (r .0) refl), r .2)
+
+pub touches-intro : (a b : List ℕ) (x : ℕ) → isIn x a ≡ true → isIn x b ≡ true → touches a b ≡ true
+unfolding touches
+touches-intro a b x t u = anyOf-intro (λ y. isIn y b) (isIn-mem x a t) u
+
+-- a greater set touches no less
+pub touches-more : (a₁ a₂ b : List ℕ) → within a₁ a₂ ≡ true → touches a₁ b ≡ true → touches a₂ b ≡ true
+touches-more a₁ a₂ b h t = let r = touches-elim a₁ b t in touches-intro a₂ b (r .0) (within-has a₁ a₂ (r .0) h (r .1)) (r .2)

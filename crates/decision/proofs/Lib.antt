@@ -1,6 +1,7 @@
 pub mod Search
 pub mod Nearness
 pub mod Implies
+pub mod Separation
 pub mod Above
 pub mod Kept
 pub mod Order
@@ -10,6 +11,7 @@ pub mod Growth
 pub mod Filled
 pub mod Tepla
 pub mod Before
+pub mod Was
 pub mod Answers
 pub mod Cases
 pub mod Numbers

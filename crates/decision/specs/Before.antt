@@ -1,5 +1,6 @@
 -- The decision as it was before request [2], without steps: "The three decisions do not change." A rule is put to a query by its
--- record, as the paper's evaluation has it (`permits`); what a constraint says is shared with `judge`.
+-- record, as the paper's evaluation has it (`permits`); what a constraint says is shared with `judge`, so a separation is request [5]'s
+-- (`Separation` has the one of before).
 --     Bare, bareOf          the three decisions, from the rule and the constraint that were found
 --     decideBefore p q      the decision as it was
 --     answerBefore l q      the engine's answer as it was

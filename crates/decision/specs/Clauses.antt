@@ -1,10 +1,9 @@
 -- Clauses of document 01 that no marked case meets, as a second table, and refusals 1 to 7, 10, 11 and 13. Worked out by hand from the
 -- clauses; `tests/` runs these and more.
---     separation, allowGroup, companionOfGroup, rosterOfGroup, backTransition, longRoster   records
---     clauseCases       a ban; a companion and a roster that touch; 9, 8 before 9, 1 before both; a separation by one rule, and by sources
---                       that are the same set and not only within one another; a transition that is not live; a list of two types, and
---                       of a group; a source of which a part is listed; a companion's rule to elsewhere;
---                       a rule and a ban of another class, and of another action
+--     allowGroup, companionOfGroup, rosterOfGroup, backTransition, longRoster   records
+--     clauseCases       a ban; a companion and a roster that touch; 9, 8 before 9, 1 before both; a transition that is not live; a list of
+--                       two types, and of a group; a source of which a part is listed; a companion's rule to elsewhere;
+--                       a rule and a ban of another class, and of another action (`Separation` has the cases of separations)
 --     ClauseCases       the definitions give these answers
 --     RefusalCases      document 01's unmarked refusals, and one each of 1 to 7, 10, 11 and 13
 use Prim.Native.Nat.{ℕ}
@@ -20,10 +19,6 @@ use Rattle.extension.specs.Add.{addFault}
 use Rattle.decision.specs.declared.Nearest.the-variants.{Near}
 use Rattle.decision.specs.Decide.{notPermitted, permitted, unknown}
 use Rattle.decision.specs.Cases.{g0, allow, companion, oneMember, banned, extended, Case, ask, given, expectedOf}
-
--- a separation on class 5, action 4, of 20 and 21: rule 0 (10 to g0) reaches both
-unfoldable pub separation : List ℕ
-separation = 11 ∷ 4 ∷ 0 ∷ 5 ∷ 0 ∷ 4 ∷ 0 ∷ 20 ∷ 0 ∷ 21 ∷ 1 ∷ []
 
 -- an allow rule from group n to a basic type, class 5, action 3
 unfoldable pub allowGroup : ℕ → ℕ → List ℕ
@@ -55,10 +50,6 @@ clauseCases =
     ∷ ask sample 10 1024 5 1 (refused (refusal 9 0))
     ∷ ask sample 1024 1024 5 1 (refused (refusal 8 0))
     ∷ ask (5 ∷ []) 1024 1024 5 1 (refused (refusal 1 0))
-    ∷ ask (extended (extended sample (allow 20 21 5 4)) separation) 20 21 5 4 (gives (unknown 4 2))
-    ∷ ask (extended (extended sample (allowGroup 0 30)) (allow 21 20 5 3)) 20 30 5 2 (gives (permitted 1))
-    ∷ ask (extended (extended sample (allowGroup 0 20)) (allow 21 30 5 3)) 20 30 5 2 (gives (permitted 1))
-    ∷ ask (extended (extended (extended sample oneMember) (allowGroup 1 20)) (allow 21 30 5 3)) 20 30 5 2 (gives (unknown 1 1))
     ∷ ask (extended sample backTransition) 10 21 5 1 (gives (permitted 0))
     ∷ ask (extended (extended sample backTransition) companion) 10 21 5 1 (gives (unknown 0 2))
     ∷ ask (extended (extended sample (allow 14 g0 7 7)) (longRoster 0 14)) 12 20 5 1 (gives (permitted 2))

@@ -1,4 +1,5 @@
--- How a query is decided (document 01, "How a draw is decided"), and how near a rule came to it (request [2]).
+-- How a query is decided (document 01, "How a draw is decided"), how near a rule came to it (request [2]), and what a separation asks
+-- (request [5]).
 --     tests a r           the tests that a rule makes of a query, in order
 --     covers a r          document 01's "covers": all pass
 --     passes bs, steps a r   request [2]'s "steps": how many pass before the first that fails; all five where the rule covers
@@ -40,7 +41,7 @@ use Rattle.decision.specs.declared.Nearest.{Nearest}
 use Rattle.decision.specs.declared.Nearest.the-variants.{NoRules, Near}
 use Rattle.decision.specs.declared.Answer.{Answer}
 use Rattle.decision.specs.declared.Answer.the-variants.{NotPermitted, Permitted, UnKnown, Refused}
-use Rattle.decision.specs.Sets.{anyOf, allOf, within, touches, sameSet}
+use Rattle.decision.specs.Sets.{anyOf, allOf, within, touches}
 use Rattle.decision.specs.Reading.{Rule, Constraint, Request, asks, live, requestOf, rulesOf, constraintsOf}
 
 -- condition, source, destination, class, action
@@ -85,8 +86,9 @@ nearest a rs = nearestBy (steps a) rs
 unfoldable pub reaches : List ℕ → Rule → Bool
 reaches s r = live r && touches (r .dest) s
 
+-- a and b may be one rule
 unfoldable pub separationBroken : List Rule → Constraint → Bool
-separationBroken rs c = anyOf (λ a. reaches (c .first) a && anyOf (λ b. reaches (c .second) b && sameSet (a .source) (b .source)) rs) rs
+separationBroken rs c = anyOf (λ a. reaches (c .first) a && anyOf (λ b. reaches (c .second) b && touches (a .source) (b .source)) rs) rs
 
 unfoldable pub rosterBroken : List Rule → Constraint → Bool
 rosterBroken rs c = anyOf (λ a. reaches (c .second) a && not (within (a .source) (c .list))) rs

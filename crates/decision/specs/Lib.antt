@@ -10,6 +10,7 @@ pub mod Before
 pub mod Cases
 pub mod Clauses
 pub mod Steps
+pub mod Separation
 pub mod Numbers
 pub mod Rows
 pub mod Inner

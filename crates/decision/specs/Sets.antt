@@ -5,7 +5,6 @@
 --     unionOf gs ts          the union of the sets of several types
 --     within a b             document 01's "within": set inclusion
 --     touches a b            document 01's "touch": the two share a basic type
---     sameSet a b            the two stand for the same set
 use Prim.Native.Nat.{ℕ, _-_}
 use mathlib.Core.Bool.{Bool, true, false, _&&_, _||_, cond}
 use mathlib.Core.List.{List, [], _∷_, _++_}
@@ -37,6 +36,3 @@ within a b = allOf (λ x. isIn x b) a
 
 unfoldable pub touches : List ℕ → List ℕ → Bool
 touches a b = anyOf (λ x. isIn x b) a
-
-unfoldable pub sameSet : List ℕ → List ℕ → Bool
-sameSet a b = within a b && within b a

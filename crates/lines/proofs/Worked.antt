@@ -11,7 +11,7 @@ use Rattle.extension.specs.Add.{sectionOf, withRecord, fieldFault, newNumber, o
 use Rattle.text.specs.Words.{ascii, splitStep, split, same, isDigit, digitsFrom, numberOf, upTo, numberTo, named, above, lettered}
 use Rattle.text.specs.Rows.{valueOf, fieldBytes, group, allow, transition, constraint, forms, asBytes, joined, fieldsOf, headed, recordBy, recordOfWords, recordOfRow}
 use Rattle.text.specs.Build.{movedTo, recordFault, afterRecord, rowFault, afterRow, onward, rowsFrom, built}
-use Rattle.decision.specs.Sets.{anyOf, allOf, isIn, setOf, unionOf, within, touches, sameSet}
+use Rattle.decision.specs.Sets.{anyOf, allOf, isIn, setOf, unionOf, within, touches}
 use Rattle.decision.specs.Reading.{asks, live, ruleOf, constraintOf, requestOf, rulesOf, constraintsOf}
 use Rattle.decision.specs.Decide.{tests, covers, passes, steps, nearestOf, greatest, nearestBy, nearest, reaches, separationBroken, rosterBroken, companionBroken, broken, applies, inside, fails, firstAt, decisionOf, judge, decide, queryFault, answerFault, answer}
 use Rattle.lines.specs.Lines.{widthFrom, width, linesFrom, lines}
@@ -30,7 +30,7 @@ unfolding
     recordAt placeAfter recordsAt startOf placeOf endOf policyOf
     readFields readOf readFault sectionFault countFault headerFault bodyFault check imageIn checkFront
     sample empty
-    anyOf allOf isIn setOf unionOf within touches sameSet
+    anyOf allOf isIn setOf unionOf within touches
     asks live ruleOf constraintOf requestOf rulesOf constraintsOf tests covers passes steps nearestOf greatest nearestBy nearest reaches separationBroken rosterBroken companionBroken broken applies inside fails firstAt decisionOf judge decide queryFault answerFault answer
     widthFrom width linesFrom lines ending printed
     ascii asked workedRuns runOf runSaid

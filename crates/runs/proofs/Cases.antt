@@ -8,7 +8,7 @@ use Rattle.format.specs.Policy.{bodyOf, imageOf, recordAt, placeAfter, recordsA
 use Rattle.format.specs.Check.{readFields, readOf, readFault, sectionFault, countFault, headerFault, bodyFault, check, imageIn, checkFront}
 use Rattle.format.specs.Sample.{sample, empty}
 use Rattle.extension.specs.Add.{sectionOf, withRecord, fieldFault, newNumber, ownFault, addFault, newImage, overwrite, bufferAfter}
-use Rattle.decision.specs.Sets.{anyOf, allOf, isIn, setOf, unionOf, within, touches, sameSet}
+use Rattle.decision.specs.Sets.{anyOf, allOf, isIn, setOf, unionOf, within, touches}
 use Rattle.decision.specs.Reading.{asks, live, ruleOf, constraintOf, requestOf, rulesOf, constraintsOf}
 use Rattle.decision.specs.Decide.{tests, covers, passes, steps, nearestOf, greatest, nearestBy, nearest, reaches, separationBroken, rosterBroken, companionBroken, broken, applies, inside, fails, firstAt, decisionOf, judge, decide, queryFault, answerFault, answer}
 use Rattle.decision.specs.Cases.{withSpace, extended, g0, allow}
@@ -26,7 +26,7 @@ unfolding
     bodyOf imageOf recordAt placeAfter recordsAt startOf placeOf endOf policyOf
     readFields readOf readFault sectionFault countFault headerFault bodyFault check imageIn checkFront
     sample empty sectionOf withRecord fieldFault newNumber ownFault addFault newImage overwrite bufferAfter
-    anyOf allOf isIn setOf unionOf within touches sameSet
+    anyOf allOf isIn setOf unionOf within touches
     asks live ruleOf constraintOf requestOf rulesOf constraintsOf
     tests covers passes steps nearestOf greatest nearestBy nearest reaches separationBroken rosterBroken companionBroken broken applies inside fails firstAt decisionOf judge decide queryFault answerFault answer
     withSpace extended g0 allow off

@@ -8,9 +8,8 @@
 --                              that it is within
 --     Sides l q ..             a query's two sides
 --     verdictOf l n            whether the rules break the predicate of constraint n
---     KeptNames l names, KeptVerdicts l verdicts   of the groups' names, and of the verdicts
---     KeptReach l ms f ..      of the groups that touch marks, and of a test of sources; KeptNaming: and of names
---     KeptPolicy l ..          of names and of verdicts
+--     KeptVerdicts l verdicts  of the verdicts
+--     KeptReach l ms f ..      of the groups that touch marks, and of a test of sources
 --     Unmarks t ms ns          where ms are the marks of the type t, ns are none
 --     Tables l vs ms ns        what is lent from query to query: the verdicts, and marks for a source and a destination, none of them set
 --     Leaves x K r             the answer is x, and what is kept is right after it
@@ -28,7 +27,6 @@ use Rattle.decision.specs.declared.Query.{Query}
 use Rattle.decision.specs.Decide.{broken}
 use Rattle.decide.specs.Inner.Parts.{rulesIn, constraintIn, setIn, groupSet}
 use Rattle.decide.specs.Inner.Marks.{noMarks, markAll, Marked, anyMarked, fullyMarked}
-use Rattle.decide.specs.Inner.Names.{nameOf}
 
 unfoldable pub bit : Bool → ℕ
 bit b = cond b 1 0
@@ -54,9 +52,6 @@ pub record Sides (l : List ℕ) (q : Query) (ms : List Bool) (sources : ℕ) (ns
   pub source : Side l (q .source) ms sources ks
   pub dest : Side l (q .dest) ns dests kd
 
-abbrev pub KeptNames : List ℕ → List ℕ → Type 0
-KeptNames l = Kept (λ g. nameOf l (groupSet l g))
-
 abbrev pub verdictOf : List ℕ → ℕ → Bool
 verdictOf l n = broken (rulesIn l) (constraintIn l (placeOf l Constraints n))
 
@@ -66,14 +61,6 @@ KeptVerdicts l = Kept (λ n. bit (verdictOf l n))
 pub record KeptReach (l : List ℕ) (ms : List Bool) (f : List ℕ → Bool) (kr ks : List ℕ) : Type 0 where
   pub reach : KeptTest (anyMarked ms) l kr
   pub source : KeptTest f l ks
-
-pub record KeptNaming (l : List ℕ) (ms : List Bool) (kr ns : List ℕ) : Type 0 where
-  pub reach : KeptTest (anyMarked ms) l kr
-  pub names : KeptNames l ns
-
-pub record KeptPolicy (l ns vs : List ℕ) : Type 0 where
-  pub names : KeptNames l ns
-  pub verdicts : KeptVerdicts l vs
 
 abbrev pub Unmarks : ℕ → List Bool → List Bool → Type 0
 Unmarks t ms ns = (l : List ℕ) → ms ≡ markAll noMarks (setIn l t) → ns ≡ noMarks

@@ -5,10 +5,11 @@
 --     anyIs ms v xs         an element of a list has a mark of a value; anyMarked: it is marked
 --     tallied ms xs         how many elements are marked
 --     fullyMarked ms n xs   n are
+--     bothBelow ms ns n     a number below n is marked in both
 --     Marked S ms size      marks and size of a set
-use Prim.Native.Nat.{ℕ, _+_, _<_}
+use Prim.Native.Nat.{ℕ, zero, suc, _+_, _<_}
 use mathlib.Core.Path.{_≡_}
-use mathlib.Core.Bool.{Bool, Bool·beq, true, false, cond}
+use mathlib.Core.Bool.{Bool, Bool·beq, true, false, _&&_, _||_, cond}
 use mathlib.Core.List.{List, [], _∷_}
 use lib.ListN.{length, getD, set, replicate}
 use lib.Dec.{eqb}
@@ -37,6 +38,10 @@ tallied ms (x ∷ xs) = cond (getD ms x false) 1 0 + tallied ms xs
 
 unfoldable pub fullyMarked : List Bool → ℕ → List ℕ → Bool
 fullyMarked ms size xs = eqb (tallied ms xs) size
+
+unfoldable pub bothBelow : List Bool → List Bool → ℕ → Bool
+bothBelow ms ns zero = false
+bothBelow ms ns (suc n) = bothBelow ms ns n || getD ms n false && getD ns n false
 
 pub record Marked (S : List ℕ) (ms : List Bool) (size : ℕ) : Type 0 where
   pub is : (m : ℕ) → m < 1024 → getD ms m false ≡ isIn m S

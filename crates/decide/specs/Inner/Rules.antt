@@ -9,7 +9,7 @@
 --     firstConstraint l q   the lowest constraint that fails
 --     reaching ms a         a live rule whose destination touches marks
 --     reachingFrom ms f a   such a rule, whose source passes a test
---     sharesSource l ms s   a rule that reaches marks has s for its source
+--     sharesSource l ms s   a rule that reaches marks has a source that touches s
 use Prim.Native.Nat.{ℕ, _+_}
 use mathlib.Core.Path.{_≡_}
 use mathlib.Core.Bool.{Bool, true, false, _&&_, cond}
@@ -20,7 +20,7 @@ use lib.Dec.{eqb}
 use Rattle.format.specs.Bytes.{wordAt}
 use Rattle.format.specs.Policy.{policyOf}
 use Rattle.decision.specs.declared.Query.{Query}
-use Rattle.decision.specs.Sets.{anyOf, sameSet}
+use Rattle.decision.specs.Sets.{anyOf, touches}
 use Rattle.decision.specs.Reading.{Rule, live, constraintsOf}
 use Rattle.decision.specs.Decide.{covers, fails, firstAt}
 use Rattle.decide.specs.declared.cover.Found.{Found}
@@ -65,4 +65,4 @@ unfoldable pub reachingFrom : List Bool → (List ℕ → Bool) → Rule → Boo
 reachingFrom ms f a = reaching ms a && f (a .source)
 
 unfoldable pub sharesSource : List ℕ → List Bool → List ℕ → Bool
-sharesSource l ms s = anyOf (reachingFrom ms (sameSet s)) (rulesIn l)
+sharesSource l ms s = anyOf (reachingFrom ms (touches s)) (rulesIn l)

@@ -1,5 +1,4 @@
 -- `constraint_fails` meets its contract: a test that fails settles it, and the predicate has the last word. Assumes nothing.
-use native.Mathlib.Omega.{arith}
 use Prim.Native.Nat.{_+_}
 use mathlib.Core.Path.{_≡_, sym, ap, _∙_}
 use denote.Ref.{now}
@@ -29,26 +28,11 @@ first-told d = let p = d .before .before .before .before .before .before .before
 second-told : (d : tie.After-inside2) → within (setIn (now (d .before .before .before .before .before .before .before .before .before .before .before .before .args .image)) (d .before .before .before .before .before .before .before .before .before .before .before .before .args .q .dest)) (setAt (now (d .before .before .before .before .before .before .before .before .before .before .before .before .args .image)) (d .before .before .before .before .before .before .before .before .before .before .before .before .args .at + 8)) ≡ d .inside2 .result
 second-told d = let p = d .before .before .before .before .before .before .before .before .before .before .before .before .pre in side-within (p .1 .dest) (p .0 .known .accepted) (constraint-second _ _ _ (p .2 .here)) _ (d .inside2 .ensures .is)
 
-add-word-in : tie.Need-add-word-in
-add-word-in c = let h = c .before .pre .2 .here in omega (arith, h .long, h .here .inside)
-
-word-in-requires : tie.Need-word-in-requires
-word-in-requires c κs = let h = c .before .pre .2 .here in omega (arith, h .long, h .here .inside)
-
 returns : tie.Need-returns
 returns c = let p = c .before .before .before .before .pre in record { is = sym (fails-class _ _ _ (p .2 .here) _ (λ e. c .if1 .taken (c .before .before .word-in .ensures .0 ∙ e ∙ sym (c .before .wide-word .ensures)))); kept = (p .1, p .3) }
 
-add-word-in-2 : tie.Need-add-word-in-2
-add-word-in-2 c = let h = c .before .before .before .before .pre .2 .here in omega (arith, h .long, h .here .inside)
-
-word-in-requires-2 : tie.Need-word-in-requires-2
-word-in-requires-2 c κs = let h = c .before .before .before .before .pre .2 .here in omega (arith, h .long, h .here .inside)
-
 returns-2 : tie.Need-returns-2
 returns-2 c = let p = c .before .before .before .before .before .before .before .pre in record { is = sym (fails-action _ _ _ (p .2 .here) _ (same-class (c .before .before .before)) (λ e. c .if2 .taken (c .before .before .word-in2 .ensures .0 ∙ e ∙ sym (c .before .wide-word2 .ensures)))); kept = (p .1, p .3) }
-
-add-inside : tie.Need-add-inside
-add-inside c = let h = c .before .before .before .before .before .before .before .pre .2 .here in omega (arith, h .long, h .here .inside)
 
 inside-requires : tie.Need-inside-requires
 inside-requires c κs = let p = c .before .before .before .before .before .before .before .before .pre in (p .0 .known, constraint-first _ _ _ (p .2 .here), p .1 .source)
@@ -59,9 +43,6 @@ returns-3 c = let p = c .before .before .before .before .before .before .before 
       is = sym (fails-first _ _ _ (p .2 .here) _ (same-class (c .before .before .before .before .before .before)) (same-action (c .before .before .before)) (first-told (c .before) ∙ not-true _ (c .if3 .taken)));
       kept = (with-source (p .1) (c .before .inside .ensures .kept), p .3);
     }
-
-add-inside-2 : tie.Need-add-inside-2
-add-inside-2 c = let h = c .before .before .before .before .before .before .before .before .before .before .pre .2 .here in omega (arith, h .long, h .here .inside)
 
 inside-requires-2 : tie.Need-inside-requires-2
 inside-requires-2 c κs = let p = c .before .before .before .before .before .before .before .before .before .before .before .pre in (p .0 .known, constraint-second _ _ _ (p .2 .here), p .1 .dest)
@@ -85,50 +66,40 @@ by-rules d =
     fails-broken _ _ _ (d .before .before .before .before .before .before .before .before .before .before .before .before .before .pre .2 .here) _ (same-class (d .before .before .before .before .before .before .before .before .before)) (same-action (d .before .before .before .before .before .before)) (first-told (d .before .before .before .before) ∙ not-false _ (d .before .before .before .if3 .left)) (second-told (d .before) ∙ not-false _ (d .if4 .left))
     ∙ by-place d
 
-element-copy-out-k : tie.Need-element-copy-out-k
-element-copy-out-k c = c .before .before .before .before .before .before .before .before .before .before .before .before .before .pre .2 .few
-
 returns-5 : tie.Need-returns-5
 returns-5 c = let a = c .before .before .before .before .before .before .before .before .before .before .before .before .before .before .before in
     let d = c .before .before in
-    record { is = kept-says (verdictOf (now (a .args .image))) _ (a .pre .3 .verdicts) _ (c .if5 .taken) ∙ sym (by-rules d); kept = (with-dest (with-source (a .pre .1) (d .before .before .before .before .inside .ensures .kept)) (d .before .inside2 .ensures .kept), a .pre .3) }
-
-predicate-broken-requires : tie.Need-predicate-broken-requires
-predicate-broken-requires c κs = let p = c .before .before .before .before .before .before .before .before .before .before .before .before .before .before .before .before .pre in (p .0, p .2 .here, p .3 .names)
-
-keep-requires : tie.Need-keep-requires
-keep-requires c κs = c .before .before .before .before .before .before .before .before .before .before .before .before .before .before .before .before .before .before .pre .2 .few
+    record { is = kept-says (verdictOf (now (a .args .image))) _ (a .pre .3) _ (c .if5 .taken) ∙ sym (by-rules d); kept = (with-dest (with-source (a .pre .1) (d .before .before .before .before .inside .ensures .kept)) (d .before .inside2 .ensures .kept), a .pre .3) }
 
 returns-6 : tie.Need-returns-6
-returns-6 c = let a = c .before .before .before .before .before .before .before .before .before .before .before .before .before .before .before .before .before .before .before in
-    let d = c .before .before .before .before .before .before in
-    let k = c .before .before .predicate-broken .ensures in
-    let e = k .is ∙ by-place d in
+returns-6 c = let a = c .before .before .before .before .before .before .before .before .before .before .before .before .before .before .before .before .before .before in
+    let d = c .before .before .before .before .before in
+    let e = c .before .before .predicate-broken .ensures ∙ by-place d in
     record {
       is = c .keep .ensures .0 ∙ e ∙ sym (by-rules d);
-      kept = (with-dest (with-source (a .pre .1) (d .before .before .before .before .inside .ensures .kept)) (d .before .inside2 .ensures .kept), record { names = k .kept; verdicts = rw (c .keep .ensures .1) (kept-adds (verdictOf (now (a .args .image))) _ (a .pre .3 .verdicts) _ _ e) });
+      kept = (with-dest (with-source (a .pre .1) (d .before .before .before .before .inside .ensures .kept)) (d .before .inside2 .ensures .kept), rw (c .keep .ensures .1) (kept-adds (verdictOf (now (a .args .image))) _ (a .pre .3) _ _ e));
     }
 
 pub constraint-fails-spec : {M : Type 1} → statement M
 constraint-fails-spec =
     tie.close
     (tie.spec
-    add-word-in
-    word-in-requires
+    (λ c. search needs)
+    (λ c κs. search needs)
     (λ c κs. search needs)
     returns
-    add-word-in-2
-    word-in-requires-2
+    (λ c. search needs)
+    (λ c κs. search needs)
     (λ c κs. search needs)
     returns-2
-    add-inside
+    (λ c. search needs)
     inside-requires
     returns-3
-    add-inside-2
+    (λ c. search needs)
     inside-requires-2
     returns-4
-    element-copy-out-k
+    (λ c. search needs)
     returns-5
-    predicate-broken-requires
-    keep-requires
+    (λ c κs. search needs)
+    (λ c κs. search needs)
     returns-6)

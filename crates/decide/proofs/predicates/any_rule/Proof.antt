@@ -2,6 +2,7 @@
 use native.Mathlib.Omega.{arith}
 use Prim.Native.Nat.{_-_}
 use mathlib.Core.Path.{sym, ap, _∙_}
+use mathlib.Core.Logic.{⊎-elim}
 use denote.Ref.{now}
 use Rattle.format.specs.declared.Section.the-variants.{Rules}
 use Rattle.format.specs.Policy.{policyOf}
@@ -13,9 +14,9 @@ use Rattle.decide.specs.Inner.Parts.{RuleHere, rulesIn}
 use Rattle.decide.specs.Inner.Marks.{anyIs}
 use Rattle.decide.specs.Inner.Kept.{KeptReach}
 use Rattle.decide.specs.Inner.Rules.{reachingFrom}
-use Rattle.decide.proofs.PartLaws.{ready-rules}
+use Rattle.decide.proofs.PartLaws.{ready-rules, rule-source}
 use Rattle.decide.proofs.KeptLaws.{kept-none}
-use Rattle.decide.proofs.RuleLaws.{live-length}
+use Rattle.decide.proofs.RuleLaws.{source-is, not-reaching, reaching-source, live-length}
 use Rattle.decide.proofs.WalkLaws.{Turn, AnyOf, walk-start, walk-rule, any-end, any-hit, any-next, all-rules}
 use Rattle.decide.proofs.predicates.any_rule.Statement.{statement}
 use Rattle.decide.proofs.predicates.any_rule.Tie as tie
@@ -45,21 +46,35 @@ loop-holds c = let a = c .before .before in
 is-live-requires : tie.Need-is-live-requires Inv-loop μ-loop
 is-live-requires c κs = here c
 
-reaches-from-requires : tie.Need-reaches-from-requires Inv-loop μ-loop
-reaches-from-requires c κs = let d = c .before .before .before in (record { known = d .before .before .before .before .pre .known; here = here d; is = c .before .before .is-live .ensures }, d .before .loop .inv .kept)
+reaches-requires : tie.Need-reaches-requires Inv-loop μ-loop
+reaches-requires c κs = let d = c .before .before in (record { known = d .before .before .before .before .pre .known; here = here d; is = c .before .is-live .ensures }, d .before .loop .inv .kept .reach)
+
+add-meets : tie.Need-add-meets Inv-loop μ-loop
+add-meets c = let h = here (c .before .before .before .before) in omega (arith, h .long, h .here .inside)
+
+meets-requires : tie.Need-meets-requires Inv-loop μ-loop
+meets-requires c κs = let d = c .before .before .before .before .before in (d .before .before .before .before .pre .known, rule-source _ _ _ (here d), d .before .loop .inv .kept .source)
 
 returns : tie.Need-returns Inv-loop μ-loop
-returns c = let d = c .before .before .before .before .before in any-hit _ (d .before .loop .inv .walk) (omega arith) (sym (c .before .reaches-from .ensures .is) ∙ c .if1 .taken)
+returns c = let d = c .before .before .before .before .before .before .before in
+    any-hit _ (d .before .loop .inv .walk) (omega arith)
+    (reaching-source _ _ _ (sym (c .before .before .before .before .reaches .ensures .is) ∙ c .before .before .before .if1 .taken) ∙ ap (anyIs _ _) (source-is _ _ _ (here d)) ∙ sym (c .before .meets .ensures .is) ∙ c .if2 .taken)
 
 past-requires : tie.Need-past-requires Inv-loop μ-loop
-past-requires c κs = let d = c .before .before .before .before .before in (here d, live-length _ _ _ (here d) _ (c .before .before .before .before .is-live .ensures))
+past-requires c κs = let d = c .before .before .before .before in (here d, live-length _ _ _ (here d) _ (c .before .before .before .is-live .ensures))
 
 loop-again : tie.Need-loop-again Inv-loop μ-loop
-loop-again c = let d = c .before .before .before .before .before .before in
+loop-again c = let d = c .before .before .before .before .before in
+    let I = d .before .loop .inv in
+    let r = c .before .before .reaches .ensures in
+    ⊎-elim
+    (λ w.
     record {
-      walk = any-next _ (d .before .loop .inv .walk) (omega arith) (sym (c .before .before .reaches-from .ensures .is) ∙ c .before .if1 .left) _ (c .past .ensures);
-      kept = c .before .before .reaches-from .ensures .kept;
-    }
+      walk = any-next _ (I .walk) (omega arith) (reaching-source _ _ _ (sym (r .is) ∙ w .0 .taken) ∙ ap (anyIs _ _) (source-is _ _ _ (here d)) ∙ sym (w .2 .ensures .is) ∙ w .3 .left) _ (c .past .ensures);
+      kept = record { reach = r .kept; source = rw (w .4) (w .2 .ensures .kept) };
+    })
+    (λ w. record { walk = any-next _ (I .walk) (omega arith) (not-reaching _ _ _ (sym (r .is) ∙ w .0 .left)) _ (c .past .ensures); kept = record { reach = r .kept; source = rw (w .1) (I .kept .source) } })
+    (c .before .if1 .came)
 
 returns-2 : tie.Need-returns-2 Inv-loop μ-loop
 returns-2 c = any-end _ (c .before .loop .inv .walk) (λ z. absurd (omega arith))
@@ -73,7 +88,9 @@ any-rule-spec =
     word-in-requires
     loop-holds
     is-live-requires
-    reaches-from-requires
+    reaches-requires
+    add-meets
+    meets-requires
     returns
     past-requires
     (λ c. omega arith)
