@@ -5,7 +5,7 @@
 --     shared-is                                         the two share a member where a number is marked in both
 use Prim.Native.Nat.{ℕ, zero, suc, _+_, _<_}
 use mathlib.Core.Path.{_≡_, refl, sym, ap, _∙_}
-use mathlib.Core.Bool.{Bool, Bool·beq, true, false, or-true, or-false, _&&_, _||_}
+use mathlib.Core.Bool.{Bool, true, false, or-false, _&&_, _||_}
 use mathlib.Core.List.{List, [], _∷_}
 use native.Mathlib.Omega.{arith}
 use native.Mathlib.Numerals.{add-one}
@@ -98,28 +98,9 @@ module _ (l : List ℕ) (ms : List Bool) where
 -- ---- numbers that are marked in both
 
 module _ (ms ns : List Bool) where
-  both-next : (i : ℕ) (b : Bool) → getD ms i false && getD ns i false ≡ b → bothBelow ms ns (i + 1) ≡ bothBelow ms ns i || b
+  pub both-next : (i : ℕ) → bothBelow ms ns (i + 1) ≡ bothBelow ms ns i || getD ms i false && getD ns i false
   unfolding bothBelow
-  both-next i b e = rw (add-one i) (ap (λ x. bothBelow ms ns i || x) e)
-
-  pub both-on : (i : ℕ) → Bool·beq (getD ns i false) (getD ms i false) ≡ true → getD ms i false ≡ true → bothBelow ms ns (i + 1) ≡ true
-  both-on i e t = both-next i true (go (getD ms i false) (getD ns i false) e t) ∙ or-true (bothBelow ms ns i)
-    where
-      go : (a b : Bool) → Bool·beq b a ≡ true → a ≡ true → a && b ≡ true
-      go true true e t = refl
-      go true false e t = e
-      go false b e t = t
-
-  pub both-off : (i : ℕ) → getD ms i false && getD ns i false ≡ false → bothBelow ms ns (i + 1) ≡ bothBelow ms ns i
-  both-off i e = both-next i false e ∙ or-false (bothBelow ms ns i)
-
-  pub both-differ : (i : ℕ) → Bool·beq (getD ns i false) (getD ms i false) ≡ false → getD ms i false && getD ns i false ≡ false
-  both-differ i = go (getD ms i false) (getD ns i false)
-    where
-      go : (a b : Bool) → Bool·beq b a ≡ false → a && b ≡ false
-      go true true e = e
-      go true false e = refl
-      go false b e = refl
+  both-next i = rw (add-one i) refl
 
   both-elim : (n : ℕ) → bothBelow ms ns n ≡ true → (k : ℕ) × (getD ms k false ≡ true) × (getD ns k false ≡ true)
   unfolding bothBelow

@@ -4,8 +4,8 @@ use crate::kept::inside;
 use crate::kept::keep;
 use crate::predicates::any_rule;
 use crate::separation::any_shared;
+use crate::sets::mark_at;
 use crate::sets::mark_types;
-use crate::sets::marks_at;
 use crate::word::wide;
 use crate::word::wide_word;
 use crate::word::word_in;
@@ -23,8 +23,10 @@ fn separation_broken(image: &[u8], groups: &[u16; 256], s: Starts, at: usize) ->
     requires { ⌜ Ready (now image) (now groups) s × ConstraintHere (now image) at ⌝ }
     ensures { λ r. ⌜ r ≡ separationBroken (rulesIn (now (image .entry))) (constraintIn (now (image .entry)) at) ⌝ }
 {
-    let first = marks_at(image, groups, at + 6);
-    let second = marks_at(image, groups, at + 8);
+    let mut first = [false; 1024];
+    mark_at(image, groups, at + 6, &mut first);
+    let mut second = [false; 1024];
+    mark_at(image, groups, at + 8, &mut second);
     any_shared(image, groups, s, &first, &second)
 }
 
@@ -33,7 +35,8 @@ fn roster_broken(image: &[u8], groups: &[u16; 256], s: Starts, at: usize) -> boo
     requires { ⌜ Ready (now image) (now groups) s × ConstraintHere (now image) at ⌝ }
     ensures { λ r. ⌜ r ≡ rosterBroken (rulesIn (now (image .entry))) (constraintIn (now (image .entry)) at) ⌝ }
 {
-    let second = marks_at(image, groups, at + 8);
+    let mut second = [false; 1024];
+    mark_at(image, groups, at + 8, &mut second);
     let mut list = [false; 1024];
     let types = (wide(image[at]) - 11) / 2;
     mark_types(image, groups, at + 11, types, &mut list);
@@ -45,8 +48,10 @@ fn companion_broken(image: &[u8], groups: &[u16; 256], s: Starts, at: usize) -> 
     requires { ⌜ Ready (now image) (now groups) s × ConstraintHere (now image) at ⌝ }
     ensures { λ r. ⌜ r ≡ companionBroken (rulesIn (now (image .entry))) (constraintIn (now (image .entry)) at) ⌝ }
 {
-    let first = marks_at(image, groups, at + 6);
-    let second = marks_at(image, groups, at + 8);
+    let mut first = [false; 1024];
+    mark_at(image, groups, at + 6, &mut first);
+    let mut second = [false; 1024];
+    mark_at(image, groups, at + 8, &mut second);
     !any_rule(image, groups, s, &first, &second, true)
 }
 

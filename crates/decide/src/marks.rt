@@ -68,19 +68,14 @@ pub(crate) fn fully_marked(
     hits == size
 }
 
-// Whether a number is marked in both. It walks to the end and reads both marks, so that several numbers are looked at at once.
+// Whether a number is marked in both. It reads all marks of both, so that several are looked at at once.
 pub(crate) fn any_both(a: &[bool; 1024], b: &[bool; 1024]) -> bool
     ensures { λ r. ⌜ r ≡ bothBelow (now (a .entry)) (now (b .entry)) 1024 ⌝ }
 {
     let mut found = false;
     let mut i: usize = 0;
     while i < 1024 {
-        let x = a[i];
-        if b[i] == x {
-            if x {
-                found = true;
-            }
-        }
+        found = found | (a[i] & b[i]);
         i += 1;
     }
     found

@@ -10,7 +10,7 @@ ghost use Rattle.format.specs.Claims.{IsType};
 ghost use Rattle.format.specs.Inner.Places.{wordsAt};
 ghost use Rattle.decision.specs.Sets.{unionOf};
 ghost use Rattle.decide.specs.Inner.Parts.{Known, TypeAt, TypesAt, groupsIn, setIn, setAt};
-ghost use Rattle.decide.specs.Inner.Marks.{Basic, noMarks, markAll};
+ghost use Rattle.decide.specs.Inner.Marks.{Basic, markAll};
 ghost use Rattle.decide.specs.Inner.Kept.{Unmarks};
 ghost use Rattle.decide.specs.Inner.Sources.{Joined, has, Marking};
 
@@ -34,17 +34,15 @@ pub(crate) fn mark_type(
     s.count
 }
 
-// The marks of the type in the field at a place.
-pub(crate) fn marks_at(image: &[u8], groups: &[u16; 256], at: usize) -> [bool; 1024]
+// Marks the basic types of the type in the field at a place.
+pub(crate) fn mark_at(image: &[u8], groups: &[u16; 256], at: usize, marks: &mut [bool; 1024])
     requires { ⌜ Known (now image) (now groups) × TypeAt (now image) at ⌝ }
-    ensures { λ r. ⌜ r ≡ markAll noMarks (setAt (now (image .entry)) at) ⌝ }
+    ensures { λ _. ⌜ now (marks .exit) ≡ markAll (now (marks .entry)) (setAt (now (image .entry)) at) ⌝ }
 {
-    let mut marks = [false; 1024];
-    mark_type(image, groups, word_in(image, at), &mut marks);
-    marks
+    mark_type(image, groups, word_in(image, at), marks);
 }
 
-// Marks the basic types of the type in the field at a place; a group's once, as is told by a table of those that were.
+// The same, of a group once: a table tells those that were marked.
 pub(crate) fn mark_once(
     image: &[u8],
     groups: &[u16; 256],

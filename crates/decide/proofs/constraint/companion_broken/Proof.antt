@@ -9,11 +9,11 @@ use Rattle.decide.proofs.constraint.companion_broken.Statement.{stateme
 use Rattle.decide.proofs.constraint.companion_broken.Tie as tie
 
 returns : tie.Need-returns
-returns c = let a = c .before .before .before .before .before .before in
+returns c = let a = c .before .before .before .before .before .before .before .before in
     ap not (c .any-rule .ensures)
     ∙ companion-is _ (constraintIn (now (a .args .image)) (a .args .at)) _ _
-    (marks-first _ _ _ (a .pre .1) (a .pre .0 .known .accepted) _ (c .before .before .before .before .marks-at .ensures))
-    (marks-second _ _ _ (a .pre .1) (a .pre .0 .known .accepted) _ (c .before .before .before .marks-at2 .ensures))
+    (marks-first _ _ _ (a .pre .1) (a .pre .0 .known .accepted) _ (c .before .before .before .before .before .mark-at .ensures))
+    (marks-second _ _ _ (a .pre .1) (a .pre .0 .known .accepted) _ (c .before .before .before .mark-at2 .ensures))
 
 pub companion-broken-spec : {M : Type 1} → statement M
 companion-broken-spec =

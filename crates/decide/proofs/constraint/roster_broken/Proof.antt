@@ -10,15 +10,15 @@ use Rattle.decide.proofs.constraint.roster_broken.Statement.{statement}
 use Rattle.decide.proofs.constraint.roster_broken.Tie as tie
 
 mark-types-requires : tie.Need-mark-types-requires
-mark-types-requires c κs = let p = c .before .before .before .before .before .pre in (p .0 .known, constraint-types _ _ _ (p .1) _ (c .before .wide .ensures .0))
+mark-types-requires c κs = let p = c .before .before .before .before .before .before .pre in (p .0 .known, constraint-types _ _ _ (p .1) _ (c .before .wide .ensures .0))
 
 returns : tie.Need-returns
-returns c = let a = c .before .before .before .before .before .before .before .before .before in
+returns c = let a = c .before .before .before .before .before .before .before .before .before .before in
     let p = a .pre in
     let w = c .before .before .before .before .before .wide .ensures .0 in
     c .any-rule .ensures
     ∙ roster-is _ (constraintIn (now (a .args .image)) (a .args .at)) _ _
-    (marks-second _ _ _ (p .1) (p .0 .known .accepted) _ (c .before .before .before .before .before .before .before .marks-at .ensures))
+    (marks-second _ _ _ (p .1) (p .0 .known .accepted) _ (c .before .before .before .before .before .before .before .mark-at .ensures))
     (marks-small _ _ _ (union-small _ _ _ (p .0 .known .accepted) (constraint-types _ _ _ (p .1) _ w .are)) (list-is _ _ _ (p .1) _ w) (c .before .before .before .mark-types .ensures))
 
 pub roster-broken-spec : {M : Type 1} → statement M

@@ -8,11 +8,11 @@ use Rattle.decide.proofs.constraint.separation_broken.Statement.{statem
 use Rattle.decide.proofs.constraint.separation_broken.Tie as tie
 
 returns : tie.Need-returns
-returns c = let a = c .before .before .before .before .before .before in
+returns c = let a = c .before .before .before .before .before .before .before .before in
     c .any-shared .ensures
     ∙ separation-is _ (constraintIn (now (a .args .image)) (a .args .at)) _ _
-    (marks-first _ _ _ (a .pre .1) (a .pre .0 .known .accepted) _ (c .before .before .before .before .marks-at .ensures))
-    (marks-second _ _ _ (a .pre .1) (a .pre .0 .known .accepted) _ (c .before .before .before .marks-at2 .ensures))
+    (marks-first _ _ _ (a .pre .1) (a .pre .0 .known .accepted) _ (c .before .before .before .before .before .mark-at .ensures))
+    (marks-second _ _ _ (a .pre .1) (a .pre .0 .known .accepted) _ (c .before .before .before .mark-at2 .ensures))
 
 pub separation-broken-spec : {M : Type 1} → statement M
 separation-broken-spec =

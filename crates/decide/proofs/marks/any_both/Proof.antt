@@ -2,10 +2,11 @@
 use native.Mathlib.Omega.{arith}
 use Prim.Native.Nat.{_-_, _≤_}
 use mathlib.Core.Path.{_≡_, refl, sym, ap, _∙_}
-use mathlib.Core.Logic.{⊎-elim}
+use mathlib.Core.Bool.{false, _&&_, _||_}
+use lib.ListN.{getD}
 use denote.Ref.{now}
 use Rattle.decide.specs.Inner.Marks.{bothBelow}
-use Rattle.decide.proofs.SourceLaws.{both-on, both-off, both-differ}
+use Rattle.decide.proofs.SourceLaws.{both-next}
 use Rattle.decide.proofs.marks.any_both.Statement.{statement}
 use Rattle.decide.proofs.marks.any_both.Tie as tie
 
@@ -20,15 +21,9 @@ unfolding bothBelow
 loop-holds c = (refl, omega arith)
 
 loop-again : tie.Need-loop-again Inv-loop μ-loop
-loop-again c = let L = c .before .before .before .before .loop in
-    let a = now (c .before .before .before .before .before .args .a) in
-    let b = now (c .before .before .before .before .before .args .b) in
-    ⊎-elim
-    (λ w. (w .2 ∙ sym (both-on a b (L .i) (w .0 .taken) (w .1 .taken)), omega arith))
-    (⊎-elim
-    (λ w. (w .2 ∙ L .inv .0 ∙ sym (both-off a b (L .i) (simp (w .1 .left))), omega arith))
-    (λ w. (w .1 ∙ L .inv .0 ∙ sym (both-off a b (L .i) (both-differ a b (L .i) (w .0 .left))), omega arith)))
-    (c .if1 .came)
+loop-again c = let a = c .before .before .before .before .args in
+    let L = c .before .before .before .loop in
+    (ap (λ x. x || getD (now (a .a)) (L .i) false && getD (now (a .b)) (L .i) false) (L .inv .0) ∙ sym (both-next _ _ (L .i)), omega arith)
 
 returns : tie.Need-returns Inv-loop μ-loop
 returns c = let L = c .before .loop in let e : L .i ≡ 1024 = omega arith in L .inv .0 ∙ ap (bothBelow _ _) e
