@@ -10,7 +10,7 @@ mod rows;
 mod table;
 mod texts;
 
-use cases::constraints::{bans, companions, rosters, separations};
+use cases::constraints::held;
 use cases::search::{self, search};
 use cases::sizes::{self, limit, middle, sample};
 use measure::Effort;
@@ -35,7 +35,7 @@ fn main() {
         search("uncovered, 1024 rules".to_string(), 256, 1024, false),
         search("covered by the last of them".to_string(), 256, 1024, true),
     ];
-    let held = [bans(), separations(), rosters(), companions()];
+    let held = held();
     table::print("The longest searches", searches.iter().chain(&held), effort);
     table::print(
         "Growth with the rules: uncovered, 256 groups",

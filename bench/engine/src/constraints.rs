@@ -2,7 +2,6 @@
 
 use crate::format::number;
 use crate::groups::{numbers, pairs};
-use crate::names::Names;
 use crate::rules::key;
 
 pub struct Constraint<'a> {
@@ -14,12 +13,6 @@ pub struct Constraint<'a> {
 }
 
 impl Constraint<'_> {
-    pub fn renamed(mut self, names: &Names) -> Self {
-        self.first = names.of(self.first);
-        self.second = names.of(self.second);
-        self
-    }
-
     pub fn list(&self) -> impl Iterator<Item = u16> + '_ {
         numbers(self.list)
     }

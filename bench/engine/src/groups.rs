@@ -31,6 +31,12 @@ impl<'a> Groups<'a> {
         pairs(&self.image[at + 2..at + usize::from(self.image[at])])
     }
 
+    pub fn set_of(&self, group: usize) -> Set {
+        let mut set = Set::EMPTY;
+        self.mark_group(group, &mut set);
+        set
+    }
+
     /// How many of a group's members are in a set.
     #[inline]
     pub fn count_in(&self, group: usize, set: &Set) -> usize {
@@ -46,7 +52,7 @@ impl<'a> Groups<'a> {
 impl Sets for Groups<'_> {
     #[inline]
     fn mark_group(&self, group: usize, set: &mut Set) {
-        self.basic_types(group).for_each(|basic| set.insert(basic));
+        set.insert_rising(self.basic_types(group));
     }
 
     #[inline]
@@ -57,6 +63,22 @@ impl Sets for Groups<'_> {
     #[inline]
     fn group_touches(&self, group: usize, set: &Set) -> bool {
         self.basic_types(group).any(|basic| set.has(basic))
+    }
+}
+
+/// Groups as sets, each kept from the first time that it is asked for.
+pub struct Kept(Vec<Option<Set>>);
+
+impl Kept {
+    pub const NEW: Kept = Kept(Vec::new());
+
+    /// Puts a group's members into a set.
+    #[inline]
+    pub fn include(&mut self, groups: &Groups<'_>, group: usize, set: &mut Set) {
+        if self.0.is_empty() {
+            self.0.resize(usize::from(groups.count), None);
+        }
+        set.include(self.0[group].get_or_insert_with(|| groups.set_of(group)));
     }
 }
 

@@ -15,7 +15,6 @@ mod format;
 mod give;
 mod groups;
 mod inner;
-mod names;
 mod nearest;
 mod opened;
 mod predicate;
@@ -27,6 +26,7 @@ mod rules;
 mod run;
 mod set;
 mod sets;
+mod types;
 
 pub use add::add;
 pub use build::{build, BuildRefusal};

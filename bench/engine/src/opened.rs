@@ -1,35 +1,35 @@
 //! A checked image with what its decisions share: the places of its groups and rules and, once one is asked for, the
-//! groups' names and what each constraint's predicate says of the live rules.
+//! groups as sets and what each constraint's predicate says of the live rules.
 
 use crate::constraints::Constraints;
 use crate::decide::covered;
 use crate::format::check_query;
-use crate::groups::Groups;
+use crate::groups::{Groups, Kept};
 use crate::inner::Inner;
-use crate::names::Names;
 use crate::nearest::{nearest, Inside};
 use crate::predicate::{holds, Pair};
 use crate::rules::{key, live, Rules};
+use crate::set::Set;
 use crate::sets::Memo;
 use mungaite::{Decision, Query, Refusal};
 
 pub struct Opened<'a> {
     groups: &'a Groups<'a>,
     rules: Rules<'a>,
-    names: Option<Names>,
     held: Memo,
+    kept: Kept,
 }
 
 impl<'a> Opened<'a> {
     /// Opens an image that `check` accepted before.
     #[inline]
     pub fn new(image: &'a [u8], groups: &'a Groups<'a>) -> Opened<'a> {
-        Opened { groups, rules: Rules::of(image, groups), names: None, held: Memo::NEW }
+        Opened { groups, rules: Rules::of(image, groups), held: Memo::NEW, kept: Kept::NEW }
     }
 
     #[inline]
     pub fn decide(&mut self, query: Query) -> Result<Decision, Refusal> {
-        let Opened { groups, rules, names, held } = self;
+        let Opened { groups, rules, held, kept } = self;
         let groups = *groups;
         check_query(query, groups.count)?;
         let key = key(query.class, query.action);
@@ -47,7 +47,8 @@ impl<'a> Opened<'a> {
             constraint.key == key
                 && within((constraint.first, constraint.second))
                 && !held.ask(*number, || {
-                    holds(constraint, groups, live(rules.clone()), || names.get_or_insert_with(|| Names::find(groups)))
+                    let include = |group, set: &mut Set| kept.include(groups, group, set);
+                    holds(constraint, groups, live(rules.clone()), include)
                 })
         });
         Ok(covered(rule, broken.map(|(number, _)| number)))

@@ -2,49 +2,50 @@
 //! further part.
 
 use crate::constraints::Constraint;
-use crate::names::{Named, Names};
 use crate::record::{COMPANION, ROSTER, SEPARATION};
+use crate::set::Set;
 use crate::sets::{Against, Sets};
+use crate::types::Types;
 
 /// Source and destination of a live rule.
 pub type Pair = (u16, u16);
 
-/// The names are asked for by a separation only.
-pub fn holds<'n, S: Sets>(
+/// A separation alone asks for whole groups: `include` puts a group's members into a set.
+pub fn holds<S: Sets>(
     constraint: &Constraint<'_>,
     sets: &S,
     live: impl Iterator<Item = Pair>,
-    names: impl FnOnce() -> &'n Names,
+    include: impl FnMut(usize, &mut Set),
 ) -> bool {
     match constraint.predicate {
-        SEPARATION => separation(constraint, sets, live, names()),
+        SEPARATION => separation(constraint, sets, live, include),
         ROSTER => roster(constraint, sets, live),
         COMPANION => companion(constraint, sets, live),
         _ => false,
     }
 }
 
-/// No source reaches both arguments.
+/// No basic type reaches both arguments. Sources are gathered as types, each of them once, and looked into at the end;
+/// a rule that reaches both is enough, as no set is empty.
 fn separation<S: Sets>(
     constraint: &Constraint<'_>,
     sets: &S,
-    mut live: impl Iterator<Item = Pair>,
-    names: &Names,
+    live: impl Iterator<Item = Pair>,
+    mut include: impl FnMut(usize, &mut Set),
 ) -> bool {
     let mut first = Against::new(sets, [constraint.first]);
     let mut second = Against::new(sets, [constraint.second]);
-    let mut to_first = Named::NONE;
-    let mut to_second = Named::NONE;
-    live.all(|(source, destination)| {
-        let name = names.of(source);
-        if first.touched_by(destination) {
-            to_first.insert(name);
+    let mut to_first = Types::NONE;
+    let mut to_second = Types::NONE;
+    for (source, destination) in live {
+        match (first.touched_by(destination), second.touched_by(destination)) {
+            (true, true) => return false,
+            (true, false) => to_first.insert(source),
+            (false, true) => to_second.insert(source),
+            (false, false) => {}
         }
-        if second.touched_by(destination) {
-            to_second.insert(name);
-        }
-        !(to_first.has(name) && to_second.has(name))
-    })
+    }
+    to_first.is_empty() || !to_first.union(&mut include).touches(&to_second.union(include))
 }
 
 /// Whoever reaches the second argument is on the list.

@@ -4,7 +4,6 @@ use crate::constraints::{Constraint, Constraints};
 use crate::decide::covered;
 use crate::format::{check_query, group_of};
 use crate::groups::Groups;
-use crate::names::Names;
 use crate::nearest::{nearest, Inside};
 use crate::predicate::{holds, Pair};
 use crate::rules::{key, live, Rule, Rules};
@@ -13,9 +12,7 @@ use crate::set::Set;
 use crate::sets::{Memo, Sets};
 use mungaite::{Decision, Query, Refusal, Run};
 
-/// Types are held under their names: equal fields are equal sets, and a group that is named has two members or more.
 pub struct Prepared<'a> {
-    names: Names,
     groups: Expanded,
     rules: Vec<Rule>,
     live: Vec<Pair>,
@@ -26,15 +23,13 @@ impl<'a> Prepared<'a> {
     /// Unpacks an image that `check` accepted before.
     pub fn new(image: &'a [u8]) -> Prepared<'a> {
         let groups = Groups::find(image);
-        let names = Names::find(&groups);
         let rules = Rules::of(image, &groups);
         let constraints = Constraints { rest: rules.clone().skip() };
         Prepared {
             groups: Expanded::new(&groups),
-            live: live(rules.clone()).map(|(source, destination)| (names.of(source), names.of(destination))).collect(),
-            rules: rules.map(|rule| rule.renamed(&names)).collect(),
-            constraints: constraints.map(|constraint| constraint.renamed(&names)).collect(),
-            names,
+            live: live(rules.clone()).collect(),
+            rules: rules.collect(),
+            constraints: constraints.collect(),
         }
     }
 
@@ -60,7 +55,7 @@ impl<'a> Prepared<'a> {
     ) -> Result<Decision, Refusal> {
         check_query(query, self.groups.0.len() as u16)?;
         let key = key(query.class, query.action);
-        let types = (self.names.of(query.source), self.names.of(query.destination));
+        let types = (query.source, query.destination);
         let covers = |rule: &Rule| rule.may_cover(key) && self.within(types, rule.types());
         let Some(rule) = self.rules.iter().position(covers) else {
             let (mut source, mut destination) = (self.groups.inner(types.0), self.groups.inner(types.1));
@@ -77,7 +72,8 @@ impl<'a> Prepared<'a> {
 
     #[inline]
     fn holds(&self, constraint: &Constraint<'_>) -> bool {
-        holds(constraint, &self.groups, self.live.iter().copied(), || &self.names)
+        let include = |group, set: &mut Set| self.groups.mark_group(group, set);
+        holds(constraint, &self.groups, self.live.iter().copied(), include)
     }
 
     fn within(&self, inner: Pair, outer: Pair) -> bool {
@@ -90,23 +86,18 @@ struct Expanded(Vec<Set>);
 
 impl Expanded {
     fn new(groups: &Groups<'_>) -> Expanded {
-        let set_of = |group| {
-            let mut set = Set::EMPTY;
-            groups.mark_group(group, &mut set);
-            set
-        };
-        Expanded((0..usize::from(groups.count)).map(set_of).collect())
+        Expanded((0..usize::from(groups.count)).map(|group| groups.set_of(group)).collect())
     }
 
     fn inner(&self, field: u16) -> Inner<'_> {
         Inner { groups: self, field }
     }
 
-    /// Of types under their names.
     fn within(&self, inner: u16, outer: u16) -> bool {
         inner == outer
             || match (group_of(inner), group_of(outer)) {
-                (_, None) => false,
+                (None, None) => false,
+                (Some(inner), None) => self.0[inner].is(outer),
                 (None, Some(outer)) => self.0[outer].has(inner),
                 (Some(inner), Some(outer)) => self.0[inner].within(&self.0[outer]),
             }

@@ -2,7 +2,6 @@
 
 use crate::format::{count, RULES};
 use crate::groups::Groups;
-use crate::names::Names;
 use crate::record::{ALLOW, TRANSITION};
 
 #[derive(Clone, Copy)]
@@ -37,16 +36,6 @@ impl Rule {
         match *self {
             Rule::Allow { source, destination, .. } | Rule::Transition { source, destination } => (source, destination),
         }
-    }
-
-    pub fn renamed(mut self, names: &Names) -> Rule {
-        match &mut self {
-            Rule::Allow { source, destination, .. } | Rule::Transition { source, destination } => {
-                *source = names.of(*source);
-                *destination = names.of(*destination);
-            }
-        }
-        self
     }
 }
 

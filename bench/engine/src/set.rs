@@ -11,9 +11,29 @@ impl Set {
         self.0[word(basic)] |= 1 << (basic % 64);
     }
 
+    /// Inserts basic types that rise: those of one word are put together before it is written.
+    #[inline]
+    pub fn insert_rising(&mut self, basics: impl Iterator<Item = u16>) {
+        let (mut place, mut bits) = (0, 0);
+        for basic in basics {
+            if word(basic) != place {
+                self.0[place] |= bits;
+                (place, bits) = (word(basic), 0);
+            }
+            bits |= 1 << (basic % 64);
+        }
+        self.0[place] |= bits;
+    }
+
     #[inline]
     pub fn has(&self, basic: u16) -> bool {
         self.0[word(basic)] >> (basic % 64) & 1 == 1
+    }
+
+    /// Whether it is the set of this basic type alone.
+    #[inline]
+    pub fn is(&self, basic: u16) -> bool {
+        self.has(basic) && self.0.iter().map(|word| word.count_ones()).sum::<u32>() == 1
     }
 
     pub fn include(&mut self, other: &Set) {

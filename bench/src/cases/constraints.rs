@@ -3,32 +3,32 @@
 use crate::contest::Case;
 use mungaite_tests::draft::{allow, constraint, transition, Draft, BAN, COMPANION, ROSTER, SEPARATION};
 use mungaite_tests::sample::query;
-use std::ops::Range;
 
-/// The query's source is within the first argument of each ban, and its destination misses the second by one member.
-pub fn bans() -> Case {
-    case("256 bans, near misses", BAN, |parts, n| parts.near[n % parts.near.len()])
+pub fn held() -> [Case; 5] {
+    [
+        // The query's source is within the first argument of each ban, and its destination misses the second by one
+        // member.
+        case("256 bans, near misses", BAN, Sources::Groups, |parts, n| parts.near[n % parts.near.len()]),
+        // Half of the rules reach the first argument, half the second.
+        case("256 separations that hold, of groups", SEPARATION, Sources::Groups, Parts::second),
+        case("256 separations that hold, basic types", SEPARATION, Sources::BasicTypes, Parts::second),
+        // Half of the rules reach the second argument, all from the list.
+        case("256 rosters that hold, 16 groups each", ROSTER, Sources::Groups, Parts::second),
+        // The last live rule is the one that is needed.
+        case("256 companions that hold", COMPANION, Sources::Groups, Parts::second),
+    ]
 }
 
-/// Half of the rules reach the first argument, half the second.
-pub fn separations() -> Case {
-    case("256 separations that hold", SEPARATION, Parts::second)
-}
-
-/// Half of the rules reach the second argument, all from the list.
-pub fn rosters() -> Case {
-    case("256 rosters that hold, 16 groups each", ROSTER, Parts::second)
-}
-
-/// The last live rule is the one that is needed.
-pub fn companions() -> Case {
-    case("256 companions that hold", COMPANION, Parts::second)
+/// What the rules' sources are: 64 of them to the first argument, and 64 others to the second.
+enum Sources {
+    Groups,
+    BasicTypes,
 }
 
 /// A policy with 256 constraints of a predicate, given by their second arguments.
-fn case(name: &str, predicate: u8, second: impl Fn(&Parts, usize) -> u16) -> Case {
+fn case(name: &str, predicate: u8, sources: Sources, second: impl Fn(&Parts, usize) -> u16) -> Case {
     let mut policy = Draft::default();
-    let parts = Parts::new(&mut policy);
+    let parts = Parts::new(&mut policy, sources);
     let list = if predicate == ROSTER { parts.list.as_slice() } else { &[] };
     for n in 0..256 {
         policy.constraints.push(constraint(5, 1, parts.firsts[n % 32], second(&parts, n), predicate, list));
@@ -47,26 +47,32 @@ struct Parts {
 
 impl Parts {
     /// Adds the groups and 1,024 rules: 1,023 live ones, the last of them the companion, and a transition that covers
-    /// the query. No source reaches both arguments, and each reaches one by the last of 64 members.
-    fn new(policy: &mut Draft) -> Parts {
+    /// the query. The sources to the first argument are even and those to the second odd, so they share nothing and lie
+    /// among each other; each reaches its argument by the last of 64 members.
+    fn new(policy: &mut Draft, sources: Sources) -> Parts {
         let query = policy.add_group(800..862);
-        let sources = family(policy, 128, 512..575, &[], 575);
-        let to_first = family(policy, 16, 700..762, &[900], 762);
-        let to_second = family(policy, 16, 700..762, &[901], 762);
+        let even = family(policy, (0..126).step_by(2), (126..254).step_by(2), &[]);
+        let odd = family(policy, (1..127).step_by(2), (127..255).step_by(2), &[]);
+        let to_first = family(policy, 700..762, 762..778, &[900]);
+        let to_second = family(policy, 700..762, 762..778, &[901]);
         for rule in 0..511 {
-            let (low, high) = (sources[rule % 64], sources[64 + rule % 64]);
-            policy.rules.push(allow(low, to_first[rule / 7 % 16], 5, 1, 1));
-            policy.rules.push(allow(high, to_second[rule / 5 % 16], 5, 1, 1));
+            let n = rule % 64;
+            let (one, other) = match sources {
+                Sources::Groups => (even[n], odd[n]),
+                Sources::BasicTypes => (2 * n as u16, 2 * n as u16 + 1),
+            };
+            policy.rules.push(allow(one, to_first[rule / 7 % 16], 5, 1, 1));
+            policy.rules.push(allow(other, to_second[rule / 5 % 16], 5, 1, 1));
         }
         policy.rules.push(allow(to_second[0], to_first[0], 5, 1, 1));
         policy.rules.push(transition(query, query, 5));
-        let rest_of_list = policy.add_group(639..703);
+        let rest_of_list = policy.add_group((127..255).step_by(2));
         Parts {
             query,
-            firsts: family(policy, 32, 800..862, &[900], 862),
-            seconds: family(policy, 32, 800..862, &[901], 862),
-            near: family(policy, 28, 800..861, &[900, 901], 862),
-            list: [&sources[64..79], &[rest_of_list]].concat(),
+            firsts: family(policy, 800..862, 862..894, &[900]),
+            seconds: family(policy, 800..862, 862..894, &[901]),
+            near: family(policy, 800..861, 862..890, &[900, 901]),
+            list: [&odd[..15], &[rest_of_list]].concat(),
         }
     }
 
@@ -75,9 +81,26 @@ impl Parts {
     }
 }
 
-/// Groups that share all members but one; the first has `varied` for it.
-fn family(policy: &mut Draft, count: u16, shared: Range<u16>, last: &[u16], varied: u16) -> Vec<u16> {
-    (varied..varied + count)
-        .map(|own| policy.add_group(shared.clone().chain([own]).chain(last.iter().copied())))
-        .collect()
+/// Groups that share all members but one, each with one of its own behind the shared ones.
+fn family(
+    policy: &mut Draft,
+    shared: impl Iterator<Item = u16> + Clone,
+    own: impl Iterator<Item = u16>,
+    last: &[u16],
+) -> Vec<u16> {
+    own.map(|own| policy.add_group(shared.clone().chain([own]).chain(last.iter().copied()))).collect()
+}
+
+#[cfg(test)]
+mod tests {
+    use super::*;
+    use mungaite::{decide, Decision};
+
+    /// Permitted by the transition, so no constraint is broken.
+    #[test]
+    fn constraints_hold() {
+        for case in held() {
+            assert_eq!(decide(&case.image, case.queries[0]), Ok(Decision::Permitted { rule: 1023 }), "{}", case.name);
+        }
+    }
 }

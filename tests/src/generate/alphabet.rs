@@ -35,6 +35,13 @@ impl Alphabet {
         random.pick(&self.actions)
     }
 
+    /// Three basic types: its own, where it has as many.
+    pub fn three_basics(&self, random: &mut Random) -> [u16; 3] {
+        let mut basics = if self.basics.len() < 3 { BASICS.to_vec() } else { self.basics.clone() };
+        random.shuffle(&mut basics);
+        [basics[0], basics[1], basics[2]]
+    }
+
     /// A valid type field where there are so many groups.
     pub fn type_field(&self, random: &mut Random, groups: usize) -> u16 {
         if groups > 0 && random.percent(55) {

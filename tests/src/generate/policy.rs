@@ -1,16 +1,20 @@
 //! Random policies that are accepted.
 
 use super::alphabet::Alphabet;
-use crate::draft::Draft;
+use crate::draft::{allow, constraint, transition, Draft, SEPARATION};
 use crate::random::Random;
 
-/// A small policy; in one of twenty cases a larger one, in one of a hundred with one section at its limit.
+/// A small policy, in one of ten cases about a separation. Of the others one of twenty is larger, and one of a hundred
+/// has a section at its limit.
 pub fn policy(random: &mut Random, alphabet: &Alphabet) -> Draft {
     let mut counts = [random.of(0..=4), random.of(0..=7), random.of(0..=4)];
-    if random.percent(5) {
+    let separation = random.percent(10);
+    if separation {
+        counts[1] = random.of(0..=2);
+    } else if random.percent(5) {
         counts = [random.of(0..=40), random.of(0..=80), random.of(0..=30)];
     }
-    if random.percent(1) {
+    if !separation && random.percent(1) {
         let full = random.of(0..=2);
         counts[full] = [256, 1024, 256][full];
     }
@@ -21,7 +25,34 @@ pub fn policy(random: &mut Random, alphabet: &Alphabet) -> Draft {
     let groups = draft.groups.len();
     draft.rules.extend((0..counts[1]).map(|_| alphabet.rule(random, groups)));
     draft.constraints.extend((0..counts[2]).map(|_| alphabet.constraint(random, groups)));
+    if separation {
+        add_separation(random, alphabet, &mut draft);
+    }
     draft
+}
+
+/// Adds a separation, a rule to each of its arguments and a rule that covers a query within them. The sources of the
+/// two are groups that share one of their two members, or a member.
+fn add_separation(random: &mut Random, alphabet: &Alphabet, draft: &mut Draft) {
+    let [left, shared, right] = alphabet.three_basics(random);
+    let [one, other] = [[left, shared], [shared, right]].map(|mut members| {
+        members.sort_unstable();
+        draft.add_group(members)
+    });
+    let sources = [one, other, one, other, left, shared, right];
+    let [first, second, _] = alphabet.three_basics(random);
+    let (class, action) = (alphabet.class(random), alphabet.action(random));
+    for destination in [first, second] {
+        let on = u8::from(!random.percent(20));
+        let source = random.pick(&sources);
+        draft.rules.push(allow(source, destination, alphabet.class(random), alphabet.action(random), on));
+    }
+    draft.rules.push(match random.of(0..=1) {
+        0 => transition(first, second, alphabet.class(random)),
+        _ => allow(first, second, class, action, 1),
+    });
+    random.shuffle(&mut draft.rules);
+    draft.constraints.push(constraint(class, action, first, second, SEPARATION, &[]));
 }
 
 /// A group, in one of five cases a copy of an earlier one.

@@ -1,4 +1,4 @@
-//! A model of document 01, with requests [1] to [4] of document 02, written without a look at the engine's code: sets
+//! A model of document 01, with requests [1] to [5] of document 02, written without a look at the engine's code: sets
 //! of numbers, plain structs, nothing made fast.
 //!
 //! - `bytes`: numbers in bytes; an image as three lists of records

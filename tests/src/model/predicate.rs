@@ -3,6 +3,7 @@
 use super::policy::{touches, within, Constraint, Policy, Request, Rule, Set};
 use super::slip::Predicate;
 use super::{Model, Slip};
+use std::ptr;
 
 /// A predicate that looks at the rules: what it was asked, and the live rules.
 struct Asked<'a> {
@@ -40,10 +41,12 @@ impl Model {
         } else {
             (&constraint.first, &constraint.second)
         };
-        let live = policy.rules.iter().filter(|rule| self.live(predicate, rule, query)).collect();
+        let last = policy.rules.len().saturating_sub(1);
+        let rules = if self.slips(Slip::LastRuleNotLive(predicate)) { &policy.rules[..last] } else { &policy.rules };
+        let live = rules.iter().filter(|rule| self.live(predicate, rule, query)).collect();
         let asked = Asked { predicate, first, second, live };
         match predicate {
-            Predicate::Separation => !self.same_source(&asked),
+            Predicate::Separation => !self.shares_source(&asked),
             Predicate::Roster => self.all_listed(&asked, &constraint.list),
             Predicate::Companion => self.has_companion(&asked),
         }
@@ -87,29 +90,38 @@ impl Model {
             && (allow.action == query.action || !self.slips(Slip::PredicateOfOneAction(predicate)))
     }
 
-    /// A rule to the first argument and a rule to the second have the same source.
-    fn same_source(self, asked: &Asked) -> bool {
-        let same: fn(&Rule, &Rule) -> bool = match self.slip {
-            Some(Slip::SeparationByField) => |one, other| one.source_field == other.source_field,
-            Some(Slip::SeparationByTouch) => |one, other| touches(&one.source, &other.source),
-            Some(Slip::SeparationByWithin) => |one, other| within(&one.source, &other.source),
-            Some(Slip::SeparationWithoutSources) => |_, _| true,
-            _ => |one, other| one.source == other.source,
-        };
-        let wants_two = self.slips(Slip::SeparationOfTwoRules);
-        let to = |argument: &Set| -> Vec<usize> {
-            (0..asked.live.len()).filter(|&n| self.meets(asked, &asked.live[n].destination, argument)).collect()
+    /// Some basic type lies in the source of a rule to the first argument and in that of a rule to the second.
+    fn shares_source(self, asked: &Asked) -> bool {
+        let to = |argument: &Set| -> Vec<&Rule> {
+            asked.live.iter().copied().filter(|rule| self.meets(asked, &rule.destination, argument)).collect()
         };
         let mut to_first = to(if self.slips(Slip::SeparationOfSecond) { asked.second } else { asked.first });
         let to_second = to(if self.slips(Slip::SeparationOfFirst) { asked.first } else { asked.second });
         if self.slips(Slip::JudgedOnce(Predicate::Separation)) {
-            let is_group = |n: &usize| asked.live[*n].destination_field >= 32768;
-            to_first.retain(|n| !is_group(n));
-            to_first.extend(to_second.iter().filter(|n| is_group(n)));
+            let is_group = |rule: &&Rule| rule.destination_field >= 32768;
+            to_first.retain(|rule| !is_group(rule));
+            to_first.extend(to_second.iter().filter(|rule| is_group(rule)));
         }
-        to_first
-            .iter()
-            .any(|&n| to_second.iter().any(|&m| same(asked.live[n], asked.live[m]) && (n != m || !wants_two)))
+        to_first.iter().any(|one| to_second.iter().any(|other| self.share(asked, one, other)))
+    }
+
+    /// Some basic type lies in both rules' sources.
+    fn share(self, asked: &Asked, one: &Rule, other: &Rule) -> bool {
+        let shared = touches(&one.source, &other.source);
+        match self.slip {
+            Some(Slip::SeparationBySameSet) => one.source == other.source,
+            Some(Slip::SeparationByWithin) => within(&one.source, &other.source) || within(&other.source, &one.source),
+            Some(Slip::SeparationFromArguments) => {
+                touches(&one.source, asked.first) && touches(&other.source, asked.second)
+            }
+            Some(Slip::SeparationWithinFirst) => {
+                one.source.intersection(&other.source).any(|basic| asked.first.contains(basic))
+            }
+            Some(Slip::SeparationOfTwoRules) => shared && !ptr::eq(one, other),
+            Some(Slip::SeparationOfTwoTypes) => shared && one.source_field != other.source_field,
+            Some(Slip::SeparationWithoutSources) => true,
+            _ => shared,
+        }
     }
 
     /// Every rule to the second argument has its source within the union of the list.

@@ -6,6 +6,7 @@ mod mutation_text;
 mod order;
 mod random;
 mod reached;
+mod reached_separation;
 mod reached_steps;
 mod reached_text;
 mod round_trip;

@@ -49,7 +49,7 @@ fn put_together(engine: &dyn Subject, draft: &Draft, query: Query) -> Result<Ans
     Ok(Ok(Decision::NotPermitted { nearest: best }))
 }
 
-/// With the steps forgotten, the answers are those of the model of document 01 alone.
+/// With the steps forgotten, the answers are those of the model without request [2].
 fn forgotten(pair: &Pair, seed: u64) -> Outcome {
     let (image, queries) = decide_case(seed);
     for query in queries {

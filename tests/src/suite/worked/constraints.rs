@@ -52,6 +52,7 @@ pub const ROWS: &[Row] = &[
     ("a separation of others", || policy(&[], &[on(1, 2), other(9, 3), other(9, 4)], &[separation(3, 4)]), ASKED, p(0)),
     ("a separation of another first", || policy(&[], &[on(1, 2), other(9, 3), other(9, 2)], &[separation(3, 2)]), ASKED, p(0)),
     ("a separation of another second", || policy(&[], &[on(1, 2), other(9, 1), other(9, 4)], &[separation(1, 4)]), ASKED, p(0)),
+    ("a separation, and the shared type asks", || policy(&[&[20, 21]], &[on(20, 2), other(G0, 1)], &[separation(1, 2)]), ask(20, 2), p(0)),
     ("a roster of another first", || policy(&[], &[on(1, 2), other(9, 2)], &[roster(3, 2, &[1])]), ASKED, p(0)),
     ("a roster of another second", || policy(&[], &[on(1, 2), other(9, 4)], &[roster(1, 4, &[1])]), ASKED, p(0)),
     ("a companion of another first", || policy(&[], &[on(1, 2)], &[companion(3, 2)]), ASKED, p(0)),

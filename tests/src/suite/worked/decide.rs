@@ -13,6 +13,8 @@ type Row = (&'static [u8], &'static [&'static [u8]], Query, Result<Decision, Ref
 pub const ALLOW_10_30: &[u8] = &[11, 2, 0, 10, 0, 30, 0, 5, 0, 3, 1];
 /// Allow 14 to g0, class 7, action 7, on.
 pub const ALLOW_14_G0: &[u8] = &[11, 2, 0, 14, 0x80, 0, 0, 7, 0, 7, 1];
+/// Allow g0 to 20, class 7, action 7, on.
+const ALLOW_G0_20: &[u8] = &[11, 2, 0x80, 0, 0, 20, 0, 7, 0, 7, 1];
 /// A companion constraint on class 5, action 1, arguments 10 and 21.
 const COMPANION: &[u8] = &[11, 4, 0, 5, 0, 1, 0, 10, 0, 21, 3];
 /// Allow 21 to 10, class 5, action 9, on.
@@ -26,6 +28,7 @@ pub const ROWS: &[Row] = &[
     (&SAMPLE, &[], query(12, 20, 9, 9), p(2)),
     (&SAMPLE, &[], query(20, 30, 5, 2), p(1)),
     (&SAMPLE, &[ALLOW_10_30], query(20, 30, 5, 2), u(1, 1)),
+    (&SAMPLE, &[ALLOW_G0_20], query(20, 30, 5, 2), u(1, 1)),
     (&SAMPLE, &[ALLOW_14_G0], query(10, 21, 5, 1), u(0, 0)),
     (&SAMPLE, &[ALLOW_14_G0], query(10, G0, 5, 1), p(0)),
     (&SAMPLE, &[COMPANION], query(10, 21, 5, 1), u(0, 2)),

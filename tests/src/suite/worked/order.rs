@@ -11,13 +11,14 @@ type Asked = (fn() -> Vec<u8>, Query);
 type Row = (&'static str, Asked, Asked, (Kind, Kind));
 
 /// How many of the rows meet the terms.
-const HELD: usize = 10;
+const HELD: usize = 11;
 
 #[rustfmt::skip]
 pub const ROWS: &[Row] = &[
     ("a rule added", (|| policy(&[], &[off(1, 2)], &[]), ASKED), (|| policy(&[], &[off(1, 2), on(1, 2)], &[]), ASKED), (NotPermitted, Permitted)),
     ("a ban added", (|| policy(&[], &[on(1, 2)], &[]), ASKED), (|| policy(&[], &[on(1, 2)], &[ban(1, 2)]), ASKED), (Permitted, UnKnown)),
     ("a rule added that breaks a separation", (|| policy(&[], &[on(1, 2), other(9, 1)], &[separation(1, 2)]), ASKED), (|| policy(&[], &[on(1, 2), other(9, 1), other(9, 2)], &[separation(1, 2)]), ASKED), (Permitted, UnKnown)),
+    ("a rule added that shares a type with another", (|| policy(&[&[20, 21]], &[on(1, 2), other(20, 1)], &[separation(1, 2)]), ASKED), (|| policy(&[&[20, 21]], &[on(1, 2), other(20, 1), other(G0, 2)], &[separation(1, 2)]), ASKED), (Permitted, UnKnown)),
     ("a rule added that breaks a roster", (|| policy(&[], &[on(1, 2)], &[roster(1, 2, &[1])]), ASKED), (|| policy(&[], &[other(9, 2), on(1, 2)], &[roster(1, 2, &[1])]), ASKED), (Permitted, UnKnown)),
     ("a companion added", (|| policy(&[], &[on(1, 2)], &[]), ASKED), (|| policy(&[], &[on(1, 2)], &[companion(1, 2)]), ASKED), (Permitted, UnKnown)),
     ("records at other numbers", (|| policy(&[], &[off(1, 2), on(1, 2)], &[ban(3, 4), ban(1, 2)]), ASKED), (|| policy(&[], &[on(1, 2), off(1, 2)], &[ban(1, 2), ban(3, 4)]), ASKED), (UnKnown, UnKnown)),

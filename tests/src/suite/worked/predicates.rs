@@ -1,52 +1,11 @@
-//! What the predicates ask of the rules. The query is 1 to 2, covered by rule 0, and the one constraint concerns it.
+//! What roster and companion ask of the rules. The query is 1 to 2, covered by rule 0, and the one constraint concerns it.
 
 use super::small::*;
 use crate::compare::{Outcome, Pair};
 use crate::draft::allow;
 
 /// What is asked, the groups, the rules after rule 0, the constraint, and whether it holds.
-type Row = (&'static str, &'static [&'static [u16]], fn() -> Vec<Vec<u8>>, fn() -> Vec<u8>, bool);
-
-#[rustfmt::skip]
-pub const SEPARATION: &[Row] = &[
-    ("nothing reaches the first", &[], || vec![], || separation(1, 2), true),
-    ("nothing reaches the second from there", &[], || vec![other(9, 1)], || separation(1, 2), true),
-    ("a source reaches both", &[], || vec![other(9, 1), other(9, 2)], || separation(1, 2), false),
-    ("a source reaches both, the second first", &[], || vec![other(9, 2), other(9, 1)], || separation(1, 2), false),
-    ("rule 0 is one of the two", &[], || vec![other(1, 1)], || separation(1, 2), false),
-    ("two sources", &[], || vec![other(8, 1), other(9, 2)], || separation(1, 2), true),
-    ("one source to others", &[], || vec![other(9, 3), other(9, 4)], || separation(1, 2), true),
-    ("from the arguments, not to them", &[], || vec![other(1, 9), other(2, 9)], || separation(1, 2), true),
-    ("of another class alone", &[], || vec![on(9, 1), allow(9, 2, 7, 1, 1)], || separation(1, 2), false),
-    ("of another action alone", &[], || vec![on(9, 1), allow(9, 2, 5, 7, 1)], || separation(1, 2), false),
-    ("the rule to the first is off", &[], || vec![off(9, 1), other(9, 2)], || separation(1, 2), true),
-    ("the rule to the second is off", &[], || vec![other(9, 1), off(9, 2)], || separation(1, 2), true),
-    ("a transition to the first", &[], || vec![trans(9, 1), other(9, 2)], || separation(1, 2), true),
-    ("a transition to the second", &[], || vec![other(9, 1), trans(9, 2)], || separation(1, 2), true),
-    ("the same argument twice", &[&[1, 2]], || vec![], || separation(G0, G0), false),
-    // Touching.
-    ("one rule reaches both", &[&[1, 2]], || vec![other(9, G0)], || separation(1, 2), false),
-    ("groups that touch the arguments", &[&[1, 5], &[2, 6]], || vec![other(9, G0), other(9, G1)], || separation(1, 2), false),
-    ("arguments that are groups", &[&[1, 3], &[2, 4]], || vec![other(9, 3), other(9, 4)], || separation(G0, G1), false),
-    ("a group beside the arguments", &[&[5, 6]], || vec![other(9, G0), other(9, 1)], || separation(1, 2), true),
-    // Sources that stand for the same set.
-    ("a type and a group of it", &[&[9]], || vec![other(9, 1), other(G0, 2)], || separation(1, 2), false),
-    ("a group of a type, and the type", &[&[9]], || vec![other(G0, 1), other(9, 2)], || separation(1, 2), false),
-    ("a type and a group of another", &[&[8]], || vec![other(9, 1), other(G0, 2)], || separation(1, 2), true),
-    ("equal groups", &[&[8, 9], &[8, 9]], || vec![other(G0, 1), other(G1, 2)], || separation(1, 2), false),
-    ("equal groups, the higher first", &[&[8, 9], &[8, 9]], || vec![other(G1, 1), other(G0, 2)], || separation(1, 2), false),
-    ("the same group", &[&[8, 9]], || vec![other(G0, 1), other(G0, 2)], || separation(1, 2), false),
-    ("groups that touch", &[&[8, 9], &[9, 10]], || vec![other(G0, 1), other(G1, 2)], || separation(1, 2), true),
-    ("a type and a group around it", &[&[8, 9]], || vec![other(9, 1), other(G0, 2)], || separation(1, 2), true),
-    ("a group and a type of it", &[&[8, 9]], || vec![other(G0, 1), other(9, 2)], || separation(1, 2), true),
-    ("groups that start alike", &[&[8, 9], &[8, 9, 10]], || vec![other(G0, 1), other(G1, 2)], || separation(1, 2), true),
-    ("groups that end alike", &[&[8, 9, 10], &[9, 10]], || vec![other(G0, 1), other(G1, 2)], || separation(1, 2), true),
-    ("groups that differ in the last", &[&[7, 8, 9], &[7, 8, 10]], || vec![other(G0, 1), other(G1, 2)], || separation(1, 2), true),
-    ("groups that differ in the first", &[&[6, 8, 9], &[7, 8, 9]], || vec![other(G0, 1), other(G1, 2)], || separation(1, 2), true),
-    // What is known of a group for one argument says nothing for the other.
-    ("a group that reaches the second alone", &[&[2, 5]], || vec![other(9, G0)], || separation(1, 2), true),
-    ("a group that reaches the first alone", &[&[1, 5]], || vec![other(9, G0), other(9, 2)], || separation(1, 2), false),
-];
+pub type Row = (&'static str, &'static [&'static [u16]], fn() -> Vec<Vec<u8>>, fn() -> Vec<u8>, bool);
 
 #[rustfmt::skip]
 pub const ROSTER: &[Row] = &[
@@ -98,14 +57,10 @@ pub const COMPANION: &[Row] = &[
     ("a group that touches the first alone", &[&[1, 5]], || vec![other(9, G0), other(G0, 1)], || companion(1, 2), false),
 ];
 
-fn run((what, groups, rules, constraint, holds): Row, pair: &Pair) -> Outcome {
+pub fn run((what, groups, rules, constraint, holds): Row, pair: &Pair) -> Outcome {
     let image = policy(groups, &[vec![on(1, 2)], rules()].concat(), &[constraint()]);
     let expected = if holds { p(0) } else { u(0, 0) };
     super::both(pair, what, expected, |subject| subject.decide(&image, ASKED))
-}
-
-pub fn separations(pair: &Pair, case: u64) -> Outcome {
-    run(SEPARATION[case as usize], pair)
 }
 
 pub fn rosters(pair: &Pair, case: u64) -> Outcome {
