@@ -1,37 +1,43 @@
 -- Facts of values that are written out, by computation. Assumes nothing.
 use Prim.Native.Nat.{ℕ}
 use native.Mathlib.Omega.{arith}
-use mathlib.Core.Path.{_≡_, refl, sym, _∙_}
+use mathlib.Core.Path.{_≡_, refl, sym, ap, _∙_}
+use mathlib.Core.Bool.{Bool, true}
 use mathlib.Core.Option.{none, some}
-use mathlib.Core.List.{List, [], _∷_, _++_, flatten}
+use mathlib.Core.List.{List, [], _∷_, _++_, flatten, map, List·Memᴰ·head, List·Memᴰ·tail}
 use lib.ListN.{length, getD, take, drop, replicate}
 use lib.Dec.{eqb}
 use Rattle.format.specs.declared.Section.the-variants.{Rules, Constraints}
-use Rattle.format.specs.Bytes.{Bytes, wordAt, words}
+use Rattle.format.specs.Bytes.{Bytes, wordAt, words, putWord}
 use Rattle.format.specs.Format.{knownVersion, limitOf, countPlace, countOf, kindIn, lengthOk, firstRecord, shapeOk}
 use Rattle.format.specs.Format.{isType, isCondition, listOk}
 use Rattle.format.specs.Format.{badMember, badType, badGroup, badAllow, badTransition, badConstraint, badField}
-use Rattle.format.specs.Policy.{placeAfter, startOf, placeOf, endOf}
-use Rattle.format.specs.Check.{readFields, readOf, readFault, sectionFault, countFault, headerFault, bodyFault, Accepted, imageIn}
+use Rattle.format.specs.Policy.{bodyOf, imageOf, recordAt, placeAfter, recordsAt, startOf, placeOf, endOf, policyOf}
+use Rattle.format.specs.Check.{readFields, readOf, readFault, sectionFault, countFault, headerFault, bodyFault, check, Accepted, imageIn, checkFront}
 use Rattle.format.specs.Claims.{typeFields}
 use Rattle.format.specs.Sample.{sample, empty}
 use Rattle.format.proofs.ByCase.{kind-constraints}
 use Rattle.format.proofs.Bytes.{bytes-of}
 use Rattle.format.proofs.Front.{image-in-of}
-use Rattle.extension.specs.Add.{sectionOf}
+use Rattle.extension.specs.Add.{sectionOf, withRecord, fieldFault, newNumber, ownFault, addFault, newImage, overwrite, bufferAfter}
 use Rattle.extension.proofs.Adds.{section-of}
-use Rattle.format.specs.Answers.{refused, gives}
+use Rattle.format.specs.Answers.{Outcome, refused, gives}
 use Rattle.decision.specs.declared.Nearest.the-variants.{Near}
-use Rattle.decision.specs.Decide.{notPermitted, permitted, answer}
-use Rattle.decision.specs.Cases.{g0, allow, companion, withSpace}
+use Rattle.decision.specs.Sets.{anyOf, allOf, isIn, setOf, touches}
+use Rattle.decision.specs.Reading.{Rule, live, ruleOf, rulesOf}
+use Rattle.decision.specs.Decide.{Decision, notPermitted, permitted, unknown, answer}
+use Rattle.decision.specs.Cases.{g0, allow, companion, withSpace, extended, ask, cases, given, expectedOf, MarkedCases}
+use Rattle.decision.specs.Clauses.{allowGroup}
+use Rattle.decision.specs.Steps.{off}
+use Rattle.decision.specs.Separation.{From, answerWas, separation, story, elsewhere, sharedCases, SharedCases, wasCases, givenWas, SharedWas}
 use Rattle.decision.specs.Rows.{queryAt}
-use Rattle.format.specs.Refusals.{refusal, need, _orElse_}
+use Rattle.format.specs.Refusals.{refusal, need, _orElse_, unlessRefused}
 use Rattle.decision.proofs.Cases.{Answers}
 use Rattle.runs.specs.Numbers.{rowsOf, numbersOf}
 use Rattle.runs.specs.Cases.{member, group, transition, offRule, noSource, runCases, numberCases}
 use Rattle.lines.specs.Output.{imageSize}
 use Rattle.lines.specs.Worked.{workedLines, asked, workedRuns}
-use Rattle.claims.specs.Terms.{query, threeQueries, twoAndPart, byBytes, cutSample, longSample, badSample, tooShort}
+use Rattle.claims.specs.Terms.{query, threeQueries, twoAndPart, byBytes, cutSample, longSample, badSample, tooShort, separated, shared}
 
 pub empty-nine : length empty ≡ 9
 unfolding empty
@@ -165,3 +171,73 @@ unfolding wordAt words need _orElse_ knownVersion limitOf countPlace countOf kin
     readFields readOf readFault sectionFault countFault headerFault bodyFault sample
 refused-samples =
     record { cut-header = refl; cut-refused = refl; bad-header = refl; bad-refused = refl; long-header = refl; long-refused = refl }
+
+-- request 5's tables: how many rows, and some by themselves
+pub record SharedAnswers : Type 0 where
+  pub many : length sharedCases ≡ 13
+  pub story-is : answer story shared ≡ gives (unknown 1 1)
+  pub both-reached : answer (extended (extended sample (allow 20 21 5 4)) separation) (query 20 21 5 4) ≡ gives (unknown 4 2)
+  pub off-shared : answer (extended sample (off (allow 10 30 5 3))) shared ≡ gives (permitted 1)
+  pub inside : answer elsewhere (query 40 30 5 2) ≡ gives (unknown 5 2)
+  pub outside : answer elsewhere shared ≡ gives (permitted 1)
+
+pub shared-answers : SharedCases → SharedAnswers
+unfolding sharedCases given expectedOf ask
+shared-answers e = record { many = refl; story-is = row 0; both-reached = row 5; off-shared = row 6; inside = row 10; outside = row 11 }
+  where
+    row : (n : ℕ) → getD (map given sharedCases) n (gives (permitted 0)) ≡ getD (map expectedOf sharedCases) n (gives (permitted 0))
+    row n = ap (λ (xs : List (Outcome Decision)). getD xs n (gives (permitted 0))) e
+
+pub record WasAnswers : Type 0 where
+  pub many : length wasCases ≡ 3
+  pub story-was : answerWas story shared ≡ gives (permitted 1)
+  pub same-source : answerWas (extended sample (allow 20 20 5 3)) shared ≡ gives (unknown 1 1)
+
+pub was-answers : SharedWas → WasAnswers
+unfolding wasCases givenWas expectedOf ask
+was-answers e = record { many = refl; story-was = row 0; same-source = row 2 }
+  where
+    row : (n : ℕ) → getD (map givenWas wasCases) n (gives (permitted 0)) ≡ getD (map expectedOf wasCases) n (gives (permitted 0))
+    row n = ap (λ (xs : List (Outcome Decision)). getD xs n (gives (permitted 0))) e
+
+pub separated-is : MarkedCases → answer separated shared ≡ gives (unknown 1 1)
+unfolding cases given expectedOf ask
+separated-is e = ap (λ (xs : List (Outcome Decision)). getD xs 5 (gives (permitted 0))) e
+
+-- the rules of the sample, with one more, and of the story
+abbrev oneLong : Rule → Bool
+oneLong a = eqb (length (a .source)) 1
+
+pub record SharedRules : Type 0 where
+  pub sample-one : allOf oneLong (rulesOf (policyOf sample)) ≡ true
+  pub separated-one : allOf oneLong (rulesOf (policyOf separated)) ≡ true
+  pub one-more : rulesOf (policyOf separated) ≡ rulesOf (policyOf sample) ++ drop 4 (rulesOf (policyOf separated))
+  pub story-first : From (rulesOf (policyOf story)) (20 ∷ []) 20
+  pub story-second : From (rulesOf (policyOf story)) (30 ∷ []) 20
+  pub story-separates : getD (getD (policyOf story .constraints) 1 []) 10 0 ≡ 1
+
+pub shared-rules : SharedRules
+unfolding
+    flatten wordAt words putWord need _orElse_ unlessRefused
+    knownVersion limitOf countPlace countOf kindIn lengthOk isType isCondition listOk firstRecord shapeOk
+    badMember badType badGroup badAllow badTransition badConstraint badField
+    bodyOf imageOf recordAt placeAfter recordsAt startOf placeOf endOf policyOf
+    readFields readOf readFault sectionFault countFault headerFault bodyFault check imageIn checkFront
+    sample sectionOf withRecord fieldFault newNumber ownFault addFault newImage overwrite bufferAfter
+    withSpace extended allow allowGroup story
+    anyOf allOf isIn setOf touches live ruleOf rulesOf
+shared-rules =
+    record {
+      sample-one = refl;
+      separated-one = refl;
+      one-more = refl;
+      story-first = record {
+        rule = _;
+        one = List·Memᴰ·tail (List·Memᴰ·tail (List·Memᴰ·tail (List·Memᴰ·tail (List·Memᴰ·head refl))));
+        is-live = refl;
+        touching = refl;
+        has = refl;
+      };
+      story-second = record { rule = _; one = List·Memᴰ·tail (List·Memᴰ·head refl); is-live = refl; touching = refl; has = refl };
+      story-separates = refl;
+    }

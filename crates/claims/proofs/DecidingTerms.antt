@@ -38,7 +38,7 @@ use Rattle.claims.specs.Terms.{query, AtLeast, threeQueries, twoAndPart,
 use Rattle.claims.proofs.Cases.{space-image, companion-bytes, companion-space, companion-no-rule, rule-bytes, rule-space, query-rows}
 use Rattle.claims.proofs.ReadingTerms.{companion-after}
 
-gives-one : {A : Type 0} {a b : A} → gives a ≡ gives b → a ≡ b
+pub gives-one : {A : Type 0} {a b : A} → gives a ≡ gives b → a ≡ b
 gives-one e = cc
 
 rules-few : countOf (extended sample companion) Rules ≡ 4 → length (policyOf (extended sample companion) .rules) + length (policyOf (extended sample companion) .rules) ≤ 1024

@@ -8,5 +8,6 @@ pub mod NearingTerms
 pub mod TextTerms
 pub mod BuildingTerms
 pub mod ReachingTerms
+pub mod SeparatingTerms
 pub mod CallingTerms
 pub mod Terms

@@ -13,6 +13,9 @@ use Rattle.decision.proofs.Filled as filled
 use Rattle.decision.proofs.Lowest as lowest
 use Rattle.decision.proofs.Steps as steps
 use Rattle.decision.proofs.Before as before
+use Rattle.decision.proofs.Separation as separation
+use Rattle.decision.proofs.Was as was
+use Rattle.decision.proofs.Changes as changes
 use Rattle.decision.proofs.Tepla as tepla
 use Rattle.decision.proofs.Order as order
 use Rattle.decision.proofs.Growth as growth
@@ -136,6 +139,16 @@ promises =
         places-bounded = reach.places-bounded;
         stops-reached = stops.stops-reached;
         bound-reached = furthest.bound-reached;
+      };
+      separating = record {
+        separation-means = separation.separation-means;
+        separation-kept = separation.separation-kept;
+        separation-stays = was.separation-stays;
+        answers-stay = was.answers-stay;
+        answers-rise = was.answers-rise;
+        answers-change = changes.answers-change;
+        shared-cases = cases.shared-cases;
+        shared-was = cases.shared-was;
       };
       printing = record {
         decimal-fewest = numbers.decimal-fewest;

@@ -17,6 +17,7 @@ use Rattle.decision.specs.Order.{Decided, DecidedOnly, OrderRule, QueryOrder, N
 use Rattle.decision.specs.Growth.{AddedGrows, AddedOrder, SameRules, RulesReordered, MemberOrder}
 use Rattle.decision.specs.Steps.{StepsInOrder, StepsOfRecord, CoversAll, DeniedSteps, NearestPasses, NearestOfAll, NoRulesExactly, StepCases}
 use Rattle.decision.specs.Before.{DecisionsStay}
+use Rattle.decision.specs.Separation.{SeparationMeans, SeparationKept, SeparationStays, AnswersStay, AnswersRise, AnswersChange, SharedCases, SharedWas}
 use Rattle.decision.specs.Cases.{MarkedCases, MarkedAdds, MarkedOrder}
 use Rattle.decision.specs.Clauses.{ClauseCases, RefusalCases}
 use Rattle.decision.specs.Numbers.{DecideWhole, PartsWhole, PartsRead, DecideRead}
@@ -217,6 +218,26 @@ pub record Reaching : Type 0 where
   -- the longest image reaches each of these places, and 55,561 past its last record
   pub bound-reached : BoundReached
 
+-- Request 5: a separation by a type that two sources share.
+pub record Separating : Type 0 where
+  -- a separation is false exactly where some basic type lies in the source of a live rule that reaches its first argument and in the
+  -- source of one that reaches its second; one rule may be both
+  pub separation-means : SeparationMeans
+  -- where it is false, more live rules keep it so, and wider ones: what the order rule needs of it
+  pub separation-kept : SeparationKept
+  -- where the source of each live rule is one basic type, a separation is what it was
+  pub separation-stays : SeparationStays
+  -- and so is each answer
+  pub answers-stay : AnswersStay
+  -- on every policy, what had a decision has one, and it is no lower
+  pub answers-rise : AnswersRise
+  -- every answer is that of before, refusals too, or a separation makes it UnKnown that was Permitted by the same rule, or UnKnown by a
+  -- later constraint
+  pub answers-change : AnswersChange
+  -- cases worked out from the request, and what was answered before
+  pub shared-cases : SharedCases
+  pub shared-was : SharedWas
+
 -- The programs' output.
 pub record Printing : Type 0 where
   -- a number has the fewest digits that hold it, and they read back as that number
@@ -271,5 +292,6 @@ pub record Promises : Type 0 where
   pub nearing : Nearing
   pub building : Building
   pub reaching : Reaching
+  pub separating : Separating
   pub printing : Printing
   pub calling : Calling

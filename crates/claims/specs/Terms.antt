@@ -13,8 +13,9 @@
 --     Pass l s k, AllPass l s   the first k records of a section pass, all do
 --     LongestAt s k p     a walk over the longest image reaches the place p past k records of a section
 --     outsideBehind n     n line feeds and one more, and a row outside the form
---     ReadingMet, AddingMet, DecidingMet, OrderingMet, RunningMet, NearingMet, BuildingMet, ReachingMet, PrintingMet, CallingMet
---                         by the parts of the statement
+--     separated, shared   the sample with document 01's rule that breaks the separation, and the query that it is asked of
+--     ReadingMet, AddingMet, DecidingMet, OrderingMet, RunningMet, NearingMet, BuildingMet, ReachingMet, SeparatingMet, PrintingMet,
+--     CallingMet          by the parts of the statement
 use Prim.Native.Nat.{ℕ, suc, _+_, _*_, _/_, _%_, _<_, _≤_}
 use Prim.Native.String.{String}
 use mathlib.Core.Path.{_≡_}
@@ -49,12 +50,13 @@ use Rattle.decision.specs.declared.Nearest.{Nearest}
 use Rattle.decision.specs.declared.Nearest.the-variants.{NoRules, Near}
 use Rattle.decision.specs.declared.Answer.{Answer}
 use Rattle.decision.specs.declared.Answer.the-variants as answers
-use Rattle.decision.specs.Sets.{anyOf, isIn, setOf, within}
-use Rattle.decision.specs.Reading.{Rule, Constraint, Request, asks, requestOf, rulesOf}
-use Rattle.decision.specs.Decide.{covers, steps, firstAt, Decision, notPermitted, permitted, unknown, judge, decide, answer, answerOutcome}
+use Rattle.decision.specs.Sets.{anyOf, isIn, setOf, within, touches}
+use Rattle.decision.specs.Reading.{Rule, Constraint, Request, asks, live, requestOf, rulesOf}
+use Rattle.decision.specs.Decide.{covers, steps, separationBroken, firstAt, Decision, notPermitted, permitted, unknown, judge, decide, answer, answerOutcome}
 use Rattle.decision.specs.Lowest.{Most, Nears}
 use Rattle.decision.specs.Steps.{stepsOf, stepsAt, sourceIn, destIn, off, stepCases}
 use Rattle.decision.specs.Before.{denied, allowed, stopped, answerBefore}
+use Rattle.decision.specs.Separation.{From, Wider, separationWas, answerWas, OneType, Raised, separation, story, elsewhere, sharedCases, wasCases}
 use Rattle.decision.specs.Order.{height, Keeps, NoCompanion}
 use Rattle.decision.specs.Growth.{reordered, DecidedAbove}
 use Rattle.decision.specs.Cases.{g0, allow, companion, oneMember, withSpace, extended, cases}
@@ -589,6 +591,65 @@ pub record ReachingMet : Type 0 where
   pub longest-constraints : (k : ℕ) → k ≤ 256 → LongestAt Constraints k (44553 + 43 * k)
   pub longest-end : endOf (imageOf longest) ≡ 55561
 
+abbrev pub separated : List ℕ
+separated = sampleAnd (allow 10 30 5 3)
+
+abbrev pub shared : Query
+shared = query 20 30 5 2
+
+pub record SeparatingMet : Type 0 where
+  -- SeparationMeans: any two rules, or one that is both, and no others: with no type from both, and with no live rule, a separation holds
+  pub two-rules :
+      (rs : List Rule) (c : Constraint) (x : ℕ) (a b : Rule) → List·Memᴰ a rs → List·Memᴰ b rs → live a ≡ true → live b ≡ true
+      → touches (a .dest) (c .first) ≡ true → touches (b .dest) (c .second) ≡ true
+      → isIn x (a .source) ≡ true → isIn x (b .source) ≡ true → separationBroken rs c ≡ true
+  pub one-rule :
+      (c : Constraint) (x : ℕ) (a : Rule) → live a ≡ true → touches (a .dest) (c .first) ≡ true → touches (a .dest) (c .second) ≡ true
+      → isIn x (a .source) ≡ true → separationBroken (a ∷ []) c ≡ true
+  pub none-shared :
+      (rs : List Rule) (c : Constraint) → ((x : ℕ) → From rs (c .first) x → From rs (c .second) x → ⊥) → separationBroken rs c ≡ false
+  pub none-live : (rs : List Rule) (c : Constraint) → anyOf live rs ≡ false → separationBroken rs c ≡ false
+  -- the story: 20 is in the source of rule 4, which reaches 20, and in that of rule 1, which reaches 30
+  pub story-first : From (rulesOf (policyOf story)) (20 ∷ []) 20
+  pub story-second : From (rulesOf (policyOf story)) (30 ∷ []) 20
+  pub story-broken : (c : Constraint) → c .first ≡ 20 ∷ [] → c .second ≡ 30 ∷ [] → separationBroken (rulesOf (policyOf story)) c ≡ true
+  -- SeparationKept: any rules more, the sample's too; a wider rule for any rule; without a rule that is not live
+  pub more-rules : (rs more : List Rule) (c : Constraint) → separationBroken rs c ≡ true → separationBroken (rs ++ more) c ≡ true
+  pub sample-wider : Wider (rulesOf (policyOf sample)) (rulesOf (policyOf separated))
+  pub wider-rule :
+      (rs : List Rule) (c : Constraint) (a b : Rule) → live b ≡ true → within (a .source) (b .source) ≡ true → within (a .dest) (b .dest) ≡ true
+      → separationBroken (a ∷ rs) c ≡ true → separationBroken (b ∷ rs) c ≡ true
+  pub off-rule : (rs : List Rule) (c : Constraint) (a : Rule) → live a ≡ false → separationBroken (a ∷ rs) c ≡ true → separationBroken rs c ≡ true
+  -- SeparationStays, AnswersStay: the sample, with a rule more too; every policy without a live rule
+  pub sample-one-type : OneType (rulesOf (policyOf sample))
+  pub sample-separations : (c : Constraint) → separationBroken (rulesOf (policyOf sample)) c ≡ separationWas (rulesOf (policyOf sample)) c
+  pub sample-stays : (q : Query) → answer sample q ≡ answerWas sample q
+  pub separated-stays : answerWas separated shared ≡ gives (unknown 1 1)
+  pub none-live-stays : (l : List ℕ) (q : Query) → anyOf live (rulesOf (policyOf l)) ≡ false → answer l q ≡ answerWas l q
+  -- and not every policy: the story was Permitted
+  pub story-was : answerWas story shared ≡ gives (permitted 1)
+  pub story-is : answer story shared ≡ gives (unknown 1 1)
+  pub story-changed : answer story shared ≡ answerWas story shared → ⊥
+  pub story-not-one-type : OneType (rulesOf (policyOf story)) → ⊥
+  -- AnswersRise: the story; what was Permitted is not denied, what was UnKnown stays so, and nothing is refused that was not
+  pub story-above : DecidedAbove story shared (permitted 1)
+  pub permitted-above : (l : List ℕ) (q : Query) (r : ℕ) → answerWas l q ≡ gives (permitted r) → AtLeast 1 l q
+  pub unknown-above : (l : List ℕ) (q : Query) (r c : ℕ) → answerWas l q ≡ gives (unknown r c) → AtLeast 2 l q
+  pub none-refused : (l : List ℕ) (q : Query) (d : Decision) (f : Refusal) → answerWas l q ≡ gives d → answer l q ≡ refused f → ⊥
+  -- AnswersChange: the story; what was denied or refused stays so, and nothing is denied or refused that was not
+  pub story-raised : Raised story shared
+  pub denied-stays : (l : List ℕ) (q : Query) (x : Nearest) → answerWas l q ≡ gives (notPermitted x) → answer l q ≡ gives (notPermitted x)
+  pub denied-was : (l : List ℕ) (q : Query) (x : Nearest) → answer l q ≡ gives (notPermitted x) → answerWas l q ≡ gives (notPermitted x)
+  pub refused-stays : (l : List ℕ) (q : Query) (f : Refusal) → answerWas l q ≡ refused f → answer l q ≡ refused f
+  pub permitted-was : (l : List ℕ) (q : Query) (r : ℕ) → answer l q ≡ gives (permitted r) → answerWas l q ≡ gives (permitted r)
+  -- SharedCases, SharedWas: all of them; one rule that reaches both, a rule that is off, a query that is not within the arguments
+  pub shared-all : (length sharedCases ≡ 13) × (length wasCases ≡ 3)
+  pub both-reached : answer (extended (sampleAnd (allow 20 21 5 4)) separation) (query 20 21 5 4) ≡ gives (unknown 4 2)
+  pub off-shared : answer (sampleAnd (off (allow 10 30 5 3))) shared ≡ gives (permitted 1)
+  pub elsewhere-inside : answer elsewhere (query 40 30 5 2) ≡ gives (unknown 5 2)
+  pub elsewhere-outside : answer elsewhere shared ≡ gives (permitted 1)
+  pub same-source-was : answerWas (sampleAnd (allow 20 20 5 3)) shared ≡ gives (unknown 1 1)
+
 pub record PrintingMet : Type 0 where
   -- DecimalFewest, DecimalRead: the largest usize
   pub largest-fewest : Fewest 10 1 18446744073709551615 (width 18446744073709551615)
@@ -722,5 +783,6 @@ pub record TermsMet : Type 0 where
   pub nearing : NearingMet
   pub building : BuildingMet
   pub reaching : ReachingMet
+  pub separating : SeparatingMet
   pub printing : PrintingMet
   pub calling : CallingMet

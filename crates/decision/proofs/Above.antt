@@ -1,5 +1,5 @@
 -- The order rule over rules, constraints and queries as they are read, whatever their records. Assumes nothing.
---     height-permitted, height-unknown   the height of a decision
+--     height-denied, height-permitted, height-unknown   the height of a decision
 --     found-order       a constraint that is found makes a decision no lower
 --     judge-says        what a decision says is told by whether some rule covers and some constraint fails
 --     Above             the order rule's terms
@@ -24,6 +24,10 @@ use Rattle.decision.proofs.Separation.{wider-all, separation-kept}
 use Rattle.decision.proofs.Implies.{_⟹_, id⟹, eq⟹, and⟹, not⟹, cond⟹, anyOf⟹, within⟹}
 
 -- ---- the height of a decision
+
+pub height-denied : (x : Nearest) → height (notPermitted x) ≡ 0
+unfolding height
+height-denied x = refl
 
 pub height-permitted : (r : ℕ) → height (permitted r) ≡ 1
 unfolding height

@@ -12,6 +12,7 @@ pub mod Filled
 pub mod Tepla
 pub mod Before
 pub mod Was
+pub mod Changes
 pub mod Answers
 pub mod Cases
 pub mod Numbers

@@ -57,7 +57,7 @@ was-one : (rs : List Rule) (c : Constraint) → eqb (c .predicate) 1 ≡ true �
 unfolding brokenWas
 was-one rs c e = simp e
 
-was-other : (rs : List Rule) (c : Constraint) → eqb (c .predicate) 1 ≡ false → brokenWas rs c ≡ broken rs c
+pub was-other : (rs : List Rule) (c : Constraint) → eqb (c .predicate) 1 ≡ false → brokenWas rs c ≡ broken rs c
 unfolding brokenWas
 was-other rs c e = simp e
 
@@ -79,7 +79,7 @@ answers-stay l q one =
 
 -- ---- equal sources touch, as none is empty
 
-abbrev Sourced : List Rule → Type 0
+abbrev pub Sourced : List Rule → Type 0
 Sourced rs = (a : Rule) → List·Memᴰ a rs → 0 < length (a .source)
 
 same-touches : (a b : List ℕ) → 0 < length a → sameSet a b ⟹ touches a b
@@ -95,11 +95,11 @@ broken⟹ rs c some =
     (anyOf⟹ (λ a ma. (ma, and⟹ {a = reaches (c .first) a} id⟹ (anyOf⟹ (λ b mb. (mb, and⟹ {a = reaches (c .second) b} id⟹ (same-touches (a .source) (b .source) (some a ma)))))))))
     (λ e. rw (was-other rs c e) id⟹)
 
-fails⟹ : (rs : List Rule) (a : Request) (c : Constraint) → Sourced rs → failsWas rs a c ⟹ fails rs a c
+pub fails⟹ : (rs : List Rule) (a : Request) (c : Constraint) → Sourced rs → failsWas rs a c ⟹ fails rs a c
 unfolding fails failsWas
 fails⟹ rs a c some = and⟹ {a = applies a c && inside a c} id⟹ (broken⟹ rs c some)
 
-sourced : (l : List ℕ) → Accepted l → Sourced (rulesOf (policyOf l))
+pub sourced : (l : List ℕ) → Accepted l → Sourced (rulesOf (policyOf l))
 unfolding rulesOf ruleOf
 sourced l e a m =
     let r = Memᴰ·of-map (ruleOf (policyOf l)) (policyOf l .rules) m in

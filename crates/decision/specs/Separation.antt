@@ -10,16 +10,22 @@
 --     SeparationStays     then a separation is what it was
 --     AnswersStay         and so is each answer
 --     AnswersRise         and on every policy no decision is lower than it was
---     separation, separate, cross   records; story, elsewhere: images
---     sharedCases         a type shared in a group, either way; types that are not shared; the same source, basic or a group of one;
+--     Raised l q          an answer that a separation makes UnKnown, by the rule of before: it was Permitted, or UnKnown by a later
+--                         constraint
+--     AnswersChange       every answer is that of before, refusals too, or is so raised
+--     separation, separate, cross, overlap   records; story, elsewhere: images
+--     sharedCases         a type shared in a group, either way, and by two groups of which neither holds the other; types that are not
+--                         shared; the same source, basic or a group of one;
 --                         one rule that reaches both; a rule that is off, a transition, rules of another class; sources that touch
 --                         an argument; a query within the arguments, and one that is not (READINGS.md [5])
 --     SharedCases         the definitions give these answers
 --     wasCases, givenWas, SharedWas   what the old meaning let pass, and what it did not
-use Prim.Native.Nat.{ℕ}
+use Prim.Native.Nat.{ℕ, _<_}
 use mathlib.Core.Path.{_≡_}
+use mathlib.Core.Logic.{_⊎_}
 use mathlib.Core.Bool.{Bool, true, _&&_, cond}
 use mathlib.Core.List.{List, [], _∷_, map, List·Memᴰ}
+use lib.ListN.{getD}
 use lib.Dec.{eqb}
 use Rattle.format.specs.Policy.{Policy, policyOf}
 use Rattle.format.specs.Answers.{Outcome, gives, outcome}
@@ -92,6 +98,18 @@ AnswersStay = (l : List ℕ) (q : Query) → OneType (rulesOf (policyOf l)) → 
 abbrev pub AnswersRise : Type 0
 AnswersRise = (l : List ℕ) (q : Query) (d : Decision) → answerWas l q ≡ gives d → DecidedAbove l q d
 
+-- UnKnown by a separation now; before, the same rule made it Permitted, or a later constraint UnKnown
+pub record Raised (l : List ℕ) (q : Query) : Type 0 where
+  pub rule : ℕ
+  pub constraint : ℕ
+  pub is : answer l q ≡ gives (unknown rule constraint)
+  pub separates : getD (getD (policyOf l .constraints) constraint []) 10 0 ≡ 1
+  pub was : (answerWas l q ≡ gives (permitted rule)) ⊎ ((k : ℕ) × (constraint < k) × (answerWas l q ≡ gives (unknown rule k)))
+
+-- and no other answer changed, refusals included
+abbrev pub AnswersChange : Type 0
+AnswersChange = (l : List ℕ) (q : Query) → (answer l q ≡ answerWas l q) ⊎ Raised l q
+
 -- ---- cases, worked out by hand from document 02
 
 -- a separation on class 5, action 4, of 20 and 21: rule 0 (10 to g0) reaches both
@@ -114,6 +132,10 @@ story = extended sample (allowGroup 0 20)
 unfoldable pub elsewhere : List ℕ
 elsewhere = extended (extended (extended sample (allowGroup 0 40)) (allow 40 30 5 2)) separate
 
+-- a group of 21 and 22
+unfoldable pub overlap : List ℕ
+overlap = 6 ∷ 1 ∷ 0 ∷ 21 ∷ 0 ∷ 22 ∷ []
+
 unfoldable pub sharedCases : List Case
 sharedCases =
     ask story 20 30 5 2 (gives (unknown 1 1))
@@ -128,6 +150,7 @@ sharedCases =
     ∷ ask (extended sample (allow 30 20 5 3)) 20 30 5 2 (gives (permitted 1))
     ∷ ask elsewhere 40 30 5 2 (gives (unknown 5 2))
     ∷ ask elsewhere 20 30 5 2 (gives (permitted 1))
+    ∷ ask (extended (extended (extended sample overlap) (allowGroup 1 20)) (allowGroup 0 30)) 20 30 5 2 (gives (unknown 1 1))
     ∷ []
 
 abbrev pub SharedCases : Type 0

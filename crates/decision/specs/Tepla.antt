@@ -1,6 +1,6 @@
 -- TEpla's own evaluation (source document 000, algorithms 2 and 3 and figure 1; 001 where 000 leaves a function out), with
--- document 01's sets, predicates, transitions and conditions for what the paper leaves to parameters. Lines of the two
--- documents' texts are cited as 000:149.
+-- document 01's sets, predicates (a separation as in request [5]), transitions and conditions for what the paper leaves to
+-- parameters. Lines of the two documents' texts are cited as 000:149.
 --     Dcs, compareDecisions, maximalDcs, maximum   decisions without numbers, their order, the greater, the greatest
 --     typesWithin, allows      what a rule's record asks of a query: a transition's the first, an allow rule's the second
 --     permits p q r            what the record asks, by its kind

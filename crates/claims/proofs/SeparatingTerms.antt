@@ -1,0 +1,171 @@
+-- What meets the terms of request 5's claims, from the statement: no claim's own proof is cited. Assumes nothing.
+use Prim.Native.Nat.{ℕ, _≤_}
+use native.Mathlib.Omega.{arith}
+use mathlib.Core.Path.{_≡_, refl, sym, subst, ap, _∙_}
+use mathlib.Core.Logic.{inl, ⊎-elim}
+use mathlib.Core.Bool.{true, false}
+use mathlib.Core.List.{List, [], _∷_, _++_, List·Memᴰ, List·Memᴰ·head, List·Memᴰ·tail, Memᴰ·append-left}
+use lib.ListN.{length}
+use lib.Dec.{eqb}
+use borrow.Author.Tests.{eqb-true}
+use Rattle.format.specs.declared.Refusal.{Refusal}
+use Rattle.format.specs.Policy.{policyOf}
+use Rattle.format.specs.Answers.{Outcome, refused, gives}
+use Rattle.format.specs.Sample.{sample}
+use Rattle.format.proofs.Tests.{false-not-true}
+use Rattle.decision.specs.declared.Query.{Query}
+use Rattle.decision.specs.declared.Nearest.{Nearest}
+use Rattle.decision.specs.Sets.{anyOf, allOf, isIn, within, touches}
+use Rattle.decision.specs.Reading.{Rule, Constraint, live, rulesOf}
+use Rattle.decision.specs.Decide.{separationBroken, Decision, notPermitted, permitted, unknown, answer}
+use Rattle.decision.specs.Order.{height}
+use Rattle.decision.specs.Separation.{From, Wider, answerWas, OneType, Raised, story}
+use Rattle.decision.proofs.Search.{by-test, anyOf-none, allOf-elim}
+use Rattle.decision.proofs.Implies.{within-refl}
+use Rattle.decision.proofs.Above.{height-denied, height-permitted, height-unknown}
+use Rattle.decision.proofs.Separation.{wider-all}
+use Rattle.claims.specs.Promises.{Promises}
+use Rattle.claims.specs.Terms.{separated, shared, SeparatingMet}
+use Rattle.claims.proofs.Cases.{SharedAnswers, shared-answers, WasAnswers, was-answers, separated-is, shared-rules}
+use Rattle.claims.proofs.DecidingTerms.{gives-one}
+
+single : (xs : List ℕ) → length xs ≡ 1 → (x : ℕ) × (xs ≡ x ∷ [])
+single [] e = absurd (omega arith)
+single (x ∷ []) e = (x, refl)
+single (x ∷ y ∷ xs) e = absurd (omega arith)
+
+one-type : (rs : List Rule) → allOf (λ (a : Rule). eqb (length (a .source)) 1) rs ≡ true → OneType rs
+one-type rs e a m l = single (a .source) (eqb-true (length (a .source)) 1 (allOf-elim _ e m))
+
+no-live : (rs : List Rule) (a : Rule) → anyOf live rs ≡ false → List·Memᴰ a rs → live a ≡ true → ⊥
+no-live rs a e m l = false-not-true (sym (anyOf-none live e m) ∙ l)
+
+given-refused : (d : Decision) (f : Refusal) → gives d ≡ refused f → ⊥
+given-refused d f e = let z : _≡_ {A = ℕ} 0 1 = cc in omega arith
+
+-- decisions of other heights are not the same
+unlike : (r c : ℕ) (x : Nearest) → gives (unknown r c) ≡ gives (notPermitted x) → ⊥
+unlike r c x e = let h : height (unknown r c) ≡ height (notPermitted x) = ap height (gives-one e) in omega (arith, h, height-unknown r c, height-denied x)
+
+higher : (r c n : ℕ) → gives (unknown r c) ≡ gives (permitted n) → ⊥
+higher r c n e = let h : height (unknown r c) ≡ height (permitted n) = ap height (gives-one e) in omega (arith, h, height-unknown r c, height-permitted n)
+
+module _ (p : Promises) where
+  is : SharedAnswers
+  is = shared-answers (p .separating .shared-cases)
+
+  was : WasAnswers
+  was = was-answers (p .separating .shared-was)
+
+  two-rules :
+      (rs : List Rule) (c : Constraint) (x : ℕ) (a b : Rule) → List·Memᴰ a rs → List·Memᴰ b rs → live a ≡ true → live b ≡ true
+      → touches (a .dest) (c .first) ≡ true → touches (b .dest) (c .second) ≡ true
+      → isIn x (a .source) ≡ true → isIn x (b .source) ≡ true → separationBroken rs c ≡ true
+  two-rules rs c x a b ma mb la lb ta tb ia ib =
+      p .separating .separation-means .all rs c x
+      (record { rule = a; one = ma; is-live = la; touching = ta; has = ia })
+      (record { rule = b; one = mb; is-live = lb; touching = tb; has = ib })
+
+  none-shared :
+      (rs : List Rule) (c : Constraint) → ((x : ℕ) → From rs (c .first) x → From rs (c .second) x → ⊥) → separationBroken rs c ≡ false
+  none-shared rs c h =
+      by-test (separationBroken rs c) (λ e. let s = p .separating .separation-means .only rs c e in absurd (h (s .0) (s .1) (s .2))) (λ e. e)
+
+  -- a rule in front that is replaced by a wider one, or is not live and goes
+  wider-rule :
+      (rs : List Rule) (c : Constraint) (a b : Rule) → live b ≡ true → within (a .source) (b .source) ≡ true → within (a .dest) (b .dest) ≡ true
+      → separationBroken (a ∷ rs) c ≡ true → separationBroken (b ∷ rs) c ≡ true
+  wider-rule rs c a b l s d = p .separating .separation-kept (a ∷ rs) (b ∷ rs) c wider
+    where
+      wider : Wider (a ∷ rs) (b ∷ rs)
+      wider z (List·Memᴰ·head e) k = (
+        b,
+        List·Memᴰ·head refl,
+        l,
+        subst (λ (y : Rule). within (y .source) (b .source) ≡ true) (sym e) s,
+        subst (λ (y : Rule). within (y .dest) (b .dest) ≡ true) (sym e) d,
+      )
+      wider z (List·Memᴰ·tail m) k = (z, List·Memᴰ·tail m, k, within-refl (z .source), within-refl (z .dest))
+
+  off-rule : (rs : List Rule) (c : Constraint) (a : Rule) → live a ≡ false → separationBroken (a ∷ rs) c ≡ true → separationBroken rs c ≡ true
+  off-rule rs c a o = p .separating .separation-kept (a ∷ rs) rs c wider
+    where
+      wider : Wider (a ∷ rs) rs
+      wider z (List·Memᴰ·head e) k = false-not-true (sym o ∙ sym (ap live e) ∙ k)
+      wider z (List·Memᴰ·tail m) k = (z, m, k, within-refl (z .source), within-refl (z .dest))
+
+  sample-one-type : OneType (rulesOf (policyOf sample))
+  sample-one-type = one-type _ (shared-rules .sample-one)
+
+  story-changed : answer story shared ≡ answerWas story shared → ⊥
+  story-changed e =
+      let d : unknown 1 1 ≡ permitted 1 = gives-one (sym (is .story-is) ∙ e ∙ was .story-was) in
+      let h : height (unknown 1 1) ≡ height (permitted 1) = ap height d in
+      omega (arith, h, height-unknown 1 1, height-permitted 1)
+
+  -- a decision of now, beside one of before
+  above : (l : List ℕ) (q : Query) (d e : Decision) → answerWas l q ≡ gives d → answer l q ≡ gives e → height d ≤ height e
+  above l q d e w n =
+      let a = p .separating .answers-rise l q d w in
+      subst (λ (x : Decision). height d ≤ height x) (gives-one (sym (a .answered) ∙ n)) (a .above)
+
+  -- an answer of which no raised one, or none that could be raised, is left
+  now-is : (l : List ℕ) (q : Query) (o : Outcome Decision) → (Raised l q → answer l q ≡ o → ⊥) → answer l q ≡ o → answerWas l q ≡ o
+  now-is l q o never e = ⊎-elim (λ h. sym h ∙ e) (λ r. absurd (never r e)) (p .separating .answers-change l q)
+
+  was-is : (l : List ℕ) (q : Query) (o : Outcome Decision) → (Raised l q → answerWas l q ≡ o → ⊥) → answerWas l q ≡ o → answer l q ≡ o
+  was-is l q o never e = ⊎-elim (λ h. h ∙ e) (λ r. absurd (never r e)) (p .separating .answers-change l q)
+
+  -- what a raised answer was
+  raised-was : (l : List ℕ) (q : Query) (r : Raised l q) → (d : Decision) × (answerWas l q ≡ gives d) × (1 ≤ height d)
+  raised-was l q r =
+      ⊎-elim
+      (λ e. (permitted (r .rule), e, omega (arith, height-permitted (r .rule))))
+      (λ k. (unknown (r .rule) (k .0), k .2, omega (arith, height-unknown (r .rule) (k .0))))
+      (r .was)
+
+  story-raised : Raised story shared
+  story-raised = record { rule = 1; constraint = 1; is = is .story-is; separates = shared-rules .story-separates; was = inl (was .story-was) }
+
+  pub separating-met : SeparatingMet
+  separating-met =
+      let s = p .separating in
+      record {
+        two-rules = two-rules;
+        one-rule = λ c x a l t u i. two-rules (a ∷ []) c x a a (List·Memᴰ·head refl) (List·Memᴰ·head refl) l l t u i i;
+        none-shared = none-shared;
+        none-live = λ rs c e. none-shared rs c (λ x f g. no-live rs (f .rule) e (f .one) (f .is-live));
+        story-first = shared-rules .story-first;
+        story-second = shared-rules .story-second;
+        story-broken = λ c e f. s .separation-means .all _ c 20
+            (subst (λ (t : List ℕ). From (rulesOf (policyOf story)) t 20) (sym e) (shared-rules .story-first))
+            (subst (λ (t : List ℕ). From (rulesOf (policyOf story)) t 20) (sym f) (shared-rules .story-second));
+        more-rules = λ rs more c e. s .separation-kept rs (rs ++ more) c (wider-all (λ a m. Memᴰ·append-left more m)) e;
+        sample-wider = wider-all (λ a m. subst (List·Memᴰ a) (sym (shared-rules .one-more)) (Memᴰ·append-left _ m));
+        wider-rule = wider-rule;
+        off-rule = off-rule;
+        sample-one-type = sample-one-type;
+        sample-separations = λ c. s .separation-stays _ c sample-one-type;
+        sample-stays = λ q. s .answers-stay sample q sample-one-type;
+        separated-stays = sym (s .answers-stay separated shared (one-type _ (shared-rules .separated-one))) ∙ separated-is (p .deciding .marked-cases);
+        none-live-stays = λ l q e. s .answers-stay l q (λ a m k. absurd (no-live _ a e m k));
+        story-was = was .story-was;
+        story-is = is .story-is;
+        story-changed = story-changed;
+        story-not-one-type = λ e. story-changed (s .answers-stay story shared e);
+        story-above = s .answers-rise story shared (permitted 1) (was .story-was);
+        permitted-above = λ l q r w d e. (let h = above l q (permitted r) d w e in omega (arith, h, height-permitted r));
+        unknown-above = λ l q r c w d e. (let h = above l q (unknown r c) d w e in omega (arith, h, height-unknown r c));
+        none-refused = λ l q d f w e. (let a = s .answers-rise l q d w in given-refused (a .now) f (sym (a .answered) ∙ e));
+        story-raised = story-raised;
+        denied-stays = λ l q x. was-is l q _ (λ r e. let d = raised-was l q r in let h : height (d .0) ≡ height (notPermitted x) = ap height (gives-one (sym (d .1) ∙ e)) in omega (arith, h, d .2, height-denied x));
+        denied-was = λ l q x. now-is l q _ (λ r e. unlike (r .rule) (r .constraint) x (sym (r .is) ∙ e));
+        refused-stays = λ l q f. was-is l q _ (λ r e. let d = raised-was l q r in given-refused (d .0) f (sym (d .1) ∙ e));
+        permitted-was = λ l q n. now-is l q _ (λ r e. higher (r .rule) (r .constraint) n (sym (r .is) ∙ e));
+        shared-all = (is .many, was .many);
+        both-reached = is .both-reached;
+        off-shared = is .off-shared;
+        elsewhere-inside = is .inside;
+        elsewhere-outside = is .outside;
+        same-source-was = was .same-source;
+      }
