@@ -13,7 +13,8 @@ for edit in crates/*/must-fail/*.edit; do
     fi
     first=$(grep -a -m 1 ': error' "$log")
     case $first in
-        '' | *'that can be named from here'* | *'is not in scope'* | *'has no field'*)
+        '' | *'that can be named from here'* | *'is not in scope'* | *'has no field'* | *'this pattern needs a function'* | \
+            *'binders, but its type has room'*)
             echo "$edit: shows nothing: $first"
             bad=1
             ;;

@@ -29,7 +29,7 @@ use Rattle.decision.specs.Decide.{Decision, notPermitted, permitted, unknown, a
 use Rattle.decision.specs.Cases.{g0, allow, companion, withSpace, extended, ask, cases, given, expectedOf, MarkedCases}
 use Rattle.decision.specs.Clauses.{allowGroup}
 use Rattle.decision.specs.Steps.{off}
-use Rattle.decision.specs.Separation.{From, answerWas, separation, story, elsewhere, sharedCases, SharedCases, wasCases, givenWas, SharedWas}
+use Rattle.decision.specs.Separation.{From, FromRecord, answerWas, separation, story, elsewhere, sharedCases, SharedCases, wasCases, givenWas, SharedWas}
 use Rattle.decision.specs.Rows.{queryAt}
 use Rattle.format.specs.Refusals.{refusal, need, _orElse_, unlessRefused}
 use Rattle.decision.proofs.Cases.{Answers}
@@ -174,7 +174,7 @@ refused-samples =
 
 -- request 5's tables: how many rows, and some by themselves
 pub record SharedAnswers : Type 0 where
-  pub many : length sharedCases ≡ 13
+  pub many : length sharedCases ≡ 20
   pub story-is : answer story shared ≡ gives (unknown 1 1)
   pub both-reached : answer (extended (extended sample (allow 20 21 5 4)) separation) (query 20 21 5 4) ≡ gives (unknown 4 2)
   pub off-shared : answer (extended sample (off (allow 10 30 5 3))) shared ≡ gives (permitted 1)
@@ -189,7 +189,7 @@ shared-answers e = record { many = refl; story-is = row 0; both-reached = row 5;
     row n = ap (λ (xs : List (Outcome Decision)). getD xs n (gives (permitted 0))) e
 
 pub record WasAnswers : Type 0 where
-  pub many : length wasCases ≡ 3
+  pub many : length wasCases ≡ 5
   pub story-was : answerWas story shared ≡ gives (permitted 1)
   pub same-source : answerWas (extended sample (allow 20 20 5 3)) shared ≡ gives (unknown 1 1)
 
@@ -214,6 +214,9 @@ pub record SharedRules : Type 0 where
   pub one-more : rulesOf (policyOf separated) ≡ rulesOf (policyOf sample) ++ drop 4 (rulesOf (policyOf separated))
   pub story-first : From (rulesOf (policyOf story)) (20 ∷ []) 20
   pub story-second : From (rulesOf (policyOf story)) (30 ∷ []) 20
+  pub record-first : FromRecord (policyOf story) 20 20
+  pub record-second : FromRecord (policyOf story) 30 20
+  pub sample-separates : (getD (getD (policyOf sample .constraints) 1 []) 10 0 ≡ 1) × (wordAt (getD (policyOf sample .constraints) 1 []) 6 ≡ 20) × (wordAt (getD (policyOf sample .constraints) 1 []) 8 ≡ 30)
   pub story-separates : getD (getD (policyOf story .constraints) 1 []) 10 0 ≡ 1
 
 pub shared-rules : SharedRules
@@ -239,5 +242,17 @@ shared-rules =
         has = refl;
       };
       story-second = record { rule = _; one = List·Memᴰ·tail (List·Memᴰ·head refl); is-live = refl; touching = refl; has = refl };
+      record-first = record {
+        bytes = _;
+        one = List·Memᴰ·tail (List·Memᴰ·tail (List·Memᴰ·tail (List·Memᴰ·tail (List·Memᴰ·head refl))));
+        kind = refl;
+        on = refl;
+        y = 20;
+        there = refl;
+        argued = refl;
+        has = refl;
+      };
+      record-second = record { bytes = _; one = List·Memᴰ·tail (List·Memᴰ·head refl); kind = refl; on = refl; y = 30; there = refl; argued = refl; has = refl };
+      sample-separates = (refl, refl, refl);
       story-separates = refl;
     }

@@ -14,6 +14,7 @@ use Rattle.decision.proofs.Lowest as lowest
 use Rattle.decision.proofs.Steps as steps
 use Rattle.decision.proofs.Before as before
 use Rattle.decision.proofs.Separation as separation
+use Rattle.decision.proofs.SeparationBytes as separation-bytes
 use Rattle.decision.proofs.Was as was
 use Rattle.decision.proofs.Changes as changes
 use Rattle.decision.proofs.Tepla as tepla
@@ -142,6 +143,7 @@ promises =
       };
       separating = record {
         separation-means = separation.separation-means;
+        separation-read = separation-bytes.separation-read;
         separation-kept = separation.separation-kept;
         separation-stays = was.separation-stays;
         answers-stay = was.answers-stay;

@@ -5,21 +5,21 @@ use mathlib.Core.Path.{_≡_, refl, sym, subst, ap, _∙_}
 use mathlib.Core.Logic.{inl, ⊎-elim}
 use mathlib.Core.Bool.{true, false}
 use mathlib.Core.List.{List, [], _∷_, _++_, List·Memᴰ, List·Memᴰ·head, List·Memᴰ·tail, Memᴰ·append-left}
-use lib.ListN.{length}
+use lib.ListN.{length, getD}
 use lib.Dec.{eqb}
 use borrow.Author.Tests.{eqb-true}
 use Rattle.format.specs.declared.Refusal.{Refusal}
-use Rattle.format.specs.Policy.{policyOf}
+use Rattle.format.specs.Policy.{Policy, policyOf}
 use Rattle.format.specs.Answers.{Outcome, refused, gives}
 use Rattle.format.specs.Sample.{sample}
 use Rattle.format.proofs.Tests.{false-not-true}
 use Rattle.decision.specs.declared.Query.{Query}
 use Rattle.decision.specs.declared.Nearest.{Nearest}
 use Rattle.decision.specs.Sets.{anyOf, allOf, isIn, within, touches}
-use Rattle.decision.specs.Reading.{Rule, Constraint, live, rulesOf}
-use Rattle.decision.specs.Decide.{separationBroken, Decision, notPermitted, permitted, unknown, answer}
+use Rattle.decision.specs.Reading.{Rule, Constraint, live, constraintOf, rulesOf}
+use Rattle.decision.specs.Decide.{separationBroken, broken, Decision, notPermitted, permitted, unknown, answer}
 use Rattle.decision.specs.Order.{height}
-use Rattle.decision.specs.Separation.{From, Wider, answerWas, OneType, Raised, story}
+use Rattle.decision.specs.Separation.{From, FromRecord, Wider, answerWas, OneType, Raised, story}
 use Rattle.decision.proofs.Search.{by-test, anyOf-none, allOf-elim}
 use Rattle.decision.proofs.Implies.{within-refl}
 use Rattle.decision.proofs.Above.{height-denied, height-permitted, height-unknown}
@@ -70,6 +70,20 @@ module _ (p : Promises) where
       (rs : List Rule) (c : Constraint) → ((x : ℕ) → From rs (c .first) x → From rs (c .second) x → ⊥) → separationBroken rs c ≡ false
   none-shared rs c h =
       by-test (separationBroken rs c) (λ e. let s = p .separating .separation-means .only rs c e in absurd (h (s .0) (s .1) (s .2))) (λ e. e)
+
+  -- the sample's separation, read in the story
+  story-read : broken (rulesOf (policyOf story)) (constraintOf (policyOf story) (getD (policyOf sample .constraints) 1 [])) ≡ true
+  story-read =
+      let e = shared-rules .sample-separates in
+      p .separating .separation-read .all (policyOf story) _ 20 (e .0)
+      (subst (λ (t : ℕ). FromRecord (policyOf story) t 20) (sym (e .1)) (shared-rules .record-first))
+      (subst (λ (t : ℕ). FromRecord (policyOf story) t 20) (sym (e .2)) (shared-rules .record-second))
+
+  none-on :
+      (o : Policy) (r : List ℕ) → getD r 10 0 ≡ 1 → ((b : List ℕ) → List·Memᴰ b (o .rules) → getD b 10 0 ≡ 1 → ⊥)
+      → broken (rulesOf o) (constraintOf o r) ≡ false
+  none-on o r e h =
+      by-test (broken (rulesOf o) (constraintOf o r)) (λ t. let f = p .separating .separation-read .only o r e t .1 in absurd (h (f .bytes) (f .one) (f .on))) (λ t. t)
 
   -- a rule in front that is replaced by a wider one, or is not live and goes
   wider-rule :
@@ -140,6 +154,9 @@ module _ (p : Promises) where
         story-broken = λ c e f. s .separation-means .all _ c 20
             (subst (λ (t : List ℕ). From (rulesOf (policyOf story)) t 20) (sym e) (shared-rules .story-first))
             (subst (λ (t : List ℕ). From (rulesOf (policyOf story)) t 20) (sym f) (shared-rules .story-second));
+        story-from-record = (shared-rules .record-first, shared-rules .record-second);
+        story-read = story-read;
+        none-on = none-on;
         more-rules = λ rs more c e. s .separation-kept rs (rs ++ more) c (wider-all (λ a m. Memᴰ·append-left more m)) e;
         sample-wider = wider-all (λ a m. subst (List·Memᴰ a) (sym (shared-rules .one-more)) (Memᴰ·append-left _ m));
         wider-rule = wider-rule;

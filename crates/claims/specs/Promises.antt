@@ -17,7 +17,7 @@ use Rattle.decision.specs.Order.{Decided, DecidedOnly, OrderRule, QueryOrder, N
 use Rattle.decision.specs.Growth.{AddedGrows, AddedOrder, SameRules, RulesReordered, MemberOrder}
 use Rattle.decision.specs.Steps.{StepsInOrder, StepsOfRecord, CoversAll, DeniedSteps, NearestPasses, NearestOfAll, NoRulesExactly, StepCases}
 use Rattle.decision.specs.Before.{DecisionsStay}
-use Rattle.decision.specs.Separation.{SeparationMeans, SeparationKept, SeparationStays, AnswersStay, AnswersRise, AnswersChange, SharedCases, SharedWas}
+use Rattle.decision.specs.Separation.{SeparationMeans, SeparationRead, SeparationKept, SeparationStays, AnswersStay, AnswersRise, AnswersChange, SharedCases, SharedWas}
 use Rattle.decision.specs.Cases.{MarkedCases, MarkedAdds, MarkedOrder}
 use Rattle.decision.specs.Clauses.{ClauseCases, RefusalCases}
 use Rattle.decision.specs.Numbers.{DecideWhole, PartsWhole, PartsRead, DecideRead}
@@ -223,6 +223,8 @@ pub record Separating : Type 0 where
   -- a separation is false exactly where some basic type lies in the source of a live rule that reaches its first argument and in the
   -- source of one that reaches its second; one rule may be both
   pub separation-means : SeparationMeans
+  -- the same by the bytes of the constraint's record and of the rules'
+  pub separation-read : SeparationRead
   -- where it is false, more live rules keep it so, and wider ones: what the order rule needs of it
   pub separation-kept : SeparationKept
   -- where the source of each live rule is one basic type, a separation is what it was

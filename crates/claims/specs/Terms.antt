@@ -51,12 +51,12 @@ use Rattle.decision.specs.declared.Nearest.the-variants.{NoRules, Near}
 use Rattle.decision.specs.declared.Answer.{Answer}
 use Rattle.decision.specs.declared.Answer.the-variants as answers
 use Rattle.decision.specs.Sets.{anyOf, isIn, setOf, within, touches}
-use Rattle.decision.specs.Reading.{Rule, Constraint, Request, asks, live, requestOf, rulesOf}
-use Rattle.decision.specs.Decide.{covers, steps, separationBroken, firstAt, Decision, notPermitted, permitted, unknown, judge, decide, answer, answerOutcome}
+use Rattle.decision.specs.Reading.{Rule, Constraint, Request, asks, live, constraintOf, requestOf, rulesOf}
+use Rattle.decision.specs.Decide.{covers, steps, separationBroken, broken, firstAt, Decision, notPermitted, permitted, unknown, judge, decide, answer, answerOutcome}
 use Rattle.decision.specs.Lowest.{Most, Nears}
 use Rattle.decision.specs.Steps.{stepsOf, stepsAt, sourceIn, destIn, off, stepCases}
 use Rattle.decision.specs.Before.{denied, allowed, stopped, answerBefore}
-use Rattle.decision.specs.Separation.{From, Wider, separationWas, answerWas, OneType, Raised, separation, story, elsewhere, sharedCases, wasCases}
+use Rattle.decision.specs.Separation.{From, FromRecord, Wider, separationWas, answerWas, OneType, Raised, separation, story, elsewhere, sharedCases, wasCases}
 use Rattle.decision.specs.Order.{height, Keeps, NoCompanion}
 use Rattle.decision.specs.Growth.{reordered, DecidedAbove}
 use Rattle.decision.specs.Cases.{g0, allow, companion, oneMember, withSpace, extended, cases}
@@ -613,6 +613,12 @@ pub record SeparatingMet : Type 0 where
   pub story-first : From (rulesOf (policyOf story)) (20 ∷ []) 20
   pub story-second : From (rulesOf (policyOf story)) (30 ∷ []) 20
   pub story-broken : (c : Constraint) → c .first ≡ 20 ∷ [] → c .second ≡ 30 ∷ [] → separationBroken (rulesOf (policyOf story)) c ≡ true
+  -- SeparationRead: the story's records, and the sample's own separation; no record with predicate byte 1 fails where no rule is on
+  pub story-from-record : FromRecord (policyOf story) 20 20 × FromRecord (policyOf story) 30 20
+  pub story-read : broken (rulesOf (policyOf story)) (constraintOf (policyOf story) (getD (policyOf sample .constraints) 1 [])) ≡ true
+  pub none-on :
+      (p : Policy) (r : List ℕ) → getD r 10 0 ≡ 1 → ((b : List ℕ) → List·Memᴰ b (p .rules) → getD b 10 0 ≡ 1 → ⊥)
+      → broken (rulesOf p) (constraintOf p r) ≡ false
   -- SeparationKept: any rules more, the sample's too; a wider rule for any rule; without a rule that is not live
   pub more-rules : (rs more : List Rule) (c : Constraint) → separationBroken rs c ≡ true → separationBroken (rs ++ more) c ≡ true
   pub sample-wider : Wider (rulesOf (policyOf sample)) (rulesOf (policyOf separated))
@@ -643,7 +649,7 @@ pub record SeparatingMet : Type 0 where
   pub refused-stays : (l : List ℕ) (q : Query) (f : Refusal) → answerWas l q ≡ refused f → answer l q ≡ refused f
   pub permitted-was : (l : List ℕ) (q : Query) (r : ℕ) → answer l q ≡ gives (permitted r) → answerWas l q ≡ gives (permitted r)
   -- SharedCases, SharedWas: all of them; one rule that reaches both, a rule that is off, a query that is not within the arguments
-  pub shared-all : (length sharedCases ≡ 13) × (length wasCases ≡ 3)
+  pub shared-all : (length sharedCases ≡ 20) × (length wasCases ≡ 5)
   pub both-reached : answer (extended (sampleAnd (allow 20 21 5 4)) separation) (query 20 21 5 4) ≡ gives (unknown 4 2)
   pub off-shared : answer (sampleAnd (off (allow 10 30 5 3))) shared ≡ gives (permitted 1)
   pub elsewhere-inside : answer elsewhere (query 40 30 5 2) ≡ gives (unknown 5 2)

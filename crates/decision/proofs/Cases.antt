@@ -23,7 +23,7 @@ use Rattle.decision.specs.Order.{NoCompanion}
 use Rattle.decision.specs.Cases.{withSpace, extended, g0, allow, companion, oneMember, banned, ask, cases, given, expectedOf, MarkedCases, MarkedAdds, MarkedOrder}
 use Rattle.decision.specs.Clauses.{allowGroup, companionOfGroup, rosterOfGroup, backTransition, longRoster, clauseCases, ClauseCases, RefusalCases}
 use Rattle.decision.specs.Steps.{off, stepCases, StepCases}
-use Rattle.decision.specs.Separation.{sameSet, separationWas, brokenWas, failsWas, decideWas, answerWas, separation, separate, cross, story, elsewhere, overlap, sharedCases, SharedCases, wasCases, givenWas, SharedWas}
+use Rattle.decision.specs.Separation.{sameSet, separationWas, brokenWas, failsWas, decideWas, answerWas, separation, separate, cross, story, elsewhere, separateGroup, ownTransition, pair, sharedCases, SharedCases, wasCases, givenWas, SharedWas}
 use Rattle.decision.specs.Growth.{reordered}
 
 -- a predicate that is no companion
@@ -40,7 +40,7 @@ unfolding
     anyOf allOf isIn setOf unionOf within touches
     asks live ruleOf constraintOf requestOf rulesOf constraintsOf
     tests covers passes steps nearestOf greatest nearestBy nearest reaches separationBroken rosterBroken companionBroken broken applies inside fails firstAt decisionOf judge decide queryFault answerFault answer
-    withSpace extended g0 allow companion oneMember banned allowGroup backTransition longRoster companionOfGroup rosterOfGroup ask cases clauseCases off stepCases separation separate cross story elsewhere overlap sharedCases wasCases given expectedOf reordered
+    withSpace extended g0 allow companion oneMember banned allowGroup backTransition longRoster companionOfGroup rosterOfGroup ask cases clauseCases off stepCases separation separate cross story elsewhere separateGroup ownTransition pair sharedCases wasCases given expectedOf reordered
     sameSet separationWas brokenWas failsWas decideWas answerWas givenWas
 computed = (refl, adds, order, refl, refusals, refl, refl, refl)
   where

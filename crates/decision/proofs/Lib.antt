@@ -2,6 +2,7 @@ pub mod Search
 pub mod Nearness
 pub mod Implies
 pub mod Separation
+pub mod SeparationBytes
 pub mod Above
 pub mod Kept
 pub mod Order

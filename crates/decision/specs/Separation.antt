@@ -1,6 +1,9 @@
 -- What a separation means from request [5] on, what it meant before, and where that makes no difference.
 --     From rs s x         the basic type x lies in the source of a live rule of the list whose destination touches the set s
 --     SeparationMeans     a separation is false exactly where some basic type lies so for both of its arguments
+--     FromRecord p t x    the same by the bytes of a record of a policy: an allow rule that is on, whose destination shares a type with
+--                         the type t
+--     SeparationRead      and of a constraint's record with predicate byte 1
 --     Wider rs₁ rs₂       for each live rule of the first list the second has a live one whose two sets hold its own
 --     SeparationKept      where it is false, it stays so with more live rules, and with wider ones
 --     sameSet a b         two types stand for the same set
@@ -13,11 +16,11 @@
 --     Raised l q          an answer that a separation makes UnKnown, by the rule of before: it was Permitted, or UnKnown by a later
 --                         constraint
 --     AnswersChange       every answer is that of before, refusals too, or is so raised
---     separation, separate, cross, overlap   records; story, elsewhere: images
+--     separation, separate, separateGroup, cross, ownTransition, pair   records; story, elsewhere: images
 --     sharedCases         a type shared in a group, either way, and by two groups of which neither holds the other; types that are not
 --                         shared; the same source, basic or a group of one;
---                         one rule that reaches both; a rule that is off, a transition, rules of another class; sources that touch
---                         an argument; a query within the arguments, and one that is not (READINGS.md [5])
+--                         one rule that reaches both; on either side a rule that is off, a transition, a rule of another class; sources
+--                         that touch an argument; a destination that touches an argument in part, and one that does not; a query within the arguments, and one that is not (READINGS.md [5])
 --     SharedCases         the definitions give these answers
 --     wasCases, givenWas, SharedWas   what the old meaning let pass, and what it did not
 use Prim.Native.Nat.{ℕ, _<_}
@@ -27,12 +30,13 @@ use mathlib.Core.Bool.{Bool, true, _&&_, cond}
 use mathlib.Core.List.{List, [], _∷_, map, List·Memᴰ}
 use lib.ListN.{getD}
 use lib.Dec.{eqb}
+use Rattle.format.specs.Bytes.{wordAt}
 use Rattle.format.specs.Policy.{Policy, policyOf}
 use Rattle.format.specs.Answers.{Outcome, gives, outcome}
 use Rattle.format.specs.Sample.{sample}
 use Rattle.decision.specs.declared.Query.{Query}
-use Rattle.decision.specs.Sets.{anyOf, isIn, within, touches}
-use Rattle.decision.specs.Reading.{Rule, Constraint, Request, live, requestOf, rulesOf, constraintsOf}
+use Rattle.decision.specs.Sets.{anyOf, isIn, setOf, within, touches}
+use Rattle.decision.specs.Reading.{Rule, Constraint, Request, live, constraintOf, requestOf, rulesOf, constraintsOf}
 use Rattle.decision.specs.Decide.{covers, nearest, reaches, separationBroken, broken, applies, inside, firstAt, Decision, permitted, unknown, decisionOf, answerFault, answer}
 use Rattle.decision.specs.Growth.{DecidedAbove}
 use Rattle.decision.specs.Cases.{allow, oneMember, extended, Case, ask, given, expectedOf}
@@ -52,6 +56,24 @@ pub record SeparationMeans : Type 0 where
       (rs : List Rule) (c : Constraint) → separationBroken rs c ≡ true → (x : ℕ) × From rs (c .first) x × From rs (c .second) x
   pub all :
       (rs : List Rule) (c : Constraint) (x : ℕ) → From rs (c .first) x → From rs (c .second) x → separationBroken rs c ≡ true
+
+pub record FromRecord (p : Policy) (t x : ℕ) : Type 0 where
+  pub bytes : List ℕ
+  pub one : List·Memᴰ bytes (p .rules)
+  pub kind : getD bytes 1 0 ≡ 2
+  pub on : getD bytes 10 0 ≡ 1
+  pub y : ℕ
+  pub there : isIn y (setOf (p .groups) (wordAt bytes 4)) ≡ true
+  pub argued : isIn y (setOf (p .groups) t) ≡ true
+  pub has : isIn x (setOf (p .groups) (wordAt bytes 2)) ≡ true
+
+pub record SeparationRead : Type 0 where
+  pub only :
+      (p : Policy) (r : List ℕ) → getD r 10 0 ≡ 1 → broken (rulesOf p) (constraintOf p r) ≡ true
+      → (x : ℕ) × FromRecord p (wordAt r 6) x × FromRecord p (wordAt r 8) x
+  pub all :
+      (p : Policy) (r : List ℕ) (x : ℕ) → getD r 10 0 ≡ 1 → FromRecord p (wordAt r 6) x → FromRecord p (wordAt r 8) x
+      → broken (rulesOf p) (constraintOf p r) ≡ true
 
 abbrev pub Wider : List Rule → List Rule → Type 0
 Wider rs₁ rs₂ =
@@ -132,9 +154,17 @@ story = extended sample (allowGroup 0 20)
 unfoldable pub elsewhere : List ℕ
 elsewhere = extended (extended (extended sample (allowGroup 0 40)) (allow 40 30 5 2)) separate
 
--- a group of 21 and 22
-unfoldable pub overlap : List ℕ
-overlap = 6 ∷ 1 ∷ 0 ∷ 21 ∷ 0 ∷ 22 ∷ []
+-- a group of two members
+unfoldable pub pair : ℕ → ℕ → List ℕ
+pair m n = 6 ∷ 1 ∷ 0 ∷ m ∷ 0 ∷ n ∷ []
+
+-- a transition 20 to 20
+unfoldable pub ownTransition : List ℕ
+ownTransition = 8 ∷ 3 ∷ 0 ∷ 20 ∷ 0 ∷ 20 ∷ 0 ∷ 5 ∷ []
+
+-- a separation on class 5, action 2, of g0 and 30
+unfoldable pub separateGroup : List ℕ
+separateGroup = 11 ∷ 4 ∷ 0 ∷ 5 ∷ 0 ∷ 2 ∷ 128 ∷ 0 ∷ 0 ∷ 30 ∷ 1 ∷ []
 
 unfoldable pub sharedCases : List Case
 sharedCases =
@@ -150,7 +180,14 @@ sharedCases =
     ∷ ask (extended sample (allow 30 20 5 3)) 20 30 5 2 (gives (permitted 1))
     ∷ ask elsewhere 40 30 5 2 (gives (unknown 5 2))
     ∷ ask elsewhere 20 30 5 2 (gives (permitted 1))
-    ∷ ask (extended (extended (extended sample overlap) (allowGroup 1 20)) (allowGroup 0 30)) 20 30 5 2 (gives (unknown 1 1))
+    ∷ ask (extended (extended (extended sample (pair 21 22)) (allowGroup 1 20)) (allowGroup 0 30)) 20 30 5 2 (gives (unknown 1 1))
+    ∷ ask (extended sample (off (allow 20 20 5 3))) 20 30 5 2 (gives (permitted 1))
+    ∷ ask (extended sample ownTransition) 20 30 5 2 (gives (permitted 1))
+    ∷ ask (extended sample (allow 20 20 7 7)) 20 30 5 2 (gives (unknown 1 1))
+    ∷ ask (extended (extended (extended (extended sample (pair 21 22)) (pair 22 23)) (allowGroup 1 20)) (allowGroup 2 30)) 20 30 5 2 (gives (unknown 1 1))
+    ∷ ask (extended (extended (extended (extended sample (pair 21 22)) (pair 23 24)) (allowGroup 1 20)) (allowGroup 2 30)) 20 30 5 2 (gives (permitted 1))
+    ∷ ask (extended (extended (extended sample (pair 21 22)) (allow 20 0x8001 5 3)) separateGroup) 20 30 5 2 (gives (unknown 1 2))
+    ∷ ask (extended (extended (extended sample (pair 22 23)) (allow 20 0x8001 5 3)) separateGroup) 20 30 5 2 (gives (permitted 1))
     ∷ []
 
 abbrev pub SharedCases : Type 0
@@ -161,6 +198,8 @@ wasCases =
     ask story 20 30 5 2 (gives (permitted 1))
     ∷ ask (extended (extended sample (allowGroup 0 30)) (allow 21 20 5 3)) 20 30 5 2 (gives (permitted 1))
     ∷ ask (extended sample (allow 20 20 5 3)) 20 30 5 2 (gives (unknown 1 1))
+    ∷ ask (extended (extended sample (allowGroup 0 20)) (allowGroup 0 30)) 20 30 5 2 (gives (unknown 1 1))
+    ∷ ask (extended (extended (extended sample oneMember) (allowGroup 1 20)) (allow 21 30 5 3)) 20 30 5 2 (gives (unknown 1 1))
     ∷ []
 
 unfoldable pub givenWas : Case → Outcome Decision
