@@ -26,8 +26,8 @@ static const uint8_t sample[] = {
 
 static const uint8_t empty[MUNGAITE_EMPTY] = {0x01, 0x00, 0x09};
 
-/* Allow 10 to 30, class 5, action 3, on. */
-static const uint8_t rule[] = {0x0B, 0x02, 0x00, 0x0A, 0x00, 0x1E, 0x00, 0x05, 0x00, 0x03, 0x01};
+/* Allow group 0, which is 20 and 21, at 20: class 5, action 3, on. It shares 20 with rule 1, which lets 20 at 30. */
+static const uint8_t rule[] = {0x0B, 0x02, 0x80, 0x00, 0x00, 0x14, 0x00, 0x05, 0x00, 0x03, 0x01};
 
 /* The rows of a run: source, destination, class, action. */
 static const uint16_t rows[] = {

@@ -15,8 +15,8 @@ const SAMPLE: [u8; 80] = [
     0x0B, 0x04, 0x00, 0x05, 0x00, 0x02, 0x00, 0x14, 0x00, 0x1E, 0x01,
 ];
 
-/// Allow 10 to 30, class 5, action 3, on.
-const RULE: [u8; 11] = [11, 2, 0, 10, 0, 30, 0, 5, 0, 3, 1];
+/// Allow group 0, which is 20 and 21, at 20: class 5, action 3, on. It shares 20 with rule 1, which lets 20 at 30.
+const RULE: [u8; 11] = [11, 2, 128, 0, 0, 20, 0, 5, 0, 3, 1];
 
 fn query(source: u16, destination: u16, class: u16, action: u16) -> Query {
     Query { source, destination, class, action }

@@ -1,5 +1,5 @@
-// The sample sheet of document 01, with request [2]'s steps and as request [3]'s text, run through the C interface, and records
-// given as parts of an image, which C does not have: each line is a case and its answer. The file stdout beside src/ has what the
+// The sample sheet of document 01, with request [2]'s steps, as request [3]'s text and with request [5]'s story, run through the C
+// interface, and records given as parts of an image, which C does not have: each line is a case and its answer. The file stdout beside src/ has what the
 // documents say.
 mod batch; // batch.rt: runs of queries on the sample
 mod images; // images.rt: images that are longer than a line
@@ -22,6 +22,8 @@ fn main() {
     rule_to_30();
     rule_to_group();
     companion();
+    shared();
+    not_shared();
     cuts();
     members();
     rules();
@@ -71,6 +73,20 @@ fn companion() {
     ask(b"with companion 10 21: 10 21 5 1", &buffer, 10, 21, 5, 1);
     mungaite::mungaite_add(&mut buffer, b"\x0B\x02\x00\x15\x00\x0A\x00\x05\x00\x09\x01");
     ask(b"and allow 21 10 5 9: 10 21 5 1", &buffer, 10, 21, 5, 1);
+}
+
+// Request [5]: the group of 20 and 21 at 20, and 20 alone at 30 (rule 1).
+fn shared() {
+    let mut buffer = roomy();
+    mungaite::mungaite_add(&mut buffer, b"\x0B\x02\x80\x00\x00\x14\x00\x05\x00\x03\x01");
+    ask(b"with allow g0 20 5 3: 20 30 5 2", &buffer, 20, 30, 5, 2);
+}
+
+// 21 at 20, and 20 at 30.
+fn not_shared() {
+    let mut buffer = roomy();
+    mungaite::mungaite_add(&mut buffer, b"\x0B\x02\x00\x15\x00\x14\x00\x05\x00\x03\x01");
+    ask(b"with allow 21 20 5 3: 20 30 5 2", &buffer, 20, 30, 5, 2);
 }
 
 fn cuts() {
