@@ -2,7 +2,7 @@
 use Prim.Native.Nat.{ℕ, _≤_}
 use native.Mathlib.Omega.{arith}
 use mathlib.Core.Path.{_≡_, refl, sym, subst, ap, _∙_}
-use mathlib.Core.Logic.{inl, ⊎-elim}
+use mathlib.Core.Logic.{inl, inr, ⊎-elim}
 use mathlib.Core.Bool.{true, false}
 use mathlib.Core.List.{List, [], _∷_, _++_, List·Memᴰ, List·Memᴰ·head, List·Memᴰ·tail, Memᴰ·append-left}
 use lib.ListN.{length, getD}
@@ -25,7 +25,7 @@ use Rattle.decision.proofs.Implies.{within-refl}
 use Rattle.decision.proofs.Above.{height-denied, height-permitted, height-unknown}
 use Rattle.decision.proofs.Separation.{wider-all}
 use Rattle.claims.specs.Promises.{Promises}
-use Rattle.claims.specs.Terms.{separated, shared, SeparatingMet}
+use Rattle.claims.specs.Terms.{separated, shared, SameRule, SeparatingMet}
 use Rattle.claims.proofs.Cases.{SharedAnswers, shared-answers, WasAnswers, was-answers, separated-is, shared-rules}
 use Rattle.claims.proofs.DecidingTerms.{gives-one}
 
@@ -42,6 +42,12 @@ no-live rs a e m l = false-not-true (sym (anyOf-none live e m) ∙ l)
 
 given-refused : (d : Decision) (f : Refusal) → gives d ≡ refused f → ⊥
 given-refused d f e = let z : _≡_ {A = ℕ} 0 1 = cc in omega arith
+
+permitted-one : {r n : ℕ} → gives (permitted r) ≡ gives (permitted n) → r ≡ n
+permitted-one e = cc
+
+unknown-one : {r c n k : ℕ} → gives (unknown r c) ≡ gives (unknown n k) → (r ≡ n) × (c ≡ k)
+unknown-one e = (cc, cc)
 
 -- decisions of other heights are not the same
 unlike : (r c : ℕ) (x : Nearest) → gives (unknown r c) ≡ gives (notPermitted x) → ⊥
@@ -138,6 +144,31 @@ module _ (p : Promises) where
       (λ k. (unknown (r .rule) (k .0), k .2, omega (arith, height-unknown (r .rule) (k .0))))
       (r .was)
 
+  changed-separates :
+      (l : List ℕ) (q : Query) → (answer l q ≡ answerWas l q → ⊥)
+      → (r c : ℕ) × (answer l q ≡ gives (unknown r c)) × (getD (getD (policyOf l .constraints) c []) 10 0 ≡ 1)
+  changed-separates l q n = ⊎-elim (λ h. absurd (n h)) (λ r. (r .rule, r .constraint, r .is, r .separates)) (p .separating .answers-change l q)
+
+  permitted-kept : (l : List ℕ) (q : Query) (n : ℕ) → answerWas l q ≡ gives (permitted n) → SameRule l q n
+  permitted-kept l q n e = ⊎-elim (λ h. inl (h ∙ e)) raised (p .separating .answers-change l q)
+    where
+      raised : Raised l q → SameRule l q n
+      raised r =
+          ⊎-elim
+          (λ w. inr (r .constraint, r .is ∙ ap (λ (x : ℕ). gives (unknown x (r .constraint))) (permitted-one (sym w ∙ e))))
+          (λ k. absurd (higher (r .rule) (k .0) n (sym (k .2) ∙ e)))
+          (r .was)
+
+  unknown-kept : (l : List ℕ) (q : Query) (n k : ℕ) → answerWas l q ≡ gives (unknown n k) → (c : ℕ) × (c ≤ k) × (answer l q ≡ gives (unknown n c))
+  unknown-kept l q n k e = ⊎-elim (λ h. (k, omega arith, h ∙ e)) raised (p .separating .answers-change l q)
+    where
+      raised : Raised l q → (c : ℕ) × (c ≤ k) × (answer l q ≡ gives (unknown n c))
+      raised r =
+          ⊎-elim
+          (λ w. absurd (higher n k (r .rule) (sym e ∙ w)))
+          (λ j. let u = unknown-one (sym (j .2) ∙ e) in (r .constraint, omega (arith, j .1, u .1), r .is ∙ ap (λ (x : ℕ). gives (unknown x (r .constraint))) (u .0)))
+          (r .was)
+
   story-raised : Raised story shared
   story-raised = record { rule = 1; constraint = 1; is = is .story-is; separates = shared-rules .story-separates; was = inl (was .story-was) }
 
@@ -179,6 +210,9 @@ module _ (p : Promises) where
         denied-was = λ l q x. now-is l q _ (λ r e. unlike (r .rule) (r .constraint) x (sym (r .is) ∙ e));
         refused-stays = λ l q f. was-is l q _ (λ r e. let d = raised-was l q r in given-refused (d .0) f (sym (d .1) ∙ e));
         permitted-was = λ l q n. now-is l q _ (λ r e. higher (r .rule) (r .constraint) n (sym (r .is) ∙ e));
+        changed-separates = changed-separates;
+        permitted-kept = permitted-kept;
+        unknown-kept = unknown-kept;
         shared-all = (is .many, was .many);
         both-reached = is .both-reached;
         off-shared = is .off-shared;

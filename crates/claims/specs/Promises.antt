@@ -17,7 +17,8 @@ use Rattle.decision.specs.Order.{Decided, DecidedOnly, OrderRule, QueryOrder, N
 use Rattle.decision.specs.Growth.{AddedGrows, AddedOrder, SameRules, RulesReordered, MemberOrder}
 use Rattle.decision.specs.Steps.{StepsInOrder, StepsOfRecord, CoversAll, DeniedSteps, NearestPasses, NearestOfAll, NoRulesExactly, StepCases}
 use Rattle.decision.specs.Before.{DecisionsStay}
-use Rattle.decision.specs.Separation.{SeparationMeans, SeparationRead, SeparationKept, SeparationStays, AnswersStay, AnswersRise, AnswersChange, SharedCases, SharedWas}
+use Rattle.decision.specs.Separation.{SeparationMeans, SeparationRead, SeparationKept, SeparationStays}
+use Rattle.decision.specs.Separation.{AnswersStay, AnswersRise, AnswersChange, SharedCases, SharedWas}
 use Rattle.decision.specs.Cases.{MarkedCases, MarkedAdds, MarkedOrder}
 use Rattle.decision.specs.Clauses.{ClauseCases, RefusalCases}
 use Rattle.decision.specs.Numbers.{DecideWhole, PartsWhole, PartsRead, DecideRead}

@@ -13,12 +13,14 @@
 --     Pass l s k, AllPass l s   the first k records of a section pass, all do
 --     LongestAt s k p     a walk over the longest image reaches the place p past k records of a section
 --     outsideBehind n     n line feeds and one more, and a row outside the form
+--     SameRule l q r      a query is answered Permitted by the rule r, or UnKnown by it and a constraint
 --     separated, shared   the sample with document 01's rule that breaks the separation, and the query that it is asked of
 --     ReadingMet, AddingMet, DecidingMet, OrderingMet, RunningMet, NearingMet, BuildingMet, ReachingMet, SeparatingMet, PrintingMet,
 --     CallingMet          by the parts of the statement
 use Prim.Native.Nat.{ℕ, suc, _+_, _*_, _/_, _%_, _<_, _≤_}
 use Prim.Native.String.{String}
 use mathlib.Core.Path.{_≡_}
+use mathlib.Core.Logic.{_⊎_}
 use mathlib.Core.Bool.{Bool, true, false}
 use mathlib.Core.Option.{Option, none, some}
 use mathlib.Core.List.{List, [], _∷_, _++_, map, List·Memᴰ}
@@ -52,7 +54,8 @@ use Rattle.decision.specs.declared.Answer.{Answer}
 use Rattle.decision.specs.declared.Answer.the-variants as answers
 use Rattle.decision.specs.Sets.{anyOf, isIn, setOf, within, touches}
 use Rattle.decision.specs.Reading.{Rule, Constraint, Request, asks, live, constraintOf, requestOf, rulesOf}
-use Rattle.decision.specs.Decide.{covers, steps, separationBroken, broken, firstAt, Decision, notPermitted, permitted, unknown, judge, decide, answer, answerOutcome}
+use Rattle.decision.specs.Decide.{covers, steps, separationBroken, broken, firstAt, judge, decide, answer, answerOutcome}
+use Rattle.decision.specs.Decide.{Decision, notPermitted, permitted, unknown}
 use Rattle.decision.specs.Lowest.{Most, Nears}
 use Rattle.decision.specs.Steps.{stepsOf, stepsAt, sourceIn, destIn, off, stepCases}
 use Rattle.decision.specs.Before.{denied, allowed, stopped, answerBefore}
@@ -597,6 +600,9 @@ separated = sampleAnd (allow 10 30 5 3)
 abbrev pub shared : Query
 shared = query 20 30 5 2
 
+abbrev pub SameRule : List ℕ → Query → ℕ → Type 0
+SameRule l q r = (answer l q ≡ gives (permitted r)) ⊎ ((c : ℕ) × (answer l q ≡ gives (unknown r c)))
+
 pub record SeparatingMet : Type 0 where
   -- SeparationMeans: any two rules, or one that is both, and no others: with no type from both, and with no live rule, a separation holds
   pub two-rules :
@@ -648,6 +654,13 @@ pub record SeparatingMet : Type 0 where
   pub denied-was : (l : List ℕ) (q : Query) (x : Nearest) → answer l q ≡ gives (notPermitted x) → answerWas l q ≡ gives (notPermitted x)
   pub refused-stays : (l : List ℕ) (q : Query) (f : Refusal) → answerWas l q ≡ refused f → answer l q ≡ refused f
   pub permitted-was : (l : List ℕ) (q : Query) (r : ℕ) → answer l q ≡ gives (permitted r) → answerWas l q ≡ gives (permitted r)
+  -- what changed is UnKnown now, names a separation, and has its rule of before; an UnKnown is so by that constraint or a lower one
+  pub changed-separates :
+      (l : List ℕ) (q : Query) → (answer l q ≡ answerWas l q → ⊥)
+      → (r c : ℕ) × (answer l q ≡ gives (unknown r c)) × (getD (getD (policyOf l .constraints) c []) 10 0 ≡ 1)
+  pub permitted-kept : (l : List ℕ) (q : Query) (r : ℕ) → answerWas l q ≡ gives (permitted r) → SameRule l q r
+  pub unknown-kept :
+      (l : List ℕ) (q : Query) (r k : ℕ) → answerWas l q ≡ gives (unknown r k) → (c : ℕ) × (c ≤ k) × (answer l q ≡ gives (unknown r c))
   -- SharedCases, SharedWas: all of them; one rule that reaches both, a rule that is off, a query that is not within the arguments
   pub shared-all : (length sharedCases ≡ 20) × (length wasCases ≡ 5)
   pub both-reached : answer (extended (sampleAnd (allow 20 21 5 4)) separation) (query 20 21 5 4) ≡ gives (unknown 4 2)

@@ -1,6 +1,5 @@
 -- The order rule over rules, constraints and queries as they are read, whatever their records. Assumes nothing.
---     height-denied, height-permitted, height-unknown   the height of a decision
---     found-order       a constraint that is found makes a decision no lower
+--     height-denied, height-permitted, height-unknown, height-most   the height of a decision
 --     judge-says        what a decision says is told by whether some rule covers and some constraint fails
 --     Above             the order rule's terms
 --     judge-order       the order rule
@@ -37,6 +36,12 @@ pub height-unknown : (r c : ℕ) → height (unknown r c) ≡ 2
 unfolding height
 height-unknown r c = refl
 
+pub height-most : (d : Decision) → height d ≤ 2
+unfolding height
+height-most (notPermitted x) = omega arith
+height-most (permitted r) = omega arith
+height-most (unknown r c) = omega arith
+
 module _ {C : Type 0} (says : Decision → C) (n p u : C)
     (none-is : (x : Nearest) → says (notPermitted x) ≡ n) (permitted-is : (r : ℕ) → says (permitted r) ≡ p) (unknown-is : (r c : ℕ) → says (unknown r c) ≡ u) where
   found-says : (x : Nearest) (a b : Option ℕ) → says (decisionOf x a b) ≡ cond (isFound a) (cond (isFound b) u p) n
@@ -53,10 +58,6 @@ module _ {C : Type 0} (says : Decision → C) (n p u : C)
 abbrev heightBy : Bool → Bool → ℕ
 heightBy a b = cond a (cond b 2 1) 0
 
-found-height : (x : Nearest) (a b : Option ℕ) → height (decisionOf x a b) ≡ heightBy (isFound a) (isFound b)
-unfolding height
-found-height = found-says height 0 1 2 (λ x. refl) (λ r. refl) (λ r c. refl)
-
 judge-height : (rs : List Rule) (cs : List Constraint) (a : Request) → height (judge rs cs a) ≡ heightBy (anyOf (covers a) rs) (anyOf (fails rs a) cs)
 unfolding height
 judge-height = judge-says height 0 1 2 (λ x. refl) (λ r. refl) (λ r c. refl)
@@ -68,10 +69,6 @@ heightBy-le true false true false f g = omega arith
 heightBy-le true false true true f g = omega arith
 heightBy-le true true true false f g = false-not-true (g .imp refl)
 heightBy-le true true true true f g = omega arith
-
--- a constraint that fails makes a decision no lower
-pub found-order : (x : Nearest) (a b b′ : Option ℕ) → isFound b ⟹ isFound b′ → height (decisionOf x a b) ≤ height (decisionOf x a b′)
-found-order x a b b′ h = rw (found-height x a b, found-height x a b′) (heightBy-le (isFound a) (isFound b) (isFound a) (isFound b′) id⟹ h)
 
 -- ---- the terms, and the rule
 

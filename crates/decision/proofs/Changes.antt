@@ -1,4 +1,4 @@
--- Which answers the separation of request [5] changed. Claim AnswersChange. Assumes nothing.
+-- Which answers the separation of request [5] changed, and that none is lower. Claims AnswersChange, AnswersRise. Assumes nothing.
 use Prim.Native.Nat.{ℕ, suc, _+_, _<_, _≤_}
 use native.Mathlib.Omega.{arith}
 use mathlib.Core.Path.{_≡_, refl, sym, ap, ap₂, _∙_}
@@ -15,9 +15,10 @@ use Rattle.format.specs.Answers.{gives, outcome}
 use Rattle.format.proofs.Tests.{false-not-true}
 use Rattle.decision.specs.declared.Query.{Query}
 use Rattle.decision.specs.Reading.{Rule, Constraint, Request, constraintOf, requestOf, rulesOf, constraintsOf}
-use Rattle.decision.specs.Decide.{covers, nearest, applies, inside, fails, firstAt, decisionOf, judge, decide, answerFault, answer}
-use Rattle.decision.specs.Separation.{failsWas, decideWas, answerWas, Raised, AnswersChange}
+use Rattle.decision.specs.Decide.{covers, nearest, applies, inside, fails, firstAt, unknown, decisionOf, judge, decide, answerFault, answer}
+use Rattle.decision.specs.Separation.{failsWas, decideWas, answerWas, AnswersRise, Raised, AnswersChange}
 use Rattle.decision.proofs.Search.{by-test, firstAt-some}
+use Rattle.decision.proofs.Above.{height-unknown, height-most}
 use Rattle.decision.proofs.Order.{decided-only}
 use Rattle.decision.proofs.Was.{was-other, fails⟹, sourced}
 
@@ -127,3 +128,10 @@ module _ (l : List ℕ) (q : Query) where
 
 pub answers-change : AnswersChange
 answers-change l q = by-fault l q (answerFault l q) refl
+
+pub answers-rise : AnswersRise
+answers-rise l q d e =
+    ⊎-elim
+    (λ h. record { now = d; answered = h ∙ e; above = omega arith })
+    (λ r. record { now = unknown (r .rule) (r .constraint); answered = r .is; above = omega (arith, height-most d, height-unknown (r .rule) (r .constraint)) })
+    (answers-change l q)

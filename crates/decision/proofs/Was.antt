@@ -1,4 +1,4 @@
--- A separation as it was before request [5], beside what it is. Claims SeparationStays, AnswersStay, AnswersRise. Assumes nothing.
+-- A separation as it was before request [5], beside what it is. Claims SeparationStays, AnswersStay. Assumes nothing.
 use Prim.Native.Nat.{ℕ, _<_}
 use mathlib.Core.Path.{_≡_, refl, sym, ap, subst, _∙_}
 use mathlib.Core.Bool.{Bool, true, false, _&&_}
@@ -8,23 +8,19 @@ use native.Mathlib.Omega.{arith}
 use lib.ListN.{length}
 use lib.Dec.{eqb}
 use borrow.Author.Tests.{eqb-true, eqb-false, eq-eqb, ne-eqb}
-use Rattle.format.specs.declared.Refusal.{Refusal}
 use Rattle.format.specs.Policy.{policyOf}
 use Rattle.format.specs.Check.{Accepted}
-use Rattle.format.specs.Answers.{gives, outcome}
-use Rattle.format.proofs.Chain.{outcome-gives}
+use Rattle.format.specs.Answers.{outcome}
 use Rattle.format.proofs.Tests.{both, or-left}
 use Rattle.decision.specs.Sets.{anyOf, allOf, isIn, within, touches}
 use Rattle.decision.specs.Reading.{Rule, Constraint, Request, ruleOf, requestOf, rulesOf, constraintsOf}
 use Rattle.decision.specs.Decide.{covers, nearest, reaches, separationBroken, broken, applies, inside, fails, firstAt, decisionOf, judge, decide, answerFault, answer}
-use Rattle.decision.specs.Separation.{sameSet, separationWas, brokenWas, failsWas, decideWas, answerWas, OneType, SeparationStays, AnswersStay, AnswersRise}
-use Rattle.decision.proofs.Search.{by-test, anyOf-same, firstAt-any, firstAt-same}
+use Rattle.decision.specs.Separation.{sameSet, separationWas, brokenWas, failsWas, decideWas, answerWas, OneType, SeparationStays, AnswersStay}
+use Rattle.decision.proofs.Search.{by-test, anyOf-same, firstAt-same}
 use Rattle.decision.proofs.Implies.{_⟹_, id⟹, and⟹, anyOf⟹}
 use Rattle.decision.proofs.Separation.{reaches-both}
-use Rattle.decision.proofs.Above.{found-order}
 use Rattle.decision.proofs.Kept.{accepted-typed}
 use Rattle.decision.proofs.Filled.{types-filled}
-use Rattle.decision.proofs.Order.{decided-only}
 
 -- two single basic types touch where they are the same set
 one-touches : (x y : ℕ) → touches (x ∷ []) (y ∷ []) ≡ sameSet (x ∷ []) (y ∷ [])
@@ -104,20 +100,3 @@ unfolding rulesOf ruleOf
 sourced l e a m =
     let r = Memᴰ·of-map (ruleOf (policyOf l)) (policyOf l .rules) m in
     subst (λ (z : Rule). 0 < length (z .source)) (r .2) (types-filled l e _ (accepted-typed l e .rules (r .0) (r .1) .0))
-
-pub answers-rise : AnswersRise
-unfolding answer answerWas decide decideWas judge
-answers-rise l q d e =
-    let p = policyOf l in
-    let a = requestOf p q in
-    let f = outcome-gives (answerFault l q) (decideWas p q) (sym e) in
-    let g : answer l q ≡ gives (decide p q) = ap (λ (o : Option Refusal). outcome o (decide p q)) (f .0) in
-    let s = sourced l (decided-only l q (decide p q) g .0) in
-    record {
-      now = decide p q;
-      answered = g;
-      above = rw (f .1)
-          (found-order (nearest a (rulesOf p)) (firstAt (covers a) 0 (rulesOf p)) _ _
-          (rw (firstAt-any (failsWas (rulesOf p) a) 0 (constraintsOf p), firstAt-any (fails (rulesOf p) a) 0 (constraintsOf p))
-          (anyOf⟹ (λ c m. (m, fails⟹ (rulesOf p) a c s)))));
-    }

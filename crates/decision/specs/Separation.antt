@@ -20,7 +20,8 @@
 --     sharedCases         a type shared in a group, either way, and by two groups of which neither holds the other; types that are not
 --                         shared; the same source, basic or a group of one;
 --                         one rule that reaches both; on either side a rule that is off, a transition, a rule of another class; sources
---                         that touch an argument; a destination that touches an argument in part, and one that does not; a query within the arguments, and one that is not (READINGS.md [5])
+--                         that touch an argument; a destination that touches an argument in part, and one that does not; a query
+--                         within the arguments, and one that is not (READINGS.md [5])
 --     SharedCases         the definitions give these answers
 --     wasCases, givenWas, SharedWas   what the old meaning let pass, and what it did not
 use Prim.Native.Nat.{ℕ, _<_}
@@ -37,7 +38,8 @@ use Rattle.format.specs.Sample.{sample}
 use Rattle.decision.specs.declared.Query.{Query}
 use Rattle.decision.specs.Sets.{anyOf, isIn, setOf, within, touches}
 use Rattle.decision.specs.Reading.{Rule, Constraint, Request, live, constraintOf, requestOf, rulesOf, constraintsOf}
-use Rattle.decision.specs.Decide.{covers, nearest, reaches, separationBroken, broken, applies, inside, firstAt, Decision, permitted, unknown, decisionOf, answerFault, answer}
+use Rattle.decision.specs.Decide.{covers, nearest, reaches, separationBroken, broken, applies, inside, firstAt}
+use Rattle.decision.specs.Decide.{Decision, permitted, unknown, decisionOf, answerFault, answer}
 use Rattle.decision.specs.Growth.{DecidedAbove}
 use Rattle.decision.specs.Cases.{allow, oneMember, extended, Case, ask, given, expectedOf}
 use Rattle.decision.specs.Clauses.{allowGroup}

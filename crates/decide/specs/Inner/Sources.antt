@@ -4,6 +4,7 @@
 --     sourceHas ms a m     the rule a reaches the marks ms, and m is in its source
 --     Marking l ns done    marks of basic types, and which groups were marked there, so that each is marked once
 --     Gathering l ms kr ns done   the same of the sources that reach the marks ms, with what is kept of the groups that do
+--     gathered ms m rs     m is in the source of a rule that reaches the marks ms
 --     AtSource l ms ns count n at   where the walk over the rules stands: what is marked, and the rules from rule n on, give all
 use Prim.Native.Nat.{ℕ}
 use mathlib.Core.Path.{_≡_}
@@ -37,6 +38,9 @@ pub record Gathering (l : List ℕ) (ms : List Bool) (kr : List ℕ) (ns done : 
   pub reach : KeptTest (anyMarked ms) l kr
   pub marking : Marking l ns done
 
+abbrev pub gathered : List Bool → ℕ → List Rule → Bool
+gathered ms m rs = anyOf (reachingFrom ms (isIn m)) rs
+
 abbrev pub AtSource : List ℕ → List Bool → List Bool → ℕ → ℕ → ℕ → Type 0
 AtSource l ms ns count n at =
-    (m : ℕ) → Walk Rules (ruleOf (policyOf l)) l (anyOf (reachingFrom ms (isIn m)) (rulesIn l)) (λ n rs. getD ns m false || anyOf (reachingFrom ms (isIn m)) rs) count n at
+    (m : ℕ) → Walk Rules (ruleOf (policyOf l)) l (gathered ms m (rulesIn l)) (λ n rs. getD ns m false || gathered ms m rs) count n at
