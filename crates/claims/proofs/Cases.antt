@@ -2,7 +2,7 @@
 use Prim.Native.Nat.{ℕ}
 use native.Mathlib.Omega.{arith}
 use mathlib.Core.Path.{_≡_, refl, sym, ap, _∙_}
-use mathlib.Core.Bool.{Bool, true}
+use mathlib.Core.Bool.{true}
 use mathlib.Core.Option.{none, some}
 use mathlib.Core.List.{List, [], _∷_, _++_, flatten, map, List·Memᴰ·head, List·Memᴰ·tail}
 use lib.ListN.{length, getD, take, drop, replicate}
@@ -24,7 +24,7 @@ use Rattle.extension.proofs.Adds.{section-of}
 use Rattle.format.specs.Answers.{Outcome, refused, gives}
 use Rattle.decision.specs.declared.Nearest.the-variants.{Near}
 use Rattle.decision.specs.Sets.{anyOf, allOf, isIn, setOf, touches}
-use Rattle.decision.specs.Reading.{Rule, live, ruleOf, rulesOf}
+use Rattle.decision.specs.Reading.{live, ruleOf, rulesOf}
 use Rattle.decision.specs.Decide.{Decision, notPermitted, permitted, unknown, answer}
 use Rattle.decision.specs.Cases.{g0, allow, companion, withSpace, extended, ask, cases, given, expectedOf, MarkedCases}
 use Rattle.decision.specs.Clauses.{allowGroup}
@@ -37,7 +37,7 @@ use Rattle.runs.specs.Numbers.{rowsOf, numbersOf}
 use Rattle.runs.specs.Cases.{member, group, transition, offRule, noSource, runCases, numberCases}
 use Rattle.lines.specs.Output.{imageSize}
 use Rattle.lines.specs.Worked.{workedLines, asked, workedRuns}
-use Rattle.claims.specs.Terms.{query, threeQueries, twoAndPart, byBytes, cutSample, longSample, badSample, tooShort, separated, shared}
+use Rattle.claims.specs.Terms.{query, threeQueries, twoAndPart, byBytes, cutSample, longSample, badSample, tooShort, separated, shared, oneLong}
 
 pub empty-nine : length empty ≡ 9
 unfolding empty
@@ -205,9 +205,6 @@ unfolding cases given expectedOf ask
 separated-is e = ap (λ (xs : List (Outcome Decision)). getD xs 5 (gives (permitted 0))) e
 
 -- the rules of the sample, with one more, and of the story
-abbrev oneLong : Rule → Bool
-oneLong a = eqb (length (a .source)) 1
-
 pub record SharedRules : Type 0 where
   pub sample-one : allOf oneLong (rulesOf (policyOf sample)) ≡ true
   pub separated-one : allOf oneLong (rulesOf (policyOf separated)) ≡ true

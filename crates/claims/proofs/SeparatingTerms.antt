@@ -6,9 +6,9 @@ use mathlib.Core.Logic.{inl, inr, ⊎-elim}
 use mathlib.Core.Bool.{true, false}
 use mathlib.Core.List.{List, [], _∷_, _++_, List·Memᴰ, List·Memᴰ·head, List·Memᴰ·tail, Memᴰ·append-left}
 use lib.ListN.{length, getD}
-use lib.Dec.{eqb}
 use borrow.Author.Tests.{eqb-true}
 use Rattle.format.specs.declared.Refusal.{Refusal}
+use Rattle.format.specs.Bytes.{wordAt}
 use Rattle.format.specs.Policy.{Policy, policyOf}
 use Rattle.format.specs.Answers.{Outcome, refused, gives}
 use Rattle.format.specs.Sample.{sample}
@@ -25,7 +25,7 @@ use Rattle.decision.proofs.Implies.{within-refl}
 use Rattle.decision.proofs.Above.{height-denied, height-permitted, height-unknown}
 use Rattle.decision.proofs.Separation.{wider-all}
 use Rattle.claims.specs.Promises.{Promises}
-use Rattle.claims.specs.Terms.{separated, shared, SameRule, SeparatingMet}
+use Rattle.claims.specs.Terms.{separated, shared, oneLong, SameRule, SeparatingMet}
 use Rattle.claims.proofs.Cases.{SharedAnswers, shared-answers, WasAnswers, was-answers, separated-is, shared-rules}
 use Rattle.claims.proofs.DecidingTerms.{gives-one}
 
@@ -34,7 +34,7 @@ single [] e = absurd (omega arith)
 single (x ∷ []) e = (x, refl)
 single (x ∷ y ∷ xs) e = absurd (omega arith)
 
-one-type : (rs : List Rule) → allOf (λ (a : Rule). eqb (length (a .source)) 1) rs ≡ true → OneType rs
+one-type : (rs : List Rule) → allOf oneLong rs ≡ true → OneType rs
 one-type rs e a m l = single (a .source) (eqb-true (length (a .source)) 1 (allOf-elim _ e m))
 
 no-live : (rs : List Rule) (a : Rule) → anyOf live rs ≡ false → List·Memᴰ a rs → live a ≡ true → ⊥
@@ -85,11 +85,11 @@ module _ (p : Promises) where
       (subst (λ (t : ℕ). FromRecord (policyOf story) t 20) (sym (e .1)) (shared-rules .record-first))
       (subst (λ (t : ℕ). FromRecord (policyOf story) t 20) (sym (e .2)) (shared-rules .record-second))
 
-  none-on :
-      (o : Policy) (r : List ℕ) → getD r 10 0 ≡ 1 → ((b : List ℕ) → List·Memᴰ b (o .rules) → getD b 10 0 ≡ 1 → ⊥)
+  none-in-records :
+      (o : Policy) (r : List ℕ) → getD r 10 0 ≡ 1 → ((x : ℕ) → FromRecord o (wordAt r 6) x → FromRecord o (wordAt r 8) x → ⊥)
       → broken (rulesOf o) (constraintOf o r) ≡ false
-  none-on o r e h =
-      by-test (broken (rulesOf o) (constraintOf o r)) (λ t. let f = p .separating .separation-read .only o r e t .1 in absurd (h (f .bytes) (f .one) (f .on))) (λ t. t)
+  none-in-records o r e h =
+      by-test (broken (rulesOf o) (constraintOf o r)) (λ t. let f = p .separating .separation-read .only o r e t in absurd (h (f .0) (f .1) (f .2))) (λ t. t)
 
   -- a rule in front that is replaced by a wider one, or is not live and goes
   wider-rule :
@@ -185,9 +185,14 @@ module _ (p : Promises) where
         story-broken = λ c e f. s .separation-means .all _ c 20
             (subst (λ (t : List ℕ). From (rulesOf (policyOf story)) t 20) (sym e) (shared-rules .story-first))
             (subst (λ (t : List ℕ). From (rulesOf (policyOf story)) t 20) (sym f) (shared-rules .story-second));
+        two-records = λ o r x y z a b e ma mb ka na kb nb ya yr zb zr xa xb.
+            s .separation-read .all o r x e
+            (record { bytes = a; one = ma; kind = ka; on = na; y = y; there = ya; argued = yr; has = xa })
+            (record { bytes = b; one = mb; kind = kb; on = nb; y = z; there = zb; argued = zr; has = xb });
+        none-in-records = none-in-records;
         story-from-record = (shared-rules .record-first, shared-rules .record-second);
         story-read = story-read;
-        none-on = none-on;
+        none-on = λ o r e h. none-in-records o r e (λ x f g. h (f .bytes) (f .one) (f .on));
         more-rules = λ rs more c e. s .separation-kept rs (rs ++ more) c (wider-all (λ a m. Memᴰ·append-left more m)) e;
         sample-wider = wider-all (λ a m. subst (List·Memᴰ a) (sym (shared-rules .one-more)) (Memᴰ·append-left _ m));
         wider-rule = wider-rule;
@@ -196,6 +201,8 @@ module _ (p : Promises) where
         sample-separations = λ c. s .separation-stays _ c sample-one-type;
         sample-stays = λ q. s .answers-stay sample q sample-one-type;
         separated-stays = sym (s .answers-stay separated shared (one-type _ (shared-rules .separated-one))) ∙ separated-is (p .deciding .marked-cases);
+        one-long-separations = λ rs c e. s .separation-stays rs c (one-type rs e);
+        one-long-stays = λ l q e. s .answers-stay l q (one-type _ e);
         none-live-stays = λ l q e. s .answers-stay l q (λ a m k. absurd (no-live _ a e m k));
         story-was = was .story-was;
         story-is = is .story-is;

@@ -13,6 +13,7 @@
 --     Pass l s k, AllPass l s   the first k records of a section pass, all do
 --     LongestAt s k p     a walk over the longest image reaches the place p past k records of a section
 --     outsideBehind n     n line feeds and one more, and a row outside the form
+--     oneLong a           the source of a rule is one basic type
 --     SameRule l q r      a query is answered Permitted by the rule r, or UnKnown by it and a constraint
 --     separated, shared   the sample with document 01's rule that breaks the separation, and the query that it is asked of
 --     ReadingMet, AddingMet, DecidingMet, OrderingMet, RunningMet, NearingMet, BuildingMet, ReachingMet, SeparatingMet, PrintingMet,
@@ -29,7 +30,7 @@ use lib.Dec.{eqb}
 use Rattle.format.specs.declared.Section.{Section}
 use Rattle.format.specs.declared.Section.the-variants.{Groups, Rules, Constraints}
 use Rattle.format.specs.declared.Refusal.{Refusal}
-use Rattle.format.specs.Bytes.{Bytes}
+use Rattle.format.specs.Bytes.{Bytes, wordAt}
 use Rattle.format.specs.Refusals.{refusal}
 use Rattle.format.specs.Format.{limitOf, countOf}
 use Rattle.format.specs.Policy.{Policy, recordsOf, imageOf, policyOf, startOf, placeOf, endOf}
@@ -52,7 +53,7 @@ use Rattle.decision.specs.declared.Nearest.{Nearest}
 use Rattle.decision.specs.declared.Nearest.the-variants.{NoRules, Near}
 use Rattle.decision.specs.declared.Answer.{Answer}
 use Rattle.decision.specs.declared.Answer.the-variants as answers
-use Rattle.decision.specs.Sets.{anyOf, isIn, setOf, within, touches}
+use Rattle.decision.specs.Sets.{anyOf, allOf, isIn, setOf, within, touches}
 use Rattle.decision.specs.Reading.{Rule, Constraint, Request, asks, live, constraintOf, requestOf, rulesOf}
 use Rattle.decision.specs.Decide.{covers, steps, separationBroken, broken, firstAt, judge, decide, answer, answerOutcome}
 use Rattle.decision.specs.Decide.{Decision, notPermitted, permitted, unknown}
@@ -600,6 +601,9 @@ separated = sampleAnd (allow 10 30 5 3)
 abbrev pub shared : Query
 shared = query 20 30 5 2
 
+abbrev pub oneLong : Rule → Bool
+oneLong a = eqb (length (a .source)) 1
+
 abbrev pub SameRule : List ℕ → Query → ℕ → Type 0
 SameRule l q r = (answer l q ≡ gives (permitted r)) ⊎ ((c : ℕ) × (answer l q ≡ gives (unknown r c)))
 
@@ -619,7 +623,17 @@ pub record SeparatingMet : Type 0 where
   pub story-first : From (rulesOf (policyOf story)) (20 ∷ []) 20
   pub story-second : From (rulesOf (policyOf story)) (30 ∷ []) 20
   pub story-broken : (c : Constraint) → c .first ≡ 20 ∷ [] → c .second ≡ 30 ∷ [] → separationBroken (rulesOf (policyOf story)) c ≡ true
-  -- SeparationRead: the story's records, and the sample's own separation; no record with predicate byte 1 fails where no rule is on
+  -- SeparationRead: any two records of rules, and no others; the story's, and the sample's own separation; no rule that is on
+  pub two-records :
+      (p : Policy) (r : List ℕ) (x y z : ℕ) (a b : List ℕ) → getD r 10 0 ≡ 1 → List·Memᴰ a (p .rules) → List·Memᴰ b (p .rules)
+      → getD a 1 0 ≡ 2 → getD a 10 0 ≡ 1 → getD b 1 0 ≡ 2 → getD b 10 0 ≡ 1
+      → isIn y (setOf (p .groups) (wordAt a 4)) ≡ true → isIn y (setOf (p .groups) (wordAt r 6)) ≡ true
+      → isIn z (setOf (p .groups) (wordAt b 4)) ≡ true → isIn z (setOf (p .groups) (wordAt r 8)) ≡ true
+      → isIn x (setOf (p .groups) (wordAt a 2)) ≡ true → isIn x (setOf (p .groups) (wordAt b 2)) ≡ true
+      → broken (rulesOf p) (constraintOf p r) ≡ true
+  pub none-in-records :
+      (p : Policy) (r : List ℕ) → getD r 10 0 ≡ 1 → ((x : ℕ) → FromRecord p (wordAt r 6) x → FromRecord p (wordAt r 8) x → ⊥)
+      → broken (rulesOf p) (constraintOf p r) ≡ false
   pub story-from-record : FromRecord (policyOf story) 20 20 × FromRecord (policyOf story) 30 20
   pub story-read : broken (rulesOf (policyOf story)) (constraintOf (policyOf story) (getD (policyOf sample .constraints) 1 [])) ≡ true
   pub none-on :
@@ -637,6 +651,8 @@ pub record SeparatingMet : Type 0 where
   pub sample-separations : (c : Constraint) → separationBroken (rulesOf (policyOf sample)) c ≡ separationWas (rulesOf (policyOf sample)) c
   pub sample-stays : (q : Query) → answer sample q ≡ answerWas sample q
   pub separated-stays : answerWas separated shared ≡ gives (unknown 1 1)
+  pub one-long-separations : (rs : List Rule) (c : Constraint) → allOf oneLong rs ≡ true → separationBroken rs c ≡ separationWas rs c
+  pub one-long-stays : (l : List ℕ) (q : Query) → allOf oneLong (rulesOf (policyOf l)) ≡ true → answer l q ≡ answerWas l q
   pub none-live-stays : (l : List ℕ) (q : Query) → anyOf live (rulesOf (policyOf l)) ≡ false → answer l q ≡ answerWas l q
   -- and not every policy: the story was Permitted
   pub story-was : answerWas story shared ≡ gives (permitted 1)
