@@ -202,14 +202,14 @@ module _ (g : ℕ) (r : List ℕ) where
         kind = k;
         source = type-is g _ (need-true _ _ (a .0));
         dest = type-is g _ (need-true _ _ (b .0));
-        condition = leb-true (getD r 10 0) 1 (need-true _ _ (b .1));
+        condition = leb-true (getD r 10 0) 33 (need-true _ _ (b .1));
       }
 
   is-allow : IsAllow g r → badAllow g r ≡ none
   unfolding badAllow isCondition
   is-allow f =
       orElse-none (need-none _ (is-type g _ (f .source)))
-      (orElse-none (need-none _ (is-type g _ (f .dest))) (need-none _ (le-leb (getD r 10 0) 1 (f .condition))))
+      (orElse-none (need-none _ (is-type g _ (f .dest))) (need-none _ (le-leb (getD r 10 0) 33 (f .condition))))
 
   transition-is : badTransition g r ≡ none → getD r 0 0 ≡ length r → getD r 1 0 ≡ 3 → length r ≡ 8 → IsTransition g r
   unfolding badTransition

@@ -46,7 +46,7 @@ pub record IsAllow (g : ℕ) (r : List ℕ) : Type 0 where
   pub kind : getD r 1 0 ≡ 2
   pub source : IsType g (wordAt r 2)
   pub dest : IsType g (wordAt r 4)
-  pub condition : getD r 10 0 ≤ 1
+  pub condition : getD r 10 0 ≤ 33
 
 -- kind 3
 pub record IsTransition (g : ℕ) (r : List ℕ) : Type 0 where

@@ -63,9 +63,9 @@ lengthOk k n =
 unfoldable pub isType : ℕ → ℕ → Bool
 isType g t = ltb t 1024 || (leb 32768 t && ltb (t - 32768) g)
 
--- 0 off, 1 on
+-- 0 off, 1 on, and 2 to 33 the switches 0 to 31 (request [6])
 unfoldable pub isCondition : ℕ → Bool
-isCondition b = leb b 1
+isCondition b = leb b 33
 
 -- 1 to 16 types for predicate 2, none for 0, 1 and 3; that there are at most 16 is the record's length
 unfoldable pub listOk : ℕ → ℕ → Bool

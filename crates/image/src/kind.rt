@@ -14,11 +14,12 @@ pub fn is_type(groups: usize, field: usize) -> bool
     }
 }
 
+// Off, on, or one of 32 switches.
 pub(crate) fn is_condition(byte: u8) -> bool
     ensures { λ r. ⌜ r ≡ isCondition byte ⌝ }
 {
     match byte {
-        0..=1 => true,
+        0..=33 => true,
         _ => false,
     }
 }
