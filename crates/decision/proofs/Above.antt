@@ -1,26 +1,26 @@
 -- The order rule over rules, constraints and queries as they are read, whatever their records. Assumes nothing.
 --     height-denied, height-permitted, height-unknown, height-most   the height of a decision
 --     judge-says        what a decision says is told by whether some rule covers and some constraint fails
---     Above             the order rule's terms
+--     Above             the order rule's terms: of the rules, those that are on
 --     judge-order       the order rule
 use Prim.Native.Nat.{ℕ, _≤_, _<_}
 use native.Mathlib.Omega.{arith}
 use mathlib.Core.Path.{_≡_, refl, ap}
 use mathlib.Core.Logic.{_⊎_, ⊎-elim}
-use mathlib.Core.Bool.{Bool, true, false, cond}
+use mathlib.Core.Bool.{Bool, true, false, _&&_, cond}
 use mathlib.Core.Option.{Option, none, some}
 use mathlib.Core.List.{List, List·Memᴰ}
 use lib.Dec.{eqb}
 use borrow.Author.Tests.{eqb-false}
-use Rattle.format.proofs.Tests.{false-not-true}
+use Rattle.format.proofs.Tests.{both, false-not-true}
 use Rattle.decision.specs.declared.Nearest.{Nearest}
 use Rattle.decision.specs.Sets.{anyOf, allOf, within}
 use Rattle.decision.specs.Reading.{Rule, Constraint, Request, asks}
-use Rattle.decision.specs.Decide.{tests, covers, separationBroken, rosterBroken, companionBroken, broken, applies, inside, fails, firstAt, nearest, Decision, notPermitted, permitted, unknown, decisionOf, judge}
+use Rattle.decision.specs.Decide.{tests, covers, reaches, separationBroken, rosterBroken, companionBroken, broken, applies, inside, fails, firstAt, nearest, Decision, notPermitted, permitted, unknown, decisionOf, judge}
 use Rattle.decision.specs.Order.{height}
 use Rattle.decision.proofs.Search.{isFound, firstAt-any}
-use Rattle.decision.proofs.Separation.{wider-all, separation-kept}
-use Rattle.decision.proofs.Implies.{_⟹_, id⟹, eq⟹, and⟹, not⟹, cond⟹, anyOf⟹, within⟹}
+use Rattle.decision.proofs.Separation.{reaches-both, live-on, wider-on, separation-kept}
+use Rattle.decision.proofs.Implies.{_⟹_, id⟹, eq⟹, and⟹, not⟹, cond⟹, anyOf-to⟹, anyOf⟹, within⟹}
 
 -- ---- the height of a decision
 
@@ -73,13 +73,17 @@ heightBy-le true true true true f g = omega arith
 -- ---- the terms, and the rule
 
 pub record Above (rs₁ : List Rule) (cs₁ : List Constraint) (a₁ : Request) (rs₂ : List Rule) (cs₂ : List Constraint) (a₂ : Request) : Type 0 where
-  pub rules : (r : Rule) → List·Memᴰ r rs₁ → List·Memᴰ r rs₂
+  pub rules : (r : Rule) → List·Memᴰ r rs₁ → r .on ≡ true → List·Memᴰ r rs₂
   pub constraints : (c : Constraint) → List·Memᴰ c cs₁ → List·Memᴰ c cs₂
   pub class : a₁ .class ≡ a₂ .class
   pub action : a₁ .action ≡ a₂ .action
   pub source : within (a₂ .source) (a₁ .source) ≡ true
   pub dest : within (a₂ .dest) (a₁ .dest) ≡ true
-  pub companions : ((c : Constraint) → List·Memᴰ c cs₁ → c .predicate < 3) ⊎ ((r : Rule) → List·Memᴰ r rs₂ → List·Memᴰ r rs₁)
+  pub companions : ((c : Constraint) → List·Memᴰ c cs₁ → c .predicate < 3) ⊎ ((r : Rule) → List·Memᴰ r rs₂ → r .on ≡ true → List·Memᴰ r rs₁)
+
+-- a rule that reaches a set is on
+reaching-on : (s : List ℕ) (a : Rule) (b : Bool) → reaches s a && b ≡ true → a .on ≡ true
+reaching-on s a b t = live-on a (reaches-both s a (both (reaches s a) b t .0) .0)
 
 not-small : (k : ℕ) → eqb k 0 ≡ false → eqb k 1 ≡ false → eqb k 2 ≡ false → k < 3 → ⊥
 not-small k x y z h =
@@ -101,21 +105,25 @@ module _ {rs₁ rs₂ : List Rule} {cs₁ cs₂ : List Constraint} {a₁ a₂ : 
       and⟹ {a = r .on} id⟹ (and⟹ (source⟹ _) (and⟹ (dest⟹ _)
       (and⟹ (eq⟹ (ap (asks (r .class)) (e .class))) (and⟹ (eq⟹ (ap (asks (r .action)) (e .action))) (id⟹ {a = true})))))
 
+  covers-on : (r : Rule) → covers a₁ r ≡ true → r .on ≡ true
+  unfolding covers tests allOf
+  covers-on r t = both (r .on) _ t .0
+
   applies⟹ : (c : Constraint) → applies a₁ c ⟹ applies a₂ c
   unfolding applies
   applies⟹ c = eq⟹ (rw (e .class, e .action))
 
   module _ (c : Constraint) where
     separation⟹ : separationBroken rs₁ c ⟹ separationBroken rs₂ c
-    separation⟹ = record { imp = separation-kept rs₁ rs₂ c (wider-all (e .rules)) }
+    separation⟹ = record { imp = separation-kept rs₁ rs₂ c (wider-on (e .rules)) }
 
     roster⟹ : rosterBroken rs₁ c ⟹ rosterBroken rs₂ c
     unfolding rosterBroken
-    roster⟹ = anyOf⟹ (λ a ma. (e .rules a ma, id⟹))
+    roster⟹ = anyOf-to⟹ (λ a ma t. (e .rules a ma (reaching-on (c .second) a _ t), t))
 
-    companion⟹ : ((r : Rule) → List·Memᴰ r rs₂ → List·Memᴰ r rs₁) → companionBroken rs₁ c ⟹ companionBroken rs₂ c
+    companion⟹ : ((r : Rule) → List·Memᴰ r rs₂ → r .on ≡ true → List·Memᴰ r rs₁) → companionBroken rs₁ c ⟹ companionBroken rs₂ c
     unfolding companionBroken
-    companion⟹ h = not⟹ (anyOf⟹ (λ a ma. (h a ma, id⟹)))
+    companion⟹ h = not⟹ (anyOf-to⟹ (λ a ma t. (h a ma (reaching-on (c .first) a _ t), t)))
 
     broken⟹ : List·Memᴰ c cs₁ → broken rs₁ c ⟹ broken rs₂ c
     unfolding broken
@@ -132,4 +140,4 @@ module _ {rs₁ rs₂ : List Rule} {cs₁ cs₂ : List Constraint} {a₁ a₂ : 
   pub judge-order : height (judge rs₁ cs₁ a₁) ≤ height (judge rs₂ cs₂ a₂)
   judge-order =
       rw (judge-height rs₁ cs₁ a₁, judge-height rs₂ cs₂ a₂)
-      (heightBy-le _ _ _ _ (anyOf⟹ (λ r m. (e .rules r m, covers⟹ r))) (anyOf⟹ (λ c m. (e .constraints c m, fails⟹ c m))))
+      (heightBy-le _ _ _ _ (anyOf-to⟹ (λ r m t. (e .rules r m (covers-on r t), covers⟹ r .imp t))) (anyOf⟹ (λ c m. (e .constraints c m, fails⟹ c m))))

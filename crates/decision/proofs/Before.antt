@@ -31,24 +31,24 @@ named (some k) none r e = (let z : r ≡ k = cc in ap some (sym z))
 named (some k) (some c) r e = (let z : _≡_ {A = ℕ} 0 1 = cc in absurd (omega arith))
 
 -- the lowest rule that covers is the lowest record that permits
-first-permits : (p : Policy) (q : Query) → firstAt (covers (requestOf p q)) 0 (rulesOf p) ≡ firstAt (permits p q) 0 (p .rules)
+first-permits : (p : Policy) (q : Query) → firstAt (covers (requestOf p q)) 0 (rulesOf p (q .switches)) ≡ firstAt (permits p q) 0 (p .rules)
 unfolding rulesOf
 first-permits p q =
-    firstAt-map (covers (requestOf p q)) (ruleOf p) 0 (p .rules)
-    ∙ firstAt-same (λ r. covers (requestOf p q) (ruleOf p r)) (permits p q) 0 (p .rules) (λ r. sym (permits-covers p q r))
+    firstAt-map (covers (requestOf p q)) (ruleOf p (q .switches)) 0 (p .rules)
+    ∙ firstAt-same (λ r. covers (requestOf p q) (ruleOf p (q .switches) r)) (permits p q) 0 (p .rules) (λ r. sym (permits-covers p q r))
 
 -- for the layers above: the rule that the decision of before names is the lowest record that permits
 pub before-permits : (l : List ℕ) (q : Query) (r : ℕ) → answerBefore l q ≡ gives (allowed r) → firstAt (permits (policyOf l) q) 0 (policyOf l .rules) ≡ some r
 unfolding answerBefore decideBefore
 before-permits l q r e =
     let p = policyOf l in
-    let d = outcome-gives (answerFault l q) (bareOf (firstAt (permits p q) 0 (p .rules)) (firstAt (fails (rulesOf p) (requestOf p q)) 0 (constraintsOf p))) (sym e) .1 in
-    named (firstAt (permits p q) 0 (p .rules)) (firstAt (fails (rulesOf p) (requestOf p q)) 0 (constraintsOf p)) r d
+    let d = outcome-gives (answerFault l q) (bareOf (firstAt (permits p q) 0 (p .rules)) (firstAt (fails (rulesOf p (q .switches)) (requestOf p q)) 0 (constraintsOf p))) (sym e) .1 in
+    named (firstAt (permits p q) 0 (p .rules)) (firstAt (fails (rulesOf p (q .switches)) (requestOf p q)) 0 (constraintsOf p)) r d
 
 pub decisions-stay : DecisionsStay
 unfolding answer answerBefore decide decideBefore judge
 decisions-stay l q =
     let p = policyOf l in
-    let c = firstAt (fails (rulesOf p) (requestOf p q)) 0 (constraintsOf p) in
-    bare-is (answerFault l q) (nearest (requestOf p q) (rulesOf p)) (firstAt (covers (requestOf p q)) 0 (rulesOf p)) c
+    let c = firstAt (fails (rulesOf p (q .switches)) (requestOf p q)) 0 (constraintsOf p) in
+    bare-is (answerFault l q) (nearest (requestOf p q) (rulesOf p (q .switches))) (firstAt (covers (requestOf p q)) 0 (rulesOf p (q .switches))) c
     ∙ ap (λ (r : Option ℕ). outcome (answerFault l q) (bareOf r c)) (first-permits p q)

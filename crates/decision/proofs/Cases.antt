@@ -1,12 +1,13 @@
 -- The tables of cases, by computation: claims MarkedCases, MarkedAdds, MarkedOrder, ClauseCases, RefusalCases, StepCases,
--- SharedCases, SharedWas. Assumes nothing.
+-- SharedCases, SharedWas, SwitchCases, OneSwitch. Assumes nothing.
 use Prim.Native.Nat.{ℕ, zero, suc, _<_}
 use native.Mathlib.Omega.{arith}
 use mathlib.Core.Path.{_≡_, refl, sym, ap, _∙_}
 use mathlib.Core.Logic.{inl, ⊎-elim}
 use mathlib.Core.List.{List, [], _∷_, flatten, map, List·Memᴰ·not-nil, List·Memᴰ·cases-cons, Memᴰ·append-left}
-use lib.ListN.{length, getD}
+use lib.ListN.{length, getD, set}
 use Rattle.format.specs.Bytes.{wordAt, words, putWord}
+use Rattle.format.proofs.Tests.{false-not-true}
 use Rattle.format.specs.Refusals.{refusal, need, _orElse_, unlessRefused}
 use Rattle.format.specs.Format.{knownVersion, limitOf, countPlace, countOf, kindIn, lengthOk, isType, isCondition, listOk, firstRecord, shapeOk, badMember, badType, badGroup, badAllow, badTransition, badConstraint, badField}
 use Rattle.format.specs.Policy.{bodyOf, imageOf, recordAt, placeAfter, recordsAt, startOf, placeOf, endOf, policyOf}
@@ -17,20 +18,23 @@ use Rattle.extension.specs.Add.{sectionOf, withRecord, fieldFault, newNumber, o
 use Rattle.decision.specs.declared.Query.{Query}
 use Rattle.decision.specs.declared.Nearest.the-variants.{NoRules, Near}
 use Rattle.decision.specs.Sets.{anyOf, allOf, isIn, setOf, unionOf, within, touches}
+use Rattle.decision.specs.Conditions.{switchOn, isOn}
 use Rattle.decision.specs.Reading.{asks, live, ruleOf, constraintOf, requestOf, rulesOf, constraintsOf}
-use Rattle.decision.specs.Decide.{tests, covers, passes, steps, nearestOf, greatest, nearestBy, nearest, reaches, separationBroken, rosterBroken, companionBroken, broken, applies, inside, fails, firstAt, Decision, notPermitted, permitted, unknown, decisionOf, judge, decide, queryFault, answerFault, answer}
+use Rattle.decision.specs.Decide.{tests, covers, passes, steps, nearestOf, greatest, nearestBy, nearest, reaches, separationBroken, rosterBroken, companionBroken, broken, applies, inside, fails, firstAt, Decision, notPermitted, permitted, unknown, decisionOf, judge, decide, queryFault, answerFault, answer, queryOf}
 use Rattle.decision.specs.Order.{NoCompanion}
-use Rattle.decision.specs.Cases.{withSpace, extended, g0, allow, companion, oneMember, banned, ask, cases, given, expectedOf, MarkedCases, MarkedAdds, MarkedOrder}
+use Rattle.decision.specs.Cases.{withSpace, extended, g0, allow, companion, oneMember, banned, ask, askOn, cases, given, expectedOf, MarkedCases, MarkedAdds, MarkedOrder}
 use Rattle.decision.specs.Clauses.{allowGroup, companionOfGroup, rosterOfGroup, backTransition, longRoster, clauseCases, ClauseCases, RefusalCases}
 use Rattle.decision.specs.Steps.{off, stepCases, StepCases}
 use Rattle.decision.specs.Separation.{sameSet, separationWas, brokenWas, failsWas, decideWas, answerWas, separation, separate, cross, story, elsewhere, separateGroup, ownTransition, pair, sharedCases, SharedCases, wasCases, givenWas, SharedWas}
 use Rattle.decision.specs.Growth.{reordered}
+use Rattle.decision.specs.Switches.{upTo, OneSwitch, allowIf, rinse, switchCases, SwitchCases}
+use Rattle.decision.proofs.Switches.{none-on}
 
 -- a predicate that is no companion
 other : (n : ℕ) → n ≡ 3 → n < 3 → ⊥
 other n e h = omega arith
 
-computed : MarkedCases × MarkedAdds × MarkedOrder × ClauseCases × RefusalCases × StepCases × SharedCases × SharedWas
+computed : MarkedCases × MarkedAdds × MarkedOrder × ClauseCases × RefusalCases × StepCases × SharedCases × SharedWas × SwitchCases
 unfolding
     flatten wordAt words putWord need _orElse_ unlessRefused
     knownVersion limitOf countPlace countOf kindIn lengthOk isType isCondition listOk firstRecord shapeOk badMember badType badGroup badAllow badTransition badConstraint badField
@@ -38,11 +42,11 @@ unfolding
     readFields readOf readFault sectionFault countFault headerFault bodyFault check imageIn checkFront
     sample empty sectionOf withRecord fieldFault newNumber ownFault addFault newImage overwrite bufferAfter
     anyOf allOf isIn setOf unionOf within touches
-    asks live ruleOf constraintOf requestOf rulesOf constraintsOf
+    switchOn isOn asks live ruleOf constraintOf requestOf rulesOf constraintsOf
     tests covers passes steps nearestOf greatest nearestBy nearest reaches separationBroken rosterBroken companionBroken broken applies inside fails firstAt decisionOf judge decide queryFault answerFault answer
     withSpace extended g0 allow companion oneMember banned allowGroup backTransition longRoster companionOfGroup rosterOfGroup ask cases clauseCases off stepCases separation separate cross story elsewhere separateGroup ownTransition pair sharedCases wasCases given expectedOf reordered
-    sameSet separationWas brokenWas failsWas decideWas answerWas givenWas
-computed = (refl, adds, order, refl, refusals, refl, refl, refl)
+    askOn allowIf rinse switchCases sameSet separationWas brokenWas failsWas decideWas answerWas givenWas
+computed = (refl, adds, order, refl, refusals, refl, refl, refl, refl)
   where
     adds : MarkedAdds
     adds = record { separated = refl; rostered = refl; companied = refl; helped = refl; numbered = refl; rules-stay = refl }
@@ -55,7 +59,9 @@ computed = (refl, adds, order, refl, refusals, refl, refl, refl)
           cut = refl;
           rules-1025 = refl;
           cut-said = refl;
-          condition-two = refl;
+          condition-33 = refl;
+          condition-34 = refl;
+          added-condition-34 = refl;
           more = refl;
           shape-first = refl;
           field = refl;
@@ -88,6 +94,7 @@ computed = (refl, adds, order, refl, refusals, refl, refl, refl)
             action = refl;
             source = refl;
             dest = refl;
+            switches = λ k h t. false-not-true (sym (none-on k) ∙ t);
             companions = inl no-companion;
           };
           no-companion = no-companion;
@@ -101,6 +108,7 @@ computed = (refl, adds, order, refl, refusals, refl, refl, refl)
             action = refl;
             source = refl;
             dest = refl;
+            switches = λ k h t. t;
             companions = inl no-companion;
           };
           ban-no-companion = ban-no-companion;
@@ -130,9 +138,16 @@ shared-cases = computed .6
 pub shared-was : SharedWas
 shared-was = computed .7
 
+pub switch-cases : SwitchCases
+switch-cases = computed .8
+
+pub one-switch : OneSwitch
+unfolding switchOn isOn upTo
+one-switch = record { one-on = refl; one-off = refl }
+
 -- some of the table's answers, each by itself
 abbrev asked : ℕ → ℕ → ℕ → ℕ → Query
-asked s d c a = record { source = s; dest = d; class = c; action = a }
+asked s d c a = queryOf s d c a 0
 
 pub record Answers : Type 0 where
   pub member : answer sample (asked 10 21 5 1) ≡ gives (permitted 0)
@@ -146,7 +161,7 @@ pub record Answers : Type 0 where
   pub no-group-1 : answer sample (asked 32769 21 5 1) ≡ refused (refusal 8 0)
 
 pub marked-answers : MarkedCases → Answers
-unfolding cases given expectedOf ask
+unfolding cases given expectedOf ask askOn
 marked-answers e = record { member = row 0; group = row 1; off = row 2; no-rules = row 10; transition = row 3; rostered = row 6; companied = row 8; no-source = row 11; no-group-1 = row 12 }
   where
     row : (n : ℕ) → getD (map given cases) n (gives (notPermitted NoRules)) ≡ getD (map expectedOf cases) n (gives (notPermitted NoRules))
@@ -168,7 +183,7 @@ pub record StepAnswers : Type 0 where
   pub last-rule : answer (extended sample (allow 14 21 5 7)) (asked 14 21 5 8) ≡ gives (notPermitted (Near 4 4))
 
 pub step-answers : StepCases → StepAnswers
-unfolding stepCases given expectedOf ask
+unfolding stepCases given expectedOf ask askOn
 step-answers e = record { all-off = row 7; lowest = row 14; last-rule = row 17 }
   where
     row : (n : ℕ) → getD (map given stepCases) n (gives (notPermitted NoRules)) ≡ getD (map expectedOf stepCases) n (gives (notPermitted NoRules))

@@ -95,22 +95,22 @@ module _ (l : List ℕ) (q : Query) where
   a = requestOf p q
 
   abbrev Later : Type 0
-  Later = Moved (failsWas (rulesOf p) a) (fails (rulesOf p) a) (constraintOf p []) 0 (constraintsOf p)
+  Later = Moved (failsWas (rulesOf p (q .switches)) a) (fails (rulesOf p (q .switches)) a) (constraintOf p []) 0 (constraintsOf p)
 
   covered :
       answer l q ≡ gives (decide p q) → answerWas l q ≡ gives (decideWas p q) → Later
-      → (r : Option ℕ) → firstAt (covers a) 0 (rulesOf p) ≡ r → (answer l q ≡ answerWas l q) ⊎ Raised l q
+      → (r : Option ℕ) → firstAt (covers a) 0 (rulesOf p (q .switches)) ≡ r → (answer l q ≡ answerWas l q) ⊎ Raised l q
   unfolding decide decideWas judge decisionOf
-  covered g w k none h = inl (g ∙ ap gives (ap₂ (decisionOf (nearest a (rulesOf p))) h refl) ∙ sym (w ∙ ap gives (ap₂ (decisionOf (nearest a (rulesOf p))) h refl)))
+  covered g w k none h = inl (g ∙ ap gives (ap₂ (decisionOf (nearest a (rulesOf p (q .switches)))) h refl) ∙ sym (w ∙ ap gives (ap₂ (decisionOf (nearest a (rulesOf p (q .switches)))) h refl)))
   covered g w k (some r) h =
       inr (record {
         rule = r;
         constraint = k .number;
-        is = g ∙ ap gives (ap₂ (decisionOf (nearest a (rulesOf p))) h (k .found));
-        separates = ap (λ n. getD (getD (p .constraints) n []) 10 0) (omega (arith, k .is)) ∙ sym (predicate-at p (k .at)) ∙ separates (rulesOf p) a _ (k .before) (k .now);
+        is = g ∙ ap gives (ap₂ (decisionOf (nearest a (rulesOf p (q .switches)))) h (k .found));
+        separates = ap (λ n. getD (getD (p .constraints) n []) 10 0) (omega (arith, k .is)) ∙ sym (predicate-at p (k .at)) ∙ separates (rulesOf p (q .switches)) a _ (k .before) (k .now);
         was = ⊎-elim
-            (λ n. inl (w ∙ ap gives (ap₂ (decisionOf (nearest a (rulesOf p))) h n)))
-            (λ n. inr (n .0, n .1, w ∙ ap gives (ap₂ (decisionOf (nearest a (rulesOf p))) h (n .2))))
+            (λ n. inl (w ∙ ap gives (ap₂ (decisionOf (nearest a (rulesOf p (q .switches)))) h n)))
+            (λ n. inr (n .0, n .1, w ∙ ap gives (ap₂ (decisionOf (nearest a (rulesOf p (q .switches)))) h (n .2))))
             (k .other);
       })
 
@@ -120,11 +120,11 @@ module _ (l : List ℕ) (q : Query) where
   by-fault none e =
       let g : answer l q ≡ gives (decide p q) = ap (λ (o : Option Refusal). outcome o (decide p q)) e in
       let w : answerWas l q ≡ gives (decideWas p q) = ap (λ (o : Option Refusal). outcome o (decideWas p q)) e in
-      let s = sourced l (decided-only l q (decide p q) g .0) in
+      let s = sourced l (q .switches) (decided-only l q (decide p q) g .0) in
       ⊎-elim
-      (λ k. inl (ap (λ (c : Option ℕ). outcome (answerFault l q) (decisionOf (nearest a (rulesOf p)) (firstAt (covers a) 0 (rulesOf p)) c)) k))
-      (λ k. covered g w k (firstAt (covers a) 0 (rulesOf p)) refl)
-      (moved (failsWas (rulesOf p) a) (fails (rulesOf p) a) (constraintOf p []) 0 (constraintsOf p) (λ c m. fails⟹ (rulesOf p) a c s .imp))
+      (λ k. inl (ap (λ (c : Option ℕ). outcome (answerFault l q) (decisionOf (nearest a (rulesOf p (q .switches))) (firstAt (covers a) 0 (rulesOf p (q .switches))) c)) k))
+      (λ k. covered g w k (firstAt (covers a) 0 (rulesOf p (q .switches))) refl)
+      (moved (failsWas (rulesOf p (q .switches)) a) (fails (rulesOf p (q .switches)) a) (constraintOf p []) 0 (constraintsOf p) (λ c m. fails⟹ (rulesOf p (q .switches)) a c s .imp))
 
 pub answers-change : AnswersChange
 answers-change l q = by-fault l q (answerFault l q) refl

@@ -171,5 +171,5 @@ unfolding setOf within allOf
 one-within m gs s h e = simp (lt-ltb m 32768 (omega arith), e)
 
 pub member-order : MemberOrder
-member-order l q₁ q₂ d₁ d₂ e₁ e₂ c a s d hs hd =
-    query-order l q₁ q₂ d₁ d₂ e₁ e₂ c a (one-within (q₂ .source) _ _ s hs) (one-within (q₂ .dest) _ _ d hd)
+member-order l q₁ q₂ d₁ d₂ e₁ e₂ c a w s d hs hd =
+    query-order l q₁ q₂ d₁ d₂ e₁ e₂ c a w (one-within (q₂ .source) _ _ s hs) (one-within (q₂ .dest) _ _ d hd)

@@ -36,8 +36,12 @@ pub cond⟹ : (b : Bool) {x y x′ y′ : Bool} → (b ≡ true → x ⟹ x′) 
 cond⟹ true f g = f refl
 cond⟹ false f g = g refl
 
+-- each element that passes stands in the other list, and passes there
+pub anyOf-to⟹ : {A : Type 0} {f g : A → Bool} {xs ys : List A} → ((x : A) → List·Memᴰ x xs → f x ≡ true → List·Memᴰ x ys × (g x ≡ true)) → anyOf f xs ⟹ anyOf g ys
+anyOf-to⟹ {f} {g} {xs} h = record { imp = λ t. let r = anyOf-elim f xs t in let s = h (r .0) (r .1) (r .2) in anyOf-intro g (s .0) (s .1) }
+
 pub anyOf⟹ : {A : Type 0} {f g : A → Bool} {xs ys : List A} → ((x : A) → List·Memᴰ x xs → List·Memᴰ x ys × (f x ⟹ g x)) → anyOf f xs ⟹ anyOf g ys
-anyOf⟹ {f} {g} {xs} h = record { imp = λ t. let r = anyOf-elim f xs t in let s = h (r .0) (r .1) in anyOf-intro g (s .0) (s .1 .imp (r .2)) }
+anyOf⟹ h = anyOf-to⟹ (λ x m t. let s = h x m in (s .0, s .1 .imp t))
 
 -- ---- sets
 

@@ -2,10 +2,10 @@
 --     set-kept            a type's set
 --     Typed p             the records of a policy are well formed; `accepted-typed`: an accepted image's are
 --     rule-kept, constraint-kept    a record that reads the same
-use Prim.Native.Nat.{ℕ, suc, _-_, _<_}
+use Prim.Native.Nat.{ℕ, suc, _-_, _<_, _≤_}
 use native.Mathlib.Omega.{arith}
 use mathlib.Core.Path.{_≡_, refl, sym, subst, ap, ap₂}
-use mathlib.Core.Logic.{inl, inr, ⊎-elim}
+use mathlib.Core.Logic.{_⊎_, inl, inr, ⊎-elim}
 use mathlib.Core.List.{List, [], _∷_, _++_, List·Memᴰ}
 use lib.ListN.{length, getD, drop, length-drop}
 use borrow.Author.Tests.{lt-ltb, le-ltb}
@@ -14,7 +14,7 @@ use Rattle.format.specs.declared.Section.the-variants.{Rules, Constraints}
 use Rattle.format.specs.Bytes.{wordAt, words}
 use Rattle.format.specs.Policy.{Policy, recordsOf, policyOf}
 use Rattle.format.specs.Check.{Accepted}
-use Rattle.format.specs.Claims.{IsType, IsConstraint, IsRecord}
+use Rattle.format.specs.Claims.{IsType, IsAllow, IsTransition, IsConstraint, IsRecord}
 use Rattle.format.proofs.Bytes.{length-words, words-nth}
 use Rattle.format.proofs.Shapes.{Formed}
 use Rattle.format.proofs.ByCase.{records-of-rules, records-of-constraints}
@@ -43,18 +43,24 @@ module _ (gs₁ gs₂ : List (List ℕ)) (k : Keeps gs₁ gs₂) where
 
 pub record Typed (p : Policy) : Type 0 where
   pub rules : (r : List ℕ) → List·Memᴰ r (p .rules) → IsType (length (p .groups)) (wordAt r 2) × IsType (length (p .groups)) (wordAt r 4)
+  pub conditions : (r : List ℕ) → List·Memᴰ r (p .rules) → getD r 1 0 ≡ 2 → getD r 10 0 ≤ 33
+  pub transitions : (r : List ℕ) → List·Memᴰ r (p .rules) → getD r 1 0 ≡ 3 → length r ≡ 8
   pub constraints : (c : List ℕ) → List·Memᴰ c (p .constraints) → (n : ℕ) × IsConstraint (length (p .groups)) c n
 
 pub accepted-typed : (l : List ℕ) → Accepted l → Typed (policyOf l)
 accepted-typed l e =
     record {
-      rules = λ r m.
-          ⊎-elim (λ f. (f .source, f .dest)) (λ f. (f .source, f .dest)) (record-rule _ r (typed Rules r (rw (records-of-rules (policyOf l)) m)));
+      rules = λ r m. ⊎-elim (λ f. (f .source, f .dest)) (λ f. (f .source, f .dest)) (rule r m);
+      conditions = λ r m k. ⊎-elim (λ f. f .condition) (λ f. absurd (omega (arith, k, f .kind))) (rule r m);
+      transitions = λ r m k. ⊎-elim (λ f. absurd (omega (arith, k, f .kind))) (λ f. f .size .1) (rule r m);
       constraints = λ c m. record-constraint _ c (typed Constraints c (rw (records-of-constraints (policyOf l)) m));
     }
   where
     typed : (s : Section) (r : List ℕ) → List·Memᴰ r (recordsOf (policyOf l) s) → IsRecord s (length (policyOf l .groups)) r
     typed s r m = formed-is _ r s (subst (λ (g : ℕ). Formed s g r) (sym (group-count l)) (policy-formed l e s r m))
+
+    rule : (r : List ℕ) → List·Memᴰ r (policyOf l .rules) → IsAllow (length (policyOf l .groups)) r ⊎ IsTransition (length (policyOf l .groups)) r
+    rule r m = record-rule _ r (typed Rules r (rw (records-of-rules (policyOf l)) m))
 
 list-types : (g : ℕ) (r : List ℕ) (n : ℕ) → IsConstraint g r n → (i : ℕ) → i < length (words (drop 11 r)) → IsType g (getD (words (drop 11 r)) i 0)
 list-types g r n f i h =
@@ -67,9 +73,9 @@ module _ (p₁ p₂ : Policy) (typed : Typed p₁) (k : Keeps (p₁ .groups) (p�
   kept : (t : ℕ) → IsType (length (p₁ .groups)) t → setOf (p₁ .groups) t ≡ setOf (p₂ .groups) t
   kept = set-kept (p₁ .groups) (p₂ .groups) k
 
-  pub rule-kept : (r : List ℕ) → List·Memᴰ r (p₁ .rules) → ruleOf p₁ r ≡ ruleOf p₂ r
+  pub rule-kept : (w : ℕ) (r : List ℕ) → List·Memᴰ r (p₁ .rules) → ruleOf p₁ w r ≡ ruleOf p₂ w r
   unfolding ruleOf
-  rule-kept r m = let t = typed .rules r m in rw (kept (wordAt r 2) (t .0), kept (wordAt r 4) (t .1))
+  rule-kept w r m = let t = typed .rules r m in rw (kept (wordAt r 2) (t .0), kept (wordAt r 4) (t .1))
 
   pub constraint-kept : (c : List ℕ) → List·Memᴰ c (p₁ .constraints) → constraintOf p₁ c ≡ constraintOf p₂ c
   unfolding constraintOf

@@ -14,6 +14,8 @@ pub mod Tepla
 pub mod Before
 pub mod Was
 pub mod Changes
+pub mod Settled
+pub mod Switches
 pub mod Answers
 pub mod Cases
 pub mod Numbers

@@ -21,25 +21,25 @@ module _ (l b : List ℕ) where
   from-length : (k at : ℕ) → length (numbersFrom l b k at) ≡ k
   unfolding numbersFrom
   from-length zero at = refl
-  from-length (suc k) at = ap suc (from-length k (at + 8))
+  from-length (suc k) at = ap suc (from-length k (at + 12))
 
-  pub numbers-length : length (numbers l b) ≡ length b / 8
+  pub numbers-length : length (numbers l b) ≡ length b / 12
   unfolding numbers
-  numbers-length = from-length (length b / 8) 0
+  numbers-length = from-length (length b / 12) 0
 
-  from-at : (n at k : ℕ) → k < n → getD (numbersFrom l b n at) k 0 ≡ decisionCode (answer l (queryAt b (at + 8 * k)))
+  from-at : (n at k : ℕ) → k < n → getD (numbersFrom l b n at) k 0 ≡ decisionCode (answer l (queryAt b (at + 12 * k)))
   unfolding numbersFrom
   from-at zero at k h = absurd (omega arith)
-  from-at (suc n) at zero h = let e : at ≡ at + 8 * 0 = omega arith in ap (λ x. decisionCode (answer l (queryAt b x))) e
+  from-at (suc n) at zero h = let e : at ≡ at + 12 * 0 = omega arith in ap (λ x. decisionCode (answer l (queryAt b x))) e
   from-at (suc n) at (suc k) h =
-      let e : at + 8 + 8 * k ≡ at + 8 * suc k = omega arith in
-      from-at n (at + 8) k (omega arith) ∙ ap (λ x. decisionCode (answer l (queryAt b x))) e
+      let e : at + 12 + 12 * k ≡ at + 12 * suc k = omega arith in
+      from-at n (at + 12) k (omega arith) ∙ ap (λ x. decisionCode (answer l (queryAt b x))) e
 
-  pub numbers-at : (k : ℕ) → k < length b / 8 → getD (numbers l b) k 0 ≡ decisionCode (answer l (queryAt b (8 * k)))
+  pub numbers-at : (k : ℕ) → k < length b / 12 → getD (numbers l b) k 0 ≡ decisionCode (answer l (queryAt b (12 * k)))
   unfolding numbers
   numbers-at k h =
-      let e : 0 + 8 * k ≡ 8 * k = omega arith in
-      from-at (length b / 8) 0 k h ∙ ap (λ x. decisionCode (answer l (queryAt b x))) e
+      let e : 0 + 12 * k ≡ 12 * k = omega arith in
+      from-at (length b / 12) 0 k h ∙ ap (λ x. decisionCode (answer l (queryAt b x))) e
 
 module _ (l b slots : List ℕ) where
   front-length : length (take (rowsIn b (length slots)) (numbers l b)) ≡ rowsIn b (length slots)
@@ -74,15 +74,18 @@ rows-answered l b slots k h =
 pub slots-stay : SlotsStay
 slots-stay l b slots = (slots-many l b slots, slot-stays l b slots)
 
--- the query of a row, from its 8 bytes
-query-row : (b : List ℕ) (k : ℕ) → queryAt b (8 * k) ≡ queryAt (rowAt b k) 0
+-- the query of a row, from its 12 bytes
+query-row : (b : List ℕ) (k : ℕ) → queryAt b (12 * k) ≡ queryAt (rowAt b k) 0
 query-row b k =
-    let word : (i : ℕ) → i + 1 < 8 → wordAt b (8 * k + i) ≡ wordAt (rowAt b k) i = λ i h. sym (word-take 8 (drop (8 * k) b) i h ∙ word-drop (8 * k) b i) in
-    let start : 8 * k ≡ 8 * k + 0 = omega arith in
-    let source : wordAt b (8 * k) ≡ wordAt (rowAt b k) 0 = ap (wordAt b) start ∙ word 0 (omega arith) in
+    let word : (i : ℕ) → i + 1 < 12 → wordAt b (12 * k + i) ≡ wordAt (rowAt b k) i = λ i h. sym (word-take 12 (drop (12 * k) b) i h ∙ word-drop (12 * k) b i) in
+    let start : 12 * k ≡ 12 * k + 0 = omega arith in
+    let source : wordAt b (12 * k) ≡ wordAt (rowAt b k) 0 = ap (wordAt b) start ∙ word 0 (omega arith) in
     let dest = word 2 (omega arith) in
     let class = word 4 (omega arith) in
     let action = word 6 (omega arith) in
+    let high = word 8 (omega arith) in
+    let past : 12 * k + 8 + 2 ≡ 12 * k + 10 = omega arith in
+    let low : wordAt b (12 * k + 8 + 2) ≡ wordAt (rowAt b k) 10 = ap (wordAt b) past ∙ word 10 (omega arith) in
     cc
 
 pub row-alone : RowAlone

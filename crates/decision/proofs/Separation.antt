@@ -1,6 +1,7 @@
 -- What a separation means, and that more live rules keep it broken. Claims SeparationMeans, SeparationKept. Assumes nothing.
 --     reaches-both    what a rule that reaches a set is
---     wider-all       the rules of a list that holds all of another's are wider
+--     live-on         a live rule is on
+--     wider-on        the rules of a list that holds all of another's that are on are wider
 use Prim.Native.Nat.{ℕ}
 use mathlib.Core.Path.{_≡_}
 use mathlib.Core.Bool.{true}
@@ -59,5 +60,9 @@ separation-kept rs₁ rs₂ c w t =
     let x = means-only rs₁ c t in
     means-all rs₂ c (x .0) (from-wider rs₁ rs₂ (c .first) (x .0) w (x .1)) (from-wider rs₁ rs₂ (c .second) (x .0) w (x .2))
 
-pub wider-all : {rs₁ rs₂ : List Rule} → ((a : Rule) → List·Memᴰ a rs₁ → List·Memᴰ a rs₂) → Wider rs₁ rs₂
-wider-all h a m l = (a, h a m, l, within-refl (a .source), within-refl (a .dest))
+pub live-on : (a : Rule) → live a ≡ true → a .on ≡ true
+unfolding live
+live-on a t = both (a .allow) (a .on) t .1
+
+pub wider-on : {rs₁ rs₂ : List Rule} → ((a : Rule) → List·Memᴰ a rs₁ → a .on ≡ true → List·Memᴰ a rs₂) → Wider rs₁ rs₂
+wider-on h a m l = (a, h a m (live-on a l), l, within-refl (a .source), within-refl (a .dest))

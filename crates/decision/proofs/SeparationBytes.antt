@@ -11,52 +11,53 @@ use Rattle.format.specs.Bytes.{wordAt}
 use Rattle.format.specs.Policy.{Policy}
 use Rattle.format.proofs.Tests.{both}
 use Rattle.decision.specs.Sets.{isIn, setOf}
+use Rattle.decision.specs.Conditions.{isOn}
 use Rattle.decision.specs.Reading.{Rule, live, ruleOf, constraintOf, rulesOf}
 use Rattle.decision.specs.Decide.{separationBroken, broken}
 use Rattle.decision.specs.Separation.{From, FromRecord, SeparationRead}
 use Rattle.decision.proofs.Implies.{touches-elim, touches-intro}
 use Rattle.decision.proofs.Separation.{separation-means}
 
-live-bytes : (p : Policy) (r : List ℕ) → live (ruleOf p r) ≡ eqb (getD r 1 0) 2 && cond (eqb (getD r 1 0) 3) true (eqb (getD r 1 0) 2 && eqb (getD r 10 0) 1)
+live-bytes : (p : Policy) (w : ℕ) (r : List ℕ) → live (ruleOf p w r) ≡ eqb (getD r 1 0) 2 && cond (eqb (getD r 1 0) 3) true (eqb (getD r 1 0) 2 && isOn w (getD r 10 0))
 unfolding live ruleOf
-live-bytes p r = refl
+live-bytes p w r = refl
 
-dest-bytes : (p : Policy) (r : List ℕ) → ruleOf p r .dest ≡ setOf (p .groups) (wordAt r 4)
+dest-bytes : (p : Policy) (w : ℕ) (r : List ℕ) → ruleOf p w r .dest ≡ setOf (p .groups) (wordAt r 4)
 unfolding ruleOf
-dest-bytes p r = refl
+dest-bytes p w r = refl
 
-source-bytes : (p : Policy) (r : List ℕ) → ruleOf p r .source ≡ setOf (p .groups) (wordAt r 2)
+source-bytes : (p : Policy) (w : ℕ) (r : List ℕ) → ruleOf p w r .source ≡ setOf (p .groups) (wordAt r 2)
 unfolding ruleOf
-source-bytes p r = refl
+source-bytes p w r = refl
 
-is-live : (p : Policy) (r : List ℕ) → getD r 1 0 ≡ 2 → getD r 10 0 ≡ 1 → live (ruleOf p r) ≡ true
-is-live p r k o = live-bytes p r ∙ simp (k, o)
+is-live : (p : Policy) (w : ℕ) (r : List ℕ) → getD r 1 0 ≡ 2 → isOn w (getD r 10 0) ≡ true → live (ruleOf p w r) ≡ true
+is-live p w r k o = live-bytes p w r ∙ simp (k, o)
 
-live-kind : (p : Policy) (r : List ℕ) → live (ruleOf p r) ≡ true → (getD r 1 0 ≡ 2) × (getD r 10 0 ≡ 1)
-live-kind p r t =
-    let u = both (eqb (getD r 1 0) 2) _ (sym (live-bytes p r) ∙ t) in
+live-kind : (p : Policy) (w : ℕ) (r : List ℕ) → live (ruleOf p w r) ≡ true → (getD r 1 0 ≡ 2) × (isOn w (getD r 10 0) ≡ true)
+live-kind p w r t =
+    let u = both (eqb (getD r 1 0) 2) _ (sym (live-bytes p w r) ∙ t) in
     let k = eqb-true (getD r 1 0) 2 (u .0) in
     let n : eqb (getD r 1 0) 3 ≡ false = ne-eqb (getD r 1 0) 3 (λ h. absurd (omega (arith, h, k))) in
-    let v : eqb (getD r 1 0) 2 && eqb (getD r 10 0) 1 ≡ true = subst (λ (b : Bool). cond b true (eqb (getD r 1 0) 2 && eqb (getD r 10 0) 1) ≡ true) n (u .1) in
-    (k, eqb-true (getD r 10 0) 1 (both (eqb (getD r 1 0) 2) (eqb (getD r 10 0) 1) v .1))
+    let v : eqb (getD r 1 0) 2 && isOn w (getD r 10 0) ≡ true = subst (λ (b : Bool). cond b true (eqb (getD r 1 0) 2 && isOn w (getD r 10 0)) ≡ true) n (u .1) in
+    (k, both (eqb (getD r 1 0) 2) (isOn w (getD r 10 0)) v .1)
 
-to-from : (p : Policy) (t x : ℕ) → FromRecord p t x → From (rulesOf p) (setOf (p .groups) t) x
+to-from : (p : Policy) (w t x : ℕ) → FromRecord p w t x → From (rulesOf p w) (setOf (p .groups) t) x
 unfolding rulesOf
-to-from p t x f =
+to-from p w t x f =
     record {
-      rule = ruleOf p (f .bytes);
-      one = Memᴰ·map (ruleOf p) (f .one);
-      is-live = is-live p (f .bytes) (f .kind) (f .on);
-      touching = touches-intro (ruleOf p (f .bytes) .dest) (setOf (p .groups) t) (f .y) (ap (isIn (f .y)) (dest-bytes p (f .bytes)) ∙ f .there) (f .argued);
-      has = ap (isIn x) (source-bytes p (f .bytes)) ∙ f .has;
+      rule = ruleOf p w (f .bytes);
+      one = Memᴰ·map (ruleOf p w) (f .one);
+      is-live = is-live p w (f .bytes) (f .kind) (f .on);
+      touching = touches-intro (ruleOf p w (f .bytes) .dest) (setOf (p .groups) t) (f .y) (ap (isIn (f .y)) (dest-bytes p w (f .bytes)) ∙ f .there) (f .argued);
+      has = ap (isIn x) (source-bytes p w (f .bytes)) ∙ f .has;
     }
 
-from-to : (p : Policy) (t x : ℕ) → From (rulesOf p) (setOf (p .groups) t) x → FromRecord p t x
+from-to : (p : Policy) (w t x : ℕ) → From (rulesOf p w) (setOf (p .groups) t) x → FromRecord p w t x
 unfolding rulesOf
-from-to p t x f =
-    let r = Memᴰ·of-map (ruleOf p) (p .rules) (f .one) in
+from-to p w t x f =
+    let r = Memᴰ·of-map (ruleOf p w) (p .rules) (f .one) in
     let e = r .2 in
-    let k = live-kind p (r .0) (ap live e ∙ f .is-live) in
+    let k = live-kind p w (r .0) (ap live e ∙ f .is-live) in
     let y = touches-elim (f .rule .dest) (setOf (p .groups) t) (f .touching) in
     record {
       bytes = r .0;
@@ -64,35 +65,35 @@ from-to p t x f =
       kind = k .0;
       on = k .1;
       y = y .0;
-      there = sym (ap (isIn (y .0)) (dest-bytes p (r .0))) ∙ ap (λ (z : Rule). isIn (y .0) (z .dest)) e ∙ y .1;
+      there = sym (ap (isIn (y .0)) (dest-bytes p w (r .0))) ∙ ap (λ (z : Rule). isIn (y .0) (z .dest)) e ∙ y .1;
       argued = y .2;
-      has = sym (ap (isIn x) (source-bytes p (r .0))) ∙ ap (λ (z : Rule). isIn x (z .source)) e ∙ f .has;
+      has = sym (ap (isIn x) (source-bytes p w (r .0))) ∙ ap (λ (z : Rule). isIn x (z .source)) e ∙ f .has;
     }
 
-broken-read : (p : Policy) (r : List ℕ) → getD r 10 0 ≡ 1 → broken (rulesOf p) (constraintOf p r) ≡ separationBroken (rulesOf p) (constraintOf p r)
+broken-read : (p : Policy) (w : ℕ) (r : List ℕ) → getD r 10 0 ≡ 1 → broken (rulesOf p w) (constraintOf p r) ≡ separationBroken (rulesOf p w) (constraintOf p r)
 unfolding broken constraintOf
-broken-read p r e = simp e
+broken-read p w r e = simp e
 
-first-bytes : (p : Policy) (r : List ℕ) → constraintOf p r .first ≡ setOf (p .groups) (wordAt r 6)
+first-bytes : (p : Policy) (w : ℕ) (r : List ℕ) → constraintOf p r .first ≡ setOf (p .groups) (wordAt r 6)
 unfolding constraintOf
-first-bytes p r = refl
+first-bytes p w r = refl
 
-second-bytes : (p : Policy) (r : List ℕ) → constraintOf p r .second ≡ setOf (p .groups) (wordAt r 8)
+second-bytes : (p : Policy) (w : ℕ) (r : List ℕ) → constraintOf p r .second ≡ setOf (p .groups) (wordAt r 8)
 unfolding constraintOf
-second-bytes p r = refl
+second-bytes p w r = refl
 
 pub separation-read : SeparationRead
 separation-read =
     record {
-      only = λ p r e t.
-          (let k = separation-means .only (rulesOf p) (constraintOf p r) (sym (broken-read p r e) ∙ t) in (
+      only = λ p w r e t.
+          (let k = separation-means .only (rulesOf p w) (constraintOf p r) (sym (broken-read p w r e) ∙ t) in (
             k .0,
-            from-to p (wordAt r 6) (k .0) (subst (λ (s : List ℕ). From (rulesOf p) s (k .0)) (first-bytes p r) (k .1)),
-            from-to p (wordAt r 8) (k .0) (subst (λ (s : List ℕ). From (rulesOf p) s (k .0)) (second-bytes p r) (k .2)),
+            from-to p w (wordAt r 6) (k .0) (subst (λ (s : List ℕ). From (rulesOf p w) s (k .0)) (first-bytes p w r) (k .1)),
+            from-to p w (wordAt r 8) (k .0) (subst (λ (s : List ℕ). From (rulesOf p w) s (k .0)) (second-bytes p w r) (k .2)),
           ));
-      all = λ p r x e f g.
-          broken-read p r e
-          ∙ separation-means .all (rulesOf p) (constraintOf p r) x
-          (subst (λ (s : List ℕ). From (rulesOf p) s x) (sym (first-bytes p r)) (to-from p (wordAt r 6) x f))
-          (subst (λ (s : List ℕ). From (rulesOf p) s x) (sym (second-bytes p r)) (to-from p (wordAt r 8) x g));
+      all = λ p w r x e f g.
+          broken-read p w r e
+          ∙ separation-means .all (rulesOf p w) (constraintOf p r) x
+          (subst (λ (s : List ℕ). From (rulesOf p w) s x) (sym (first-bytes p w r)) (to-from p w (wordAt r 6) x f))
+          (subst (λ (s : List ℕ). From (rulesOf p w) s x) (sym (second-bytes p w r)) (to-from p w (wordAt r 8) x g));
     }

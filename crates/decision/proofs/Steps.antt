@@ -63,16 +63,16 @@ pub steps-of-record : StepsOfRecord
 unfolding ruleOf requestOf asks
 steps-of-record =
     record {
-      on = λ p q r k c. steps-in-order (requestOf p q) (ruleOf p r) ∙ simp (k, c);
-      off = λ p q r k c. steps-in-order (requestOf p q) (ruleOf p r) ∙ simp (k, c);
-      transition = λ p q r k. steps-in-order (requestOf p q) (ruleOf p r) ∙ simp k;
+      on = λ p q r k c. steps-in-order (requestOf p q) (ruleOf p (q .switches) r) ∙ simp (k, c);
+      off = λ p q r k c. steps-in-order (requestOf p q) (ruleOf p (q .switches) r) ∙ simp (k, c);
+      transition = λ p q r k. steps-in-order (requestOf p q) (ruleOf p (q .switches) r) ∙ simp k;
     }
 
 -- ---- where no rule covers
 
 -- a transition asks for neither class nor action
-transition-few : (p : Policy) (q : Query) (r : List ℕ) → getD r 1 0 ≡ 3 → covers (requestOf p q) (ruleOf p r) ≡ false → (1 ≤ stepsOf p q r) × (stepsOf p q r ≤ 2)
-transition-few p q r k e = go (sourceIn p q r) (destIn p q r) (stepsOf p q r) (steps-of-record .transition p q r k) (uncovered-few (requestOf p q) (ruleOf p r) e)
+transition-few : (p : Policy) (q : Query) (r : List ℕ) → getD r 1 0 ≡ 3 → covers (requestOf p q) (ruleOf p (q .switches) r) ≡ false → (1 ≤ stepsOf p q r) × (stepsOf p q r ≤ 2)
+transition-few p q r k e = go (sourceIn p q r) (destIn p q r) (stepsOf p q r) (steps-of-record .transition p q r k) (uncovered-few (requestOf p q) (ruleOf p (q .switches) r) e)
   where
     go : (s d : Bool) (n : ℕ) → n ≡ cond s (cond d 5 2) 1 → n ≤ 4 → (1 ≤ n) × (n ≤ 2)
     go false d n is few = (omega arith, omega arith)
@@ -80,14 +80,14 @@ transition-few p q r k e = go (sourceIn p q r) (destIn p q r) (stepsOf p q r) (s
     go true true n is few = absurd (omega arith)
 
 module _ (l : List ℕ) (q : Query) (x : Nearest) (e : answer l q ≡ gives (notPermitted x)) where
-  uncovered : anyOf (λ r. covers (requestOf (policyOf l) q) (ruleOf (policyOf l) r)) (policyOf l .rules) ≡ false
+  uncovered : anyOf (λ r. covers (requestOf (policyOf l) q) (ruleOf (policyOf l) (q .switches) r)) (policyOf l .rules) ≡ false
   unfolding rulesOf
-  uncovered = sym (anyOf-map (covers (requestOf (policyOf l) q)) (ruleOf (policyOf l)) (policyOf l .rules)) ∙ lowest-answered l q (notPermitted x) e .0
+  uncovered = sym (anyOf-map (covers (requestOf (policyOf l) q)) (ruleOf (policyOf l) (q .switches)) (policyOf l .rules)) ∙ lowest-answered l q (notPermitted x) e .0
 
   pub few-steps : (r : List ℕ) → List·Memᴰ r (policyOf l .rules) → FewSteps (policyOf l) q r
   few-steps r m =
-      let u = anyOf-none (λ z. covers (requestOf (policyOf l) q) (ruleOf (policyOf l) z)) uncovered m in
-      record { few = uncovered-few (requestOf (policyOf l) q) (ruleOf (policyOf l) r) u; transition = λ k. transition-few (policyOf l) q r k u }
+      let u = anyOf-none (λ z. covers (requestOf (policyOf l) q) (ruleOf (policyOf l) (q .switches) z)) uncovered m in
+      record { few = uncovered-few (requestOf (policyOf l) q) (ruleOf (policyOf l) (q .switches) r) u; transition = λ k. transition-few (policyOf l) q r k u }
 
 pub denied-steps : DeniedSteps
 denied-steps = few-steps
@@ -95,7 +95,7 @@ denied-steps = few-steps
 -- ---- the rule that is named
 
 -- what the answer says of the rules as they are read
-most-steps : (l : List ℕ) (q : Query) (s n : ℕ) → answer l q ≡ gives (notPermitted (Near s n)) → Most (steps (requestOf (policyOf l) q)) (map (ruleOf (policyOf l)) (policyOf l .rules)) s n
+most-steps : (l : List ℕ) (q : Query) (s n : ℕ) → answer l q ≡ gives (notPermitted (Near s n)) → Most (steps (requestOf (policyOf l) q)) (map (ruleOf (policyOf l) (q .switches)) (policyOf l .rules)) s n
 unfolding rulesOf
 most-steps l q s n e = lowest-answered l q (notPermitted (Near s n)) e .1
 
@@ -103,24 +103,24 @@ pub nearest-passes : NearestPasses
 nearest-passes l q s n e =
     let p = policyOf l in
     let a = requestOf p q in
-    let low = most-lowest (steps a) (map (ruleOf p) (p .rules)) s n (most-steps l q s n e) in
-    let inside = lowest-inside (λ r. eqb (steps a r) s) (map (ruleOf p) (p .rules)) n low in
-    let at = lowest-at (λ r. eqb (steps a r) s) (map (ruleOf p) (p .rules)) n (ruleOf p []) low in
-    let here : n < length (p .rules) = omega (arith, inside, length-map (p .rules) (ruleOf p)) in
-    let is : stepsAt p q n ≡ s = sym (ap (steps a) (List·getD-map (ruleOf p) (p .rules) n [])) ∙ eqb-true _ s at in
+    let low = most-lowest (steps a) (map (ruleOf p (q .switches)) (p .rules)) s n (most-steps l q s n e) in
+    let inside = lowest-inside (λ r. eqb (steps a r) s) (map (ruleOf p (q .switches)) (p .rules)) n low in
+    let at = lowest-at (λ r. eqb (steps a r) s) (map (ruleOf p (q .switches)) (p .rules)) n (ruleOf p (q .switches) []) low in
+    let here : n < length (p .rules) = omega (arith, inside, length-map (p .rules) (ruleOf p (q .switches))) in
+    let is : stepsAt p q n ≡ s = sym (ap (steps a) (List·getD-map (ruleOf p (q .switches)) (p .rules) n [])) ∙ eqb-true _ s at in
     (here, is, omega (arith, is, few-steps l q (Near s n) e (getD (p .rules) n []) (member-at (p .rules) n [] here) .few))
 
 pub nearest-of-all : NearestOfAll
 nearest-of-all l q s n e k h =
     let p = policyOf l in
     let a = requestOf p q in
-    let rs = map (ruleOf p) (p .rules) in
+    let rs = map (ruleOf p (q .switches)) (p .rules) in
     let m = most-steps l q s n e in
-    let read : k < length rs = omega (arith, h, length-map (p .rules) (ruleOf p)) in
-    let is = ap (steps a) (List·getD-map (ruleOf p) (p .rules) k []) in
-    let no-more = ltb-false s (steps a (getD rs k (ruleOf p []))) (anyOf-none (λ r. ltb s (steps a r)) (m .most) (member-at rs k (ruleOf p []) read)) in (
+    let read : k < length rs = omega (arith, h, length-map (p .rules) (ruleOf p (q .switches))) in
+    let is = ap (steps a) (List·getD-map (ruleOf p (q .switches)) (p .rules) k []) in
+    let no-more = ltb-false s (steps a (getD rs k (ruleOf p (q .switches) []))) (anyOf-none (λ r. ltb s (steps a r)) (m .most) (member-at rs k (ruleOf p (q .switches) []) read)) in (
       omega (arith, is, no-more),
-      λ b. let fewer = leb-false s (steps a (getD rs k (ruleOf p []))) (none-at (λ r. leb s (steps a r)) rs n k (ruleOf p []) (m .before) b read) in omega (arith, is, fewer),
+      λ b. let fewer = leb-false s (steps a (getD rs k (ruleOf p (q .switches) []))) (none-at (λ r. leb s (steps a r)) rs n k (ruleOf p (q .switches) []) (m .before) b read) in omega (arith, is, fewer),
     )
 
 -- ---- no rules
@@ -138,6 +138,6 @@ unfolding rulesOf decide
 no-rules-exactly l q c v =
     let p = policyOf l in
     let d = decided l q c v in (
-      λ e. no-elements (ruleOf p) (p .rules) (lowest-answered l q (notPermitted NoRules) e .1),
-      λ e. d .1 ∙ ap gives (answer-accepted l q (d .0) (d .1) .1 ∙ judge-empty (map (ruleOf p) (p .rules)) (ap (map (ruleOf p)) e) (constraintsOf p) (requestOf p q)),
+      λ e. no-elements (ruleOf p (q .switches)) (p .rules) (lowest-answered l q (notPermitted NoRules) e .1),
+      λ e. d .1 ∙ ap gives (answer-accepted l q (d .0) (d .1) .1 ∙ judge-empty (map (ruleOf p (q .switches)) (p .rules)) (ap (map (ruleOf p (q .switches))) e) (constraintsOf p) (requestOf p q)),
     )

@@ -10,6 +10,7 @@ use Rattle.format.specs.Bytes.{wordAt}
 use Rattle.format.specs.Policy.{Policy, policyOf}
 use Rattle.decision.specs.declared.Query.{Query}
 use Rattle.decision.specs.Sets.{anyOf, allOf, setOf, within}
+use Rattle.decision.specs.Conditions.{isOn}
 use Rattle.decision.specs.Reading.{Rule, Constraint, Request, asks, ruleOf, requestOf, rulesOf, constraintsOf}
 use Rattle.decision.specs.Decide.{tests, covers, broken, applies, inside, fails, notPermitted, permitted, unknown, judge, decide}
 use Rattle.decision.specs.Tepla.{Dcs, NotPermitted, Permitted, UnKnown, compareDecisions, maximalDcs, maximum, typesWithin, allows, permits, evalRule, prdct, evalConstraint, maximalPolicy, evalPolicy, forget, PublishedMeaning, PublishedAnswer, PublishedOrder}
@@ -35,14 +36,14 @@ unfolding allOf asks
 rule-tests true on s d c k e n = ap (λ (x : Bool). s && x) (sym (and-true d))
 rule-tests false on s d c k e n = allow-tests on s d (eqb c k) (eqb e n)
 
-pub permits-covers : (p : Policy) (q : Query) (r : List ℕ) → permits p q r ≡ covers (requestOf p q) (ruleOf p r)
+pub permits-covers : (p : Policy) (q : Query) (r : List ℕ) → permits p q r ≡ covers (requestOf p q) (ruleOf p (q .switches) r)
 unfolding permits typesWithin allows covers tests ruleOf requestOf
 permits-covers p q r =
-    rule-tests (eqb (getD r 1 0) 3) (eqb (getD r 1 0) 2 && eqb (getD r 10 0) 1)
+    rule-tests (eqb (getD r 1 0) 3) (eqb (getD r 1 0) 2 && isOn (q .switches) (getD r 10 0))
     (within (setOf (p .groups) (q .source)) (setOf (p .groups) (wordAt r 2))) (within (setOf (p .groups) (q .dest)) (setOf (p .groups) (wordAt r 4)))
     (wordAt r 6) (q .class) (wordAt r 8) (q .action)
 
-rule-covers : (p : Policy) (q : Query) (r : List ℕ) → evalRule p q r ≡ cond (covers (requestOf p q) (ruleOf p r)) Permitted NotPermitted
+rule-covers : (p : Policy) (q : Query) (r : List ℕ) → evalRule p q r ≡ cond (covers (requestOf p q) (ruleOf p (q .switches) r)) Permitted NotPermitted
 unfolding evalRule
 rule-covers p q r = ap (λ (x : Bool). cond x Permitted NotPermitted) (permits-covers p q r)
 
@@ -55,10 +56,10 @@ permitted-or false false = refl
 
 rules-any :
     (p : Policy) (q : Query) (rs : List (List ℕ))
-    → maximum (map (evalRule p q) rs) ≡ cond (anyOf (covers (requestOf p q)) (map (ruleOf p) rs)) Permitted NotPermitted
+    → maximum (map (evalRule p q) rs) ≡ cond (anyOf (covers (requestOf p q)) (map (ruleOf p (q .switches)) rs)) Permitted NotPermitted
 unfolding maximum anyOf
 rules-any p q [] = refl
-rules-any p q (r ∷ rs) = rw (rule-covers p q r, rules-any p q rs) (permitted-or (covers (requestOf p q) (ruleOf p r)) (anyOf (covers (requestOf p q)) (map (ruleOf p) rs)))
+rules-any p q (r ∷ rs) = rw (rule-covers p q r, rules-any p q rs) (permitted-or (covers (requestOf p q) (ruleOf p (q .switches) r)) (anyOf (covers (requestOf p q)) (map (ruleOf p (q .switches)) rs)))
 
 -- ---- on top of a permitted query, a constraint raises it where it fails
 
@@ -118,7 +119,7 @@ pub published-meaning : PublishedMeaning
 unfolding evalPolicy decide rulesOf
 published-meaning p q =
     let a : Request = requestOf p q in
-    let rs : List Rule = rulesOf p in
+    let rs : List Rule = rulesOf p (q .switches) in
     let cs : List Constraint = constraintsOf p in
     ap (λ (d : Dcs). maximalPolicy d (maximum (map (evalConstraint rs a) cs))) (rules-any p q (p .rules))
     ∙ combine (anyOf (covers a) rs) (anyOf (fails rs a) cs) (maximum (map (evalConstraint rs a) cs)) (constraints-any rs a cs)

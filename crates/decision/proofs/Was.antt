@@ -70,8 +70,9 @@ unfolding answer answerWas decide decideWas judge
 answers-stay l q one =
     let p = policyOf l in
     let a = requestOf p q in
-    ap (λ (c : Option ℕ). outcome (answerFault l q) (decisionOf (nearest a (rulesOf p)) (firstAt (covers a) 0 (rulesOf p)) c))
-    (firstAt-same (fails (rulesOf p) a) (failsWas (rulesOf p) a) 0 (constraintsOf p) (λ c. fails-was (rulesOf p) a c one))
+    let rs = rulesOf p (q .switches) in
+    ap (λ (c : Option ℕ). outcome (answerFault l q) (decisionOf (nearest a rs) (firstAt (covers a) 0 rs) c))
+    (firstAt-same (fails rs a) (failsWas rs a) 0 (constraintsOf p) (λ c. fails-was rs a c one))
 
 -- ---- equal sources touch, as none is empty
 
@@ -95,8 +96,8 @@ pub fails⟹ : (rs : List Rule) (a : Request) (c : Constraint) → Sourced rs �
 unfolding fails failsWas
 fails⟹ rs a c some = and⟹ {a = applies a c && inside a c} id⟹ (broken⟹ rs c some)
 
-pub sourced : (l : List ℕ) → Accepted l → Sourced (rulesOf (policyOf l))
+pub sourced : (l : List ℕ) (w : ℕ) → Accepted l → Sourced (rulesOf (policyOf l) w)
 unfolding rulesOf ruleOf
-sourced l e a m =
-    let r = Memᴰ·of-map (ruleOf (policyOf l)) (policyOf l .rules) m in
+sourced l w e a m =
+    let r = Memᴰ·of-map (ruleOf (policyOf l) w) (policyOf l .rules) m in
     subst (λ (z : Rule). 0 < length (z .source)) (r .2) (types-filled l e _ (accepted-typed l e .rules (r .0) (r .1) .0))

@@ -28,7 +28,7 @@ bareOf (some r) none = allowed r
 bareOf (some r) (some c) = stopped r c
 
 unfoldable pub decideBefore : Policy → Query → Bare
-decideBefore p q = bareOf (firstAt (permits p q) 0 (p .rules)) (firstAt (fails (rulesOf p) (requestOf p q)) 0 (constraintsOf p))
+decideBefore p q = bareOf (firstAt (permits p q) 0 (p .rules)) (firstAt (fails (rulesOf p (q .switches)) (requestOf p q)) 0 (constraintsOf p))
 
 unfoldable pub answerBefore : List ℕ → Query → Outcome Bare
 answerBefore l q = outcome (answerFault l q) (decideBefore (policyOf l) q)

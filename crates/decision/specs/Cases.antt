@@ -4,7 +4,7 @@
 --     allow, companion, oneMember, banned   records
 --     withSpace l r     the image l in a buffer that has just the space for the record r as well
 --     extended l r      the buffer after adding r to it
---     Case, ask         a row: image, query, and the answer that the documents give
+--     Case, ask         a row: image, query without a switch on, and the answer that the documents give; askOn w: under a word
 --     cases             the table
 --     given, expectedOf what the definitions give, and the row's answer
 --     MarkedCases       the definitions give these answers
@@ -28,7 +28,7 @@ use Rattle.extension.specs.Add.{addFault, newNumber, bufferAfter}
 use Rattle.decision.specs.declared.Query.{Query}
 use Rattle.decision.specs.declared.Nearest.the-variants.{NoRules, Near}
 use Rattle.decision.specs.Sets.{isIn, setOf}
-use Rattle.decision.specs.Decide.{Decision, notPermitted, permitted, unknown, decide, answer}
+use Rattle.decision.specs.Decide.{Decision, notPermitted, permitted, unknown, decide, answer, queryOf}
 use Rattle.decision.specs.Order.{NoCompanion, Extends}
 use Rattle.decision.specs.Growth.{reordered}
 
@@ -61,8 +61,11 @@ pub record Case : Type 0 where
   pub query : Query
   pub expected : Outcome Decision
 
+unfoldable pub askOn : ℕ → List ℕ → ℕ → ℕ → ℕ → ℕ → Outcome Decision → Case
+askOn w l s d c a e = record { image = l; query = queryOf s d c a w; expected = e }
+
 unfoldable pub ask : List ℕ → ℕ → ℕ → ℕ → ℕ → Outcome Decision → Case
-ask l s d c a e = record { image = l; query = record { source = s; dest = d; class = c; action = a }; expected = e }
+ask = askOn 0
 
 unfoldable pub cases : List Case
 cases =
@@ -102,18 +105,18 @@ pub record MarkedAdds : Type 0 where
 
 pub record MarkedOrder : Type 0 where
   pub extends :
-      Extends (policyOf sample) (record { source = 10; dest = g0; class = 5; action = 1 })
-      (policyOf (extended sample (allow 14 g0 7 7))) (record { source = 10; dest = 21; class = 5; action = 1 })
+      Extends (policyOf sample) (queryOf 10 g0 5 1 0)
+      (policyOf (extended sample (allow 14 g0 7 7))) (queryOf 10 21 5 1 1)
   pub no-companion : NoCompanion (policyOf sample .constraints)
   pub itself : isIn 10 (setOf (policyOf sample .groups) 10) ≡ true
   pub member : isIn 21 (setOf (policyOf sample .groups) g0) ≡ true
   -- the other order is another: rule 0 is then rule 3, and constraint 1 constraint 0
-  pub turned : decide (reordered (policyOf sample)) (record { source = 10; dest = 21; class = 5; action = 1 }) ≡ permitted 3
+  pub turned : decide (reordered (policyOf sample)) (queryOf 10 21 5 1 0) ≡ permitted 3
   pub turned-constraints :
-      decide (reordered (policyOf (extended sample (allow 10 30 5 3)))) (record { source = 20; dest = 30; class = 5; action = 2 }) ≡ unknown 3 0
+      decide (reordered (policyOf (extended sample (allow 10 30 5 3)))) (queryOf 20 30 5 2 0) ≡ unknown 3 0
   -- the second query may name a group that only the second policy has
   pub new-group :
-      Extends (policyOf sample) (record { source = 10; dest = g0; class = 5; action = 1 })
-      (policyOf (extended sample oneMember)) (record { source = 10; dest = 0x8001; class = 5; action = 1 })
+      Extends (policyOf sample) (queryOf 10 g0 5 1 0)
+      (policyOf (extended sample oneMember)) (queryOf 10 0x8001 5 1 0)
   -- a policy with a ban has no companion
   pub ban-no-companion : NoCompanion (banned ∷ [])

@@ -5,10 +5,11 @@
 --                       two types, and of a group; a source of which a part is listed; a companion's rule to elsewhere;
 --                       a rule and a ban of another class, and of another action (`Separation` has the cases of separations)
 --     ClauseCases       the definitions give these answers
---     RefusalCases      document 01's unmarked refusals, and one each of 1 to 7, 10, 11 and 13
+--     RefusalCases      document 01's unmarked refusals, and one each of 1 to 7, 10, 11 and 13; the last condition, and one past it
+--                       (request [6])
 use Prim.Native.Nat.{ℕ}
 use mathlib.Core.Path.{_≡_}
-use mathlib.Core.Option.{some}
+use mathlib.Core.Option.{none, some}
 use mathlib.Core.List.{List, [], _∷_, _++_, map}
 use lib.ListN.{take, set}
 use Rattle.format.specs.Refusals.{refusal}
@@ -73,7 +74,9 @@ pub record RefusalCases : Type 0 where
   pub cut : check (take 79 sample) ≡ some (refusal 3 0)
   pub rules-1025 : check (set (set sample 5 4) 6 1) ≡ some (refusal 4 5)
   pub cut-said : check (take 79 (set sample 2 79)) ≡ some (refusal 5 69)
-  pub condition-two : check (set sample 25 2) ≡ some (refusal 6 25)
+  pub condition-33 : check (set sample 25 33) ≡ none
+  pub condition-34 : check (set sample 25 34) ≡ some (refusal 6 25)
+  pub added-condition-34 : addFault sample (set (allow 10 21 5 1) 10 34) ≡ some (refusal 11 10)
   pub more : check (set sample 2 81 ++ (0 ∷ [])) ≡ some (refusal 7 80)
   pub shape-first : addFault sample (set companion 0 12) ≡ some (refusal 10 0)
   pub field : addFault sample (set companion 10 4) ≡ some (refusal 11 10)

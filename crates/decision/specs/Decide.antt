@@ -16,11 +16,11 @@
 --     Decision, decisionOf   the three decisions, from the nearest rule, and the rule and the constraint that were found
 --     judge rs cs a       the decision: the lowest rule that covers the query, the lowest constraint that fails; the nearest rule
 --                         where none covers
---     decide p q          the decision of a policy
+--     decide p q          the decision of a policy: its rules are read under the query's word, for cover and for every predicate
 --     queryFault g q      refusals 8 and 9, where there are g groups
 --     answerFault l q     refusals 1 to 7, then 8 and 9
 --     answer l q          the engine's answer, for any bytes and any query
---     queryOf s d c a     a query of four numbers
+--     queryOf s d c a w   a query of five numbers, the last its switch word
 --     answerOutcome r     what an `Answer` says
 --     Valid l q           the query's types are type fields of the image
 use Prim.Native.Nat.{ℕ, suc, max}
@@ -126,7 +126,7 @@ unfoldable pub judge : List Rule → List Constraint → Request → Decision
 judge rs cs a = decisionOf (nearest a rs) (firstAt (covers a) 0 rs) (firstAt (fails rs a) 0 cs)
 
 unfoldable pub decide : Policy → Query → Decision
-decide p q = judge (rulesOf p) (constraintsOf p) (requestOf p q)
+decide p q = judge (rulesOf p (q .switches)) (constraintsOf p) (requestOf p q)
 
 unfoldable pub queryFault : ℕ → Query → Option Refusal
 queryFault g q = need (isType g (q .source)) (refusal 8 0) orElse need (isType g (q .dest)) (refusal 9 0)
@@ -143,8 +143,8 @@ answerOutcome (Permitted r) = gives (permitted r)
 answerOutcome (UnKnown r c) = gives (unknown r c)
 answerOutcome (Refused f) = refused f
 
-abbrev pub queryOf : ℕ → ℕ → ℕ → ℕ → Query
-queryOf s d c a = record { source = s; dest = d; class = c; action = a }
+abbrev pub queryOf : ℕ → ℕ → ℕ → ℕ → ℕ → Query
+queryOf s d c a w = record { source = s; dest = d; class = c; action = a; switches = w }
 
 abbrev pub Valid : List ℕ → Query → Type 0
 Valid l q = (isType (countOf l Groups) (q .source) ≡ true) × (isType (countOf l Groups) (q .dest) ≡ true)

@@ -7,7 +7,7 @@
 --     reordered p       the policy p with its rules in the opposite order and then in their own, so that each stands twice, and its
 --                       constraints in the opposite order
 --     RulesReordered    it is accepted where these are not too many, and decides equally high
---     MemberOrder       a query on a group is decided no higher than one on a member of it
+--     MemberOrder       under one word, a query on a group is decided no higher than one on a member of it
 use Prim.Native.Nat.{ℕ, _+_, _≤_, _<_}
 use mathlib.Core.Path.{_≡_}
 use mathlib.Core.Logic.{_⊎_}
@@ -71,7 +71,7 @@ RulesReordered =
 abbrev pub MemberOrder : Type 0
 MemberOrder =
     (l : List ℕ) (q₁ q₂ : Query) (d₁ d₂ : Decision) → answer l q₁ ≡ gives d₁ → answer l q₂ ≡ gives d₂
-    → q₁ .class ≡ q₂ .class → q₁ .action ≡ q₂ .action → q₂ .source < 1024 → q₂ .dest < 1024
+    → q₁ .class ≡ q₂ .class → q₁ .action ≡ q₂ .action → q₁ .switches ≡ q₂ .switches → q₂ .source < 1024 → q₂ .dest < 1024
     → isIn (q₂ .source) (setOf (policyOf l .groups) (q₁ .source)) ≡ true
     → isIn (q₂ .dest) (setOf (policyOf l .groups) (q₁ .dest)) ≡ true
     → height d₁ ≤ height d₂

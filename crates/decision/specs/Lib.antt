@@ -1,4 +1,5 @@
 pub mod Sets
+pub mod Conditions
 pub mod Reading
 pub mod Decide
 pub mod Lowest
@@ -11,6 +12,7 @@ pub mod Cases
 pub mod Clauses
 pub mod Steps
 pub mod Separation
+pub mod Switches
 pub mod Numbers
 pub mod Rows
 pub mod Inner

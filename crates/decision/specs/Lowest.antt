@@ -51,4 +51,4 @@ NamedAlone = (rs : List Rule) (cs : List Constraint) (a : Request) (d : Decision
 abbrev pub LowestAnswered : Type 0
 LowestAnswered =
     (l : List ℕ) (q : Query) (d : Decision) → answer l q ≡ gives d
-    → Names (rulesOf (policyOf l)) (constraintsOf (policyOf l)) (requestOf (policyOf l) q) d
+    → Names (rulesOf (policyOf l) (q .switches)) (constraintsOf (policyOf l)) (requestOf (policyOf l) q) d

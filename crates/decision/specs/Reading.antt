@@ -1,12 +1,13 @@
 -- Rules, constraints and queries as they are read: types as sets, and of a rule what it asks of a query (document 01, "How a
--- draw is decided").
+-- draw is decided"), the rules under a switch word (request [6]).
 --     Rule                      `allow`: it is an allow rule; `on`: its condition is on, and a transition is always on; its two
 --                               sets; the class and the action that it asks for, if it asks
 --     asks o n                  the number n is what is asked for, where something is
 --     live r                    document 01's "live": an allow rule that is on
 --     Constraint, Request       a constraint and a query
---     ruleOf p r, constraintOf p c, requestOf p q    read from a record of a policy, and from a query on it
---     rulesOf p, constraintsOf p                     all of a policy's
+--     ruleOf p w r              a rule, read from a record of a policy under the word w: the one place where a condition is read
+--     constraintOf p c, requestOf p q    a constraint, from a record, and a query on the policy
+--     rulesOf p w, constraintsOf p       all of a policy's
 use Prim.Native.Nat.{ℕ}
 use mathlib.Core.Bool.{Bool, true, _&&_, cond}
 use mathlib.Core.Option.{Option, none, some}
@@ -17,6 +18,7 @@ use Rattle.format.specs.Bytes.{wordAt, words}
 use Rattle.format.specs.Policy.{Policy}
 use Rattle.decision.specs.declared.Query.{Query}
 use Rattle.decision.specs.Sets.{setOf, unionOf}
+use Rattle.decision.specs.Conditions.{isOn}
 
 pub record Rule : Type 0 where
   pub allow : Bool
@@ -35,11 +37,11 @@ live r = r .allow && r .on
 
 -- kind 2 is an allow rule, 3 a transition, which is always on and asks for neither class nor action; it has 8 bytes, and nothing
 -- past them is read
-unfoldable pub ruleOf : Policy → List ℕ → Rule
-ruleOf p r =
+unfoldable pub ruleOf : Policy → ℕ → List ℕ → Rule
+ruleOf p w r =
     record {
       allow = eqb (getD r 1 0) 2;
-      on = cond (eqb (getD r 1 0) 3) true (eqb (getD r 1 0) 2 && eqb (getD r 10 0) 1);
+      on = cond (eqb (getD r 1 0) 3) true (eqb (getD r 1 0) 2 && isOn w (getD r 10 0));
       source = setOf (p .groups) (wordAt r 2);
       dest = setOf (p .groups) (wordAt r 4);
       class = cond (eqb (getD r 1 0) 3) none (some (wordAt r 6));
@@ -75,8 +77,8 @@ unfoldable pub requestOf : Policy → Query → Request
 requestOf p q =
     record { source = setOf (p .groups) (q .source); dest = setOf (p .groups) (q .dest); class = q .class; action = q .action }
 
-unfoldable pub rulesOf : Policy → List Rule
-rulesOf p = map (ruleOf p) (p .rules)
+unfoldable pub rulesOf : Policy → ℕ → List Rule
+rulesOf p w = map (ruleOf p w) (p .rules)
 
 unfoldable pub constraintsOf : Policy → List Constraint
 constraintsOf p = map (constraintOf p) (p .constraints)

@@ -1,48 +1,52 @@
--- Many queries at once: rows of 8 bytes, and slots for the numbers of their answers.
---     queryAt b at         the query in the 8 bytes at a place: source, destination, class and action, each big-endian
+-- Many queries at once: rows of 12 bytes, and slots for the numbers of their answers.
+--     longAt b at          the 4-byte number at a place, big-endian
+--     queryAt b at         the query in the 12 bytes at a place: source, destination, class and action, each big-endian, and the
+--                          switch word last (request [6])
 --     numbersFrom l b k at   the numbers of the answers to k rows from a place on, on the image l
 --     numbers l b          the numbers of the answers to the whole rows of b, one after the other, on the image l
 --     rowsIn b n           how many rows are answered where there are n slots: the whole rows, at most n
 --     answered l b slots   the slots afterwards: the rows' numbers from the first slot on, and every other slot as it was
---     rowAt b k            the 8 bytes of row k
+--     rowAt b k            the 12 bytes of row k
 -- What is claimed of them, and proved in proofs/.
 --     RowsAnswered         the slot of a row that is answered holds the number of the answer to it
 --     SlotsStay            every other slot is as it was, and there are as many
 --     RowsWhole            every whole row is answered where there are slots enough, else as many as there are slots
---     RowAlone             a row's number is that of its 8 bytes, whatever its place, the other rows and the slots
+--     RowAlone             a row's number is that of its 12 bytes, whatever its place, the other rows and the slots
 use Prim.Native.Nat.{ℕ, zero, suc, _+_, _*_, _/_, _<_, _≤_, min}
 use mathlib.Core.Path.{_≡_}
 use mathlib.Core.List.{List, [], _∷_, _++_}
 use lib.ListN.{length, getD, take, drop}
 use Rattle.format.specs.Bytes.{wordAt}
 use Rattle.decision.specs.declared.Query.{Query}
-use Rattle.decision.specs.Decide.{answer}
+use Rattle.decision.specs.Decide.{answer, queryOf}
 use Rattle.decision.specs.Numbers.{decisionCode}
 
+abbrev pub longAt : List ℕ → ℕ → ℕ
+longAt b at = wordAt b at * 65536 + wordAt b (at + 2)
+
 abbrev pub queryAt : List ℕ → ℕ → Query
-queryAt b at =
-    record { source = wordAt b at; dest = wordAt b (at + 2); class = wordAt b (at + 4); action = wordAt b (at + 6) }
+queryAt b at = queryOf (wordAt b at) (wordAt b (at + 2)) (wordAt b (at + 4)) (wordAt b (at + 6)) (longAt b (at + 8))
 
 unfoldable pub numbersFrom : List ℕ → List ℕ → ℕ → ℕ → List ℕ
 numbersFrom l b zero at = []
-numbersFrom l b (suc k) at = decisionCode (answer l (queryAt b at)) ∷ numbersFrom l b k (at + 8)
+numbersFrom l b (suc k) at = decisionCode (answer l (queryAt b at)) ∷ numbersFrom l b k (at + 12)
 
 unfoldable pub numbers : List ℕ → List ℕ → List ℕ
-numbers l b = numbersFrom l b (length b / 8) 0
+numbers l b = numbersFrom l b (length b / 12) 0
 
 abbrev pub rowsIn : List ℕ → ℕ → ℕ
-rowsIn b n = min (length b / 8) n
+rowsIn b n = min (length b / 12) n
 
 unfoldable pub answered : List ℕ → List ℕ → List ℕ → List ℕ
 answered l b slots = take (rowsIn b (length slots)) (numbers l b) ++ drop (rowsIn b (length slots)) slots
 
 abbrev pub rowAt : List ℕ → ℕ → List ℕ
-rowAt b k = take 8 (drop (8 * k) b)
+rowAt b k = take 12 (drop (12 * k) b)
 
 abbrev pub RowsAnswered : Type 0
 RowsAnswered =
     (l b slots : List ℕ) (k : ℕ) → k < rowsIn b (length slots)
-    → getD (answered l b slots) k 0 ≡ decisionCode (answer l (queryAt b (8 * k)))
+    → getD (answered l b slots) k 0 ≡ decisionCode (answer l (queryAt b (12 * k)))
 
 abbrev pub SlotsStay : Type 0
 SlotsStay =
@@ -51,7 +55,7 @@ SlotsStay =
     × ((k : ℕ) → rowsIn b (length slots) ≤ k → getD (answered l b slots) k 0 ≡ getD slots k 0)
 
 abbrev pub RowsWhole : Type 0
-RowsWhole = (b : List ℕ) (n : ℕ) → (length b / 8 ≤ n → rowsIn b n ≡ length b / 8) × (n ≤ length b / 8 → rowsIn b n ≡ n)
+RowsWhole = (b : List ℕ) (n : ℕ) → (length b / 12 ≤ n → rowsIn b n ≡ length b / 12) × (n ≤ length b / 12 → rowsIn b n ≡ n)
 
 abbrev pub RowAlone : Type 0
 RowAlone =

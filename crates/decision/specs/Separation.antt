@@ -1,8 +1,8 @@
 -- What a separation means from request [5] on, what it meant before, and where that makes no difference.
 --     From rs s x         the basic type x lies in the source of a live rule of the list whose destination touches the set s
 --     SeparationMeans     a separation is false exactly where some basic type lies so for both of its arguments
---     FromRecord p t x    the same by the bytes of a record of a policy: an allow rule that is on, whose destination shares a type with
---                         the type t
+--     FromRecord p w t x  the same by the bytes of a record of a policy: an allow rule that is on under the word w, whose destination
+--                         shares a type with the type t
 --     SeparationRead      and of a constraint's record with predicate byte 1
 --     Wider rs₁ rs₂       for each live rule of the first list the second has a live one whose two sets hold its own
 --     SeparationKept      where it is false, it stays so with more live rules, and with wider ones
@@ -37,6 +37,7 @@ use Rattle.format.specs.Answers.{Outcome, gives, outcome}
 use Rattle.format.specs.Sample.{sample}
 use Rattle.decision.specs.declared.Query.{Query}
 use Rattle.decision.specs.Sets.{anyOf, isIn, setOf, within, touches}
+use Rattle.decision.specs.Conditions.{isOn}
 use Rattle.decision.specs.Reading.{Rule, Constraint, Request, live, constraintOf, requestOf, rulesOf, constraintsOf}
 use Rattle.decision.specs.Decide.{covers, nearest, reaches, separationBroken, broken, applies, inside, firstAt}
 use Rattle.decision.specs.Decide.{Decision, permitted, unknown, decisionOf, answerFault, answer}
@@ -59,11 +60,11 @@ pub record SeparationMeans : Type 0 where
   pub all :
       (rs : List Rule) (c : Constraint) (x : ℕ) → From rs (c .first) x → From rs (c .second) x → separationBroken rs c ≡ true
 
-pub record FromRecord (p : Policy) (t x : ℕ) : Type 0 where
+pub record FromRecord (p : Policy) (w t x : ℕ) : Type 0 where
   pub bytes : List ℕ
   pub one : List·Memᴰ bytes (p .rules)
   pub kind : getD bytes 1 0 ≡ 2
-  pub on : getD bytes 10 0 ≡ 1
+  pub on : isOn w (getD bytes 10 0) ≡ true
   pub y : ℕ
   pub there : isIn y (setOf (p .groups) (wordAt bytes 4)) ≡ true
   pub argued : isIn y (setOf (p .groups) t) ≡ true
@@ -71,11 +72,11 @@ pub record FromRecord (p : Policy) (t x : ℕ) : Type 0 where
 
 pub record SeparationRead : Type 0 where
   pub only :
-      (p : Policy) (r : List ℕ) → getD r 10 0 ≡ 1 → broken (rulesOf p) (constraintOf p r) ≡ true
-      → (x : ℕ) × FromRecord p (wordAt r 6) x × FromRecord p (wordAt r 8) x
+      (p : Policy) (w : ℕ) (r : List ℕ) → getD r 10 0 ≡ 1 → broken (rulesOf p w) (constraintOf p r) ≡ true
+      → (x : ℕ) × FromRecord p w (wordAt r 6) x × FromRecord p w (wordAt r 8) x
   pub all :
-      (p : Policy) (r : List ℕ) (x : ℕ) → getD r 10 0 ≡ 1 → FromRecord p (wordAt r 6) x → FromRecord p (wordAt r 8) x
-      → broken (rulesOf p) (constraintOf p r) ≡ true
+      (p : Policy) (w : ℕ) (r : List ℕ) (x : ℕ) → getD r 10 0 ≡ 1 → FromRecord p w (wordAt r 6) x → FromRecord p w (wordAt r 8) x
+      → broken (rulesOf p w) (constraintOf p r) ≡ true
 
 abbrev pub Wider : List Rule → List Rule → Type 0
 Wider rs₁ rs₂ =
@@ -103,7 +104,8 @@ failsWas rs a c = applies a c && inside a c && brokenWas rs c
 unfoldable pub decideWas : Policy → Query → Decision
 decideWas p q =
     let a = requestOf p q in
-    decisionOf (nearest a (rulesOf p)) (firstAt (covers a) 0 (rulesOf p)) (firstAt (failsWas (rulesOf p) a) 0 (constraintsOf p))
+    let rs = rulesOf p (q .switches) in
+    decisionOf (nearest a rs) (firstAt (covers a) 0 rs) (firstAt (failsWas rs a) 0 (constraintsOf p))
 
 unfoldable pub answerWas : List ℕ → Query → Outcome Decision
 answerWas l q = outcome (answerFault l q) (decideWas (policyOf l) q)
@@ -117,7 +119,7 @@ abbrev pub SeparationStays : Type 0
 SeparationStays = (rs : List Rule) (c : Constraint) → OneType rs → separationBroken rs c ≡ separationWas rs c
 
 abbrev pub AnswersStay : Type 0
-AnswersStay = (l : List ℕ) (q : Query) → OneType (rulesOf (policyOf l)) → answer l q ≡ answerWas l q
+AnswersStay = (l : List ℕ) (q : Query) → OneType (rulesOf (policyOf l) (q .switches)) → answer l q ≡ answerWas l q
 
 abbrev pub AnswersRise : Type 0
 AnswersRise = (l : List ℕ) (q : Query) (d : Decision) → answerWas l q ≡ gives d → DecidedAbove l q d

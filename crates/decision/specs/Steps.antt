@@ -14,7 +14,7 @@
 --     StepCases           the definitions give these answers
 use Prim.Native.Nat.{ℕ, _≤_, _<_}
 use mathlib.Core.Path.{_≡_}
-use mathlib.Core.Bool.{Bool, cond}
+use mathlib.Core.Bool.{Bool, true, false, cond}
 use mathlib.Core.List.{List, [], _∷_, map, List·Memᴰ}
 use lib.ListN.{length, getD, set}
 use lib.Dec.{eqb}
@@ -27,13 +27,14 @@ use Rattle.decision.specs.declared.Query.{Query}
 use Rattle.decision.specs.declared.Nearest.{Nearest}
 use Rattle.decision.specs.declared.Nearest.the-variants.{NoRules, Near}
 use Rattle.decision.specs.Sets.{setOf, within}
+use Rattle.decision.specs.Conditions.{isOn}
 use Rattle.decision.specs.Reading.{Rule, Request, asks, ruleOf, requestOf}
 use Rattle.decision.specs.Decide.{covers, steps, notPermitted, permitted, answer, Valid}
 use Rattle.decision.specs.Cases.{g0, allow, banned, extended, Case, ask, given, expectedOf}
 use Rattle.decision.specs.Clauses.{allowGroup, backTransition}
 
 abbrev pub stepsOf : Policy → Query → List ℕ → ℕ
-stepsOf p q r = steps (requestOf p q) (ruleOf p r)
+stepsOf p q r = steps (requestOf p q) (ruleOf p (q .switches) r)
 
 abbrev pub StepsInOrder : Type 0
 StepsInOrder =
@@ -52,10 +53,10 @@ destIn p q r = within (setOf (p .groups) (q .dest)) (setOf (p .groups) (wordAt r
 
 pub record StepsOfRecord : Type 0 where
   pub on :
-      (p : Policy) (q : Query) (r : List ℕ) → getD r 1 0 ≡ 2 → getD r 10 0 ≡ 1
+      (p : Policy) (q : Query) (r : List ℕ) → getD r 1 0 ≡ 2 → isOn (q .switches) (getD r 10 0) ≡ true
       → stepsOf p q r
       ≡ cond (sourceIn p q r) (cond (destIn p q r) (cond (eqb (wordAt r 6) (q .class)) (cond (eqb (wordAt r 8) (q .action)) 5 4) 3) 2) 1
-  pub off : (p : Policy) (q : Query) (r : List ℕ) → getD r 1 0 ≡ 2 → getD r 10 0 ≡ 0 → stepsOf p q r ≡ 0
+  pub off : (p : Policy) (q : Query) (r : List ℕ) → getD r 1 0 ≡ 2 → isOn (q .switches) (getD r 10 0) ≡ false → stepsOf p q r ≡ 0
   pub transition :
       (p : Policy) (q : Query) (r : List ℕ) → getD r 1 0 ≡ 3 → stepsOf p q r ≡ cond (sourceIn p q r) (cond (destIn p q r) 5 2) 1
 

@@ -1,5 +1,5 @@
 -- TEpla's own evaluation (source document 000, algorithms 2 and 3 and figure 1; 001 where 000 leaves a function out), with
--- document 01's sets, predicates (a separation as in request [5]), transitions and conditions for what the paper leaves to
+-- document 01's sets, predicates (a separation as in request [5]), transitions and conditions (switches as in request [6]) for what the paper leaves to
 -- parameters. Lines of the two documents' texts are cited as 000:149.
 --     Dcs, compareDecisions, maximalDcs, maximum   decisions without numbers, their order, the greater, the greatest
 --     typesWithin, allows      what a rule's record asks of a query: a transition's the first, an allow rule's the second
@@ -13,8 +13,8 @@
 --     PublishedMeaning         the two decide alike, for all policies and queries
 --     PublishedAnswer          and so the engine answers every valid query on an accepted policy
 --     PublishedOrder           the order on decisions is the paper's
--- Both sides read a constraint alike, hand its predicate the same rules (`rulesOf`), take a type for its set and ask `within` and
--- `broken` alike; what those mean is document 01's, and other claims pin it. The evaluation shares nothing with `judge`, and puts a
+-- Both sides read a constraint alike, hand its predicate the same rules (`rulesOf`), take a type for its set and ask `isOn`,
+-- `within` and `broken` alike; what those mean is document 01's, and other claims pin it. The evaluation shares nothing with `judge`, and puts a
 -- query against a rule's record, not against a `Rule`.
 use Prim.Native.Nat.{ℕ}
 use mathlib.Core.Path.{_≡_}
@@ -28,6 +28,7 @@ use Rattle.format.specs.Check.{Accepted}
 use Rattle.format.specs.Answers.{gives}
 use Rattle.decision.specs.declared.Query.{Query}
 use Rattle.decision.specs.Sets.{setOf, within}
+use Rattle.decision.specs.Conditions.{isOn}
 use Rattle.decision.specs.Reading.{Rule, Constraint, Request, requestOf, rulesOf, constraintsOf}
 use Rattle.decision.specs.Decide.{broken, Decision, decide, answer, Valid}
 use Rattle.decision.specs.Order.{height}
@@ -67,7 +68,7 @@ typesWithin p q r =
 -- algorithm 2 (000:149): condition, source and destination, class and action
 unfoldable pub allows : Policy → Query → List ℕ → Bool
 allows p q r =
-    (eqb (getD r 1 0) 2 && eqb (getD r 10 0) 1) && typesWithin p q r && eqb (wordAt r 6) (q .class) && eqb (wordAt r 8) (q .action)
+    (eqb (getD r 1 0) 2 && isOn (q .switches) (getD r 10 0)) && typesWithin p q r && eqb (wordAt r 6) (q .class) && eqb (wordAt r 8) (q .action)
 
 -- 000:155 of a transition "only the types of the subject and object need to be checked"
 unfoldable pub permits : Policy → Query → List ℕ → Bool
@@ -95,7 +96,7 @@ unfoldable pub evalPolicy : Policy → Query → Dcs
 evalPolicy p q =
     maximalPolicy
     (maximum (map (evalRule p q) (p .rules)))
-    (maximum (map (evalConstraint (rulesOf p) (requestOf p q)) (constraintsOf p)))
+    (maximum (map (evalConstraint (rulesOf p (q .switches)) (requestOf p q)) (constraintsOf p)))
 
 unfoldable pub forget : Decision → Dcs
 forget (Decision.notPermitted x) = NotPermitted
