@@ -83,6 +83,7 @@ module _ (l : List ℕ) (e : Accepted l) (n : ℕ) where
         here = s;
         long = omega arith;
         kind = inl (sym (s .field 1 (omega arith)) ∙ f .kind, len);
+        condition = λ _. omega (arith, s .field 10 (omega arith), f .condition);
         source = subst (IsType (countOf l Groups)) (stands-word l at r 2 s (omega arith)) (f .source);
         dest = subst (IsType (countOf l Groups)) (stands-word l at r 4 s (omega arith)) (f .dest);
       }
@@ -93,6 +94,7 @@ module _ (l : List ℕ) (e : Accepted l) (n : ℕ) where
         here = s;
         long = omega arith;
         kind = inr (sym (s .field 1 (omega arith)) ∙ f .kind);
+        condition = λ k. absurd (omega (arith, k, s .field 1 (omega arith), f .kind));
         source = subst (IsType (countOf l Groups)) (stands-word l at r 2 s (omega arith)) (f .source);
         dest = subst (IsType (countOf l Groups)) (stands-word l at r 4 s (omega arith)) (f .dest);
       }

@@ -9,14 +9,16 @@ use Rattle.format.specs.Check.{readFields, readOf, readFault, sectionFault, cou
 use Rattle.format.specs.Sample.{sample, empty}
 use Rattle.extension.specs.Add.{sectionOf, withRecord, fieldFault, newNumber, ownFault, addFault, newImage, overwrite, bufferAfter}
 use Rattle.decision.specs.Sets.{anyOf, allOf, isIn, setOf, unionOf, within, touches}
+use Rattle.decision.specs.Conditions.{switchOn, isOn}
 use Rattle.decision.specs.Reading.{asks, live, ruleOf, constraintOf, requestOf, rulesOf, constraintsOf}
 use Rattle.decision.specs.Decide.{tests, covers, passes, steps, nearestOf, greatest, nearestBy, nearest, reaches, separationBroken, rosterBroken, companionBroken, broken, applies, inside, fails, firstAt, decisionOf, judge, decide, queryFault, answerFault, answer}
 use Rattle.decision.specs.Cases.{withSpace, extended, g0, allow}
 use Rattle.decision.specs.Steps.{off}
+use Rattle.decision.specs.Switches.{allowIf, rinse}
 use Rattle.runs.specs.Runs.{rowsFault, runFault, queriesFault, unfit, firstUnfit, runOf, rowAnswer, answersAfter}
 use Rattle.decision.specs.Numbers.{partsOf, refusalCode}
 use Rattle.runs.specs.Numbers.{rowsOf, numbersFault, numbersRun, rowCode, codesAfter}
-use Rattle.runs.specs.Cases.{member, group, transition, separated, offRule, otherAction, noSource, noDest, comesOf, saysOf, runCases, RunCases, calls, numberCases, numberOf, codesOf, NumberCases}
+use Rattle.runs.specs.Cases.{member, group, transition, separated, offRule, otherAction, noSource, noDest, rinsing, apart, comesOf, saysOf, runCases, RunCases, calls, numberCases, numberOf, codesOf, NumberCases}
 use Rattle.runs.specs.Cases as table
 
 computed : RunCases × NumberCases
@@ -27,11 +29,11 @@ unfolding
     readFields readOf readFault sectionFault countFault headerFault bodyFault check imageIn checkFront
     sample empty sectionOf withRecord fieldFault newNumber ownFault addFault newImage overwrite bufferAfter
     anyOf allOf isIn setOf unionOf within touches
-    asks live ruleOf constraintOf requestOf rulesOf constraintsOf
+    switchOn isOn asks live ruleOf constraintOf requestOf rulesOf constraintsOf
     tests covers passes steps nearestOf greatest nearestBy nearest reaches separationBroken rosterBroken companionBroken broken applies inside fails firstAt decisionOf judge decide queryFault answerFault answer
-    withSpace extended g0 allow off
+    withSpace extended g0 allow off allowIf rinse
     rowsFault runFault queriesFault unfit firstUnfit runOf rowAnswer answersAfter
-    member group transition separated offRule otherAction noSource noDest comesOf saysOf runCases table.asks
+    member group transition separated offRule otherAction noSource noDest rinsing apart comesOf saysOf runCases table.asks
     partsOf refusalCode rowsOf numbersFault numbersRun rowCode codesAfter calls numberCases numberOf codesOf
 computed = (record { come = refl; say = refl }, record { come = refl; say = refl })
 

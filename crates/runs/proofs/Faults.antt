@@ -87,21 +87,21 @@ pub same-lengths : (l : List ℕ) (n m : ℕ) → queriesFault l n m ≡ none �
 unfolding queriesFault
 same-lengths l n m e = eqb-true m n (fault-fits l n (eqb m n) e)
 
-pub numbers-fault : (l : List ℕ) (n m : ℕ) → numbersFault l n m ≡ runFault l (n / 4) (eqb n (4 * m))
+pub numbers-fault : (l : List ℕ) (n m : ℕ) → numbersFault l n m ≡ runFault l (n / 6) (eqb n (6 * m))
 unfolding numbersFault
 numbers-fault l n m = refl
 
 pub numbers-named : (l : List ℕ) (n m : ℕ) (f : Refusal) → numbersFault l n m ≡ some f → (check l ≡ some f) ⊎ ((f ≡ refusal 16 0) ⊎ (f ≡ refusal 17 0))
 unfolding numbersFault
-numbers-named l n m f e = fault-named l (n / 4) (eqb n (4 * m)) f e
+numbers-named l n m f e = fault-named l (n / 6) (eqb n (6 * m)) f e
 
-pub same-count : (l : List ℕ) (n m : ℕ) → numbersFault l n m ≡ none → n ≡ 4 * m
+pub same-count : (l : List ℕ) (n m : ℕ) → numbersFault l n m ≡ none → n ≡ 6 * m
 unfolding numbersFault
-same-count l n m e = eqb-true n (4 * m) (fault-fits l (n / 4) (eqb n (4 * m)) e)
+same-count l n m e = eqb-true n (6 * m) (fault-fits l (n / 6) (eqb n (6 * m)) e)
 
-pub few-numbers : (l : List ℕ) (n m : ℕ) → numbersFault l n m ≡ none → n / 4 ≤ 64
+pub few-numbers : (l : List ℕ) (n m : ℕ) → numbersFault l n m ≡ none → n / 6 ≤ 64
 unfolding numbersFault
-few-numbers l n m e = fault-rows l (n / 4) (eqb n (4 * m)) e
+few-numbers l n m e = fault-rows l (n / 6) (eqb n (6 * m)) e
 
 pub run-faults : RunFaults
 unfolding queriesFault
@@ -118,11 +118,11 @@ run-faults l = (
 pub numbers-faults : NumbersFaults
 unfolding numbersFault
 numbers-faults l = (
-  λ f n m e. fault-image l (n / 4) (eqb n (4 * m)) f e,
+  λ f n m e. fault-image l (n / 6) (eqb n (6 * m)) f e,
   λ e. (
-    λ n m h. fault-own l (n / 4) (eqb n (4 * m)) e ∙ rows-few (n / 4) (eqb n (4 * m)) (omega arith),
-    λ n m h. fault-own l (n / 4) (eqb n (4 * m)) e ∙ rows-many (n / 4) (eqb n (4 * m)) (omega arith),
-    λ n m h k d. fault-own l (n / 4) (eqb n (4 * m)) e ∙ rows-slots (n / 4) (eqb n (4 * m)) (omega arith) (omega arith) (ne-eqb n (4 * m) d),
-    λ m h k. fault-own l (4 * m / 4) (eqb (4 * m) (4 * m)) e ∙ rows-none (4 * m / 4) (eqb (4 * m) (4 * m)) (omega arith) (omega arith) (eq-eqb (4 * m) (4 * m) refl),
+    λ n m h. fault-own l (n / 6) (eqb n (6 * m)) e ∙ rows-few (n / 6) (eqb n (6 * m)) (omega arith),
+    λ n m h. fault-own l (n / 6) (eqb n (6 * m)) e ∙ rows-many (n / 6) (eqb n (6 * m)) (omega arith),
+    λ n m h k d. fault-own l (n / 6) (eqb n (6 * m)) e ∙ rows-slots (n / 6) (eqb n (6 * m)) (omega arith) (omega arith) (ne-eqb n (6 * m) d),
+    λ m h k. fault-own l (6 * m / 6) (eqb (6 * m) (6 * m)) e ∙ rows-none (6 * m / 6) (eqb (6 * m) (6 * m)) (omega arith) (omega arith) (eq-eqb (6 * m) (6 * m) refl),
   ),
 )

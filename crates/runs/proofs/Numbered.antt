@@ -6,7 +6,7 @@
 --     row-inside   a row's numbers are in the list
 --     numbers-run-is   what a run comes to, by its refusal and its rows
 --     row-below    the row that comes back is below 64
-use Prim.Native.Nat.{ℕ, zero, suc, _+_, _-_, _*_, _/_, _<_}
+use Prim.Native.Nat.{ℕ, zero, suc, _+_, _-_, _*_, _/_, _%_, _<_}
 use mathlib.Core.Path.{_≡_, refl, sym, ap, ap₂, _∙_}
 use mathlib.Core.Bool.{Bool, true, false}
 use mathlib.Core.Option.{Option, none, some}
@@ -23,7 +23,7 @@ use Rattle.format.proofs.Chain.{unless-accepted, unless-refused, outcome-refuse
 use Rattle.decision.specs.declared.Query.{Query}
 use Rattle.decision.specs.Decide.{queryOf}
 use Rattle.runs.specs.Runs.{runFault, queriesFault, firstUnfit, runOf}
-use Rattle.runs.specs.Numbers.{rowsOf, numbersOf, numbersFault, numbersRun, rowCode, codesAfter}
+use Rattle.runs.specs.Numbers.{wordFrom, rowsOf, numbersOf, numbersFault, numbersRun, rowCode, codesAfter}
 use Rattle.runs.specs.Inner.Progress.{rowAt}
 use Rattle.runs.specs.Claims.{NumbersRun, NumbersWhole, NumbersAnswered, NumbersRefused, NumbersLeft}
 use Rattle.runs.proofs.Faults.{same-count, few-numbers}
@@ -32,17 +32,27 @@ use Rattle.runs.proofs.Holds.{map-at, first-unfit}
 rows-read : (qs : List Query) → rowsOf (numbersOf qs) ≡ qs
 unfolding rowsOf numbersOf
 rows-read [] = refl
-rows-read (q ∷ qs) = ap {B = List Query} (λ r. q ∷ r) (rows-read qs)
+rows-read (q ∷ qs) =
+    let same : queryOf (q .source) (q .dest) (q .class) (q .action) (wordFrom (q .switches / 65536) (q .switches % 65536)) ≡ q =
+    ap (queryOf (q .source) (q .dest) (q .class) (q .action)) (omega arith) in
+    ap₂ {C = List Query} (λ x r. x ∷ r) same (rows-read qs)
 
 pub numbers-whole : NumbersWhole
 unfolding rowsOf numbersOf
-numbers-whole [] m e = refl
-numbers-whole (s ∷ []) m e = absurd (omega (arith, e))
-numbers-whole (s ∷ x ∷ []) m e = absurd (omega (arith, e))
-numbers-whole (s ∷ x ∷ c ∷ []) m e = absurd (omega (arith, e))
-numbers-whole (s ∷ x ∷ c ∷ a ∷ ns) m e = ap {B = List ℕ} (λ r. s ∷ x ∷ c ∷ a ∷ r) (numbers-whole ns (m - 1) (omega (arith, e)))
+numbers-whole [] m f e = refl
+numbers-whole (s ∷ []) m f e = absurd (omega (arith, e))
+numbers-whole (s ∷ x ∷ []) m f e = absurd (omega (arith, e))
+numbers-whole (s ∷ x ∷ c ∷ []) m f e = absurd (omega (arith, e))
+numbers-whole (s ∷ x ∷ c ∷ a ∷ []) m f e = absurd (omega (arith, e))
+numbers-whole (s ∷ x ∷ c ∷ a ∷ h ∷ []) m f e = absurd (omega (arith, e))
+numbers-whole (s ∷ x ∷ c ∷ a ∷ h ∷ w ∷ ns) m f e =
+    let low : w < 65536 = f 5 in
+    let high : (h * 65536 + w) / 65536 ≡ h = omega (arith, low) in
+    let rest : (h * 65536 + w) % 65536 ≡ w = omega (arith, low) in
+    let later = numbers-whole ns (m - 1) (λ i. f (suc (suc (suc (suc (suc (suc i))))))) (omega (arith, e)) in
+    ap (λ r. s ∷ x ∷ c ∷ a ∷ (h * 65536 + w) / 65536 ∷ (h * 65536 + w) % 65536 ∷ r) later ∙ ap₂ (λ y z. s ∷ x ∷ c ∷ a ∷ y ∷ z ∷ ns) high rest
 
-numbers-many : (qs : List Query) → length (numbersOf qs) ≡ 4 * length qs
+numbers-many : (qs : List Query) → length (numbersOf qs) ≡ 6 * length qs
 unfolding numbersOf
 numbers-many [] = refl
 numbers-many (q ∷ qs) = omega (arith, numbers-many qs)
@@ -59,8 +69,8 @@ fault-read : (l : List ℕ) (qs : List Query) (m : ℕ) → numbersFault l (leng
 unfolding numbersFault queriesFault
 fault-read l qs m =
     let h = numbers-many qs in
-    let many : length (numbersOf qs) / 4 ≡ length qs = omega (arith, h) in
-    ap₂ (runFault l) many (same-test (length (numbersOf qs)) (4 * m) m (length qs) (λ e. omega (arith, e, h)) (λ e. omega (arith, e, h)))
+    let many : length (numbersOf qs) / 6 ≡ length qs = omega (arith, h) in
+    ap₂ (runFault l) many (same-test (length (numbersOf qs)) (6 * m) m (length qs) (λ e. omega (arith, e, h)) (λ e. omega (arith, e, h)))
 
 pub numbers-run : NumbersRun
 unfolding numbersRun runOf codesAfter
@@ -71,14 +81,16 @@ numbers-run l qs ys = (
 
 -- ---- row i of a list of numbers
 
-further : (x y z w : ℕ) (ns : List ℕ) (i : ℕ) → rowAt (x ∷ y ∷ z ∷ w ∷ ns) (suc i) ≡ rowAt ns i
-further x y z w ns i =
-    let a : List ℕ = x ∷ y ∷ z ∷ w ∷ ns in
-    let from : (j k : ℕ) → j ≡ suc (suc (suc (suc k))) → getD a j 0 ≡ getD ns k 0 = λ j k e. ap (λ n. getD a n 0) e in
-    let source = from (4 * suc i) (4 * i) (omega arith) in
-    let dest = from (4 * suc i + 1) (4 * i + 1) (omega arith) in
-    let class = from (4 * suc i + 2) (4 * i + 2) (omega arith) in
-    let action = from (4 * suc i + 3) (4 * i + 3) (omega arith) in
+further : (x y z w u v : ℕ) (ns : List ℕ) (i : ℕ) → rowAt (x ∷ y ∷ z ∷ w ∷ u ∷ v ∷ ns) (suc i) ≡ rowAt ns i
+further x y z w u v ns i =
+    let a : List ℕ = x ∷ y ∷ z ∷ w ∷ u ∷ v ∷ ns in
+    let from : (j k : ℕ) → j ≡ suc (suc (suc (suc (suc (suc k))))) → getD a j 0 ≡ getD ns k 0 = λ j k e. ap (λ n. getD a n 0) e in
+    let source = from (6 * suc i) (6 * i) (omega arith) in
+    let dest = from (6 * suc i + 1) (6 * i + 1) (omega arith) in
+    let class = from (6 * suc i + 2) (6 * i + 2) (omega arith) in
+    let action = from (6 * suc i + 3) (6 * i + 3) (omega arith) in
+    let high = from (6 * suc i + 4) (6 * i + 4) (omega arith) in
+    let low = from (6 * suc i + 5) (6 * i + 5) (omega arith) in
     cc
 
 pub row-at : (ns : List ℕ) (i : ℕ) (d : Query) → i < length (rowsOf ns) → getD (rowsOf ns) i d ≡ rowAt ns i
@@ -87,18 +99,22 @@ row-at [] i d l = absurd (not-suc-le-zero l)
 row-at (s ∷ []) i d l = absurd (not-suc-le-zero l)
 row-at (s ∷ x ∷ []) i d l = absurd (not-suc-le-zero l)
 row-at (s ∷ x ∷ c ∷ []) i d l = absurd (not-suc-le-zero l)
-row-at (s ∷ x ∷ c ∷ a ∷ ns) zero d l = refl
-row-at (s ∷ x ∷ c ∷ a ∷ ns) (suc i) d l = row-at ns i d (le-of-suc-le-suc l) ∙ sym (further s x c a ns i)
+row-at (s ∷ x ∷ c ∷ a ∷ []) i d l = absurd (not-suc-le-zero l)
+row-at (s ∷ x ∷ c ∷ a ∷ h ∷ []) i d l = absurd (not-suc-le-zero l)
+row-at (s ∷ x ∷ c ∷ a ∷ h ∷ w ∷ ns) zero d l = refl
+row-at (s ∷ x ∷ c ∷ a ∷ h ∷ w ∷ ns) (suc i) d l = row-at ns i d (le-of-suc-le-suc l) ∙ sym (further s x c a h w ns i)
 
-pub rows-many : (ns : List ℕ) → length (rowsOf ns) ≡ length ns / 4
+pub rows-many : (ns : List ℕ) → length (rowsOf ns) ≡ length ns / 6
 unfolding rowsOf
 rows-many [] = omega arith
 rows-many (s ∷ []) = omega arith
 rows-many (s ∷ x ∷ []) = omega arith
 rows-many (s ∷ x ∷ c ∷ []) = omega arith
-rows-many (s ∷ x ∷ c ∷ a ∷ ns) = omega (arith, rows-many ns)
+rows-many (s ∷ x ∷ c ∷ a ∷ []) = omega arith
+rows-many (s ∷ x ∷ c ∷ a ∷ h ∷ []) = omega arith
+rows-many (s ∷ x ∷ c ∷ a ∷ h ∷ w ∷ ns) = omega (arith, rows-many ns)
 
-pub row-inside : (ns : List ℕ) (i : ℕ) → i < length (rowsOf ns) → 4 * i + 3 < length ns
+pub row-inside : (ns : List ℕ) (i : ℕ) → i < length (rowsOf ns) → 6 * i + 5 < length ns
 row-inside ns i h = omega (arith, h, rows-many ns)
 
 -- ---- the slots
@@ -127,7 +143,7 @@ numbers-left l ns ys = (
 pub numbers-answered : NumbersAnswered
 unfolding codesAfter rowCode
 numbers-answered l ns ys i y e k =
-    let d : Query = queryOf 0 0 0 0 in
+    let d : Query = queryOf 0 0 0 0 0 in
     let h : i < length (rowsOf ns) = omega (arith, k, same-count l (length ns) (length ys) e, rows-many ns) in
     ap (λ zs. getD zs i y) (unless-accepted (map (rowCode l) (rowsOf ns)) ys e)
     ∙ map-at (rowCode l) (rowsOf ns) i d y h
@@ -140,4 +156,4 @@ module _ (l ns : List ℕ) where
 
   -- the row that comes back is one of at most 64
   pub row-below : (m n : ℕ) → numbersFault l (length ns) m ≡ none → firstUnfit l (rowsOf ns) ≡ some n → n < 64
-  row-below m n e k = omega (arith, first-unfit l (rowsOf ns) (queryOf 0 0 0 0) n k .0, few-numbers l (length ns) m e, rows-many ns)
+  row-below m n e k = omega (arith, first-unfit l (rowsOf ns) (queryOf 0 0 0 0 0) n k .0, few-numbers l (length ns) m e, rows-many ns)

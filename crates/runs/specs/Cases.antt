@@ -25,33 +25,42 @@ use Rattle.decision.specs.declared.Nearest.the-variants.{NoRules, Near}
 use Rattle.decision.specs.Decide.{Decision, notPermitted, permitted, unknown, answerOutcome, queryOf}
 use Rattle.decision.specs.Cases.{g0, allow, extended}
 use Rattle.decision.specs.Steps.{off}
+use Rattle.decision.specs.Switches.{allowIf, rinse}
 use Rattle.runs.specs.Runs.{runOf, answerOf, answersAfter}
 use Rattle.runs.specs.Numbers.{numbersRun, codesAfter, runCode}
 
 -- Permitted by rules 0, 0, 2 and 1; NotPermitted, with 1 step and with 4; refused with 8, and with 9
 unfoldable pub member : Query
-member = queryOf 10 21 5 1
+member = queryOf 10 21 5 1 0
 
 unfoldable pub group : Query
-group = queryOf 10 g0 5 1
+group = queryOf 10 g0 5 1 0
 
 unfoldable pub transition : Query
-transition = queryOf 12 20 9 9
+transition = queryOf 12 20 9 9 0
 
 unfoldable pub separated : Query
-separated = queryOf 20 30 5 2
+separated = queryOf 20 30 5 2 0
 
 unfoldable pub offRule : Query
-offRule = queryOf 13 21 5 1
+offRule = queryOf 13 21 5 1 0
 
 unfoldable pub otherAction : Query
-otherAction = queryOf 10 21 5 9
+otherAction = queryOf 10 21 5 9 0
 
 unfoldable pub noSource : Query
-noSource = queryOf 1024 21 5 1
+noSource = queryOf 1024 21 5 1 0
 
 unfoldable pub noDest : Query
-noDest = queryOf 10 32769 5 1
+noDest = queryOf 10 32769 5 1 0
+
+-- 13 to 21, class 5, action 1, under a word: rule 3 of the sample, where a switch turns it on
+unfoldable pub rinsing : ℕ → Query
+rinsing = queryOf 13 21 5 1
+
+-- 20 to 30, class 5, action 2, under a word
+unfoldable pub apart : ℕ → Query
+apart = queryOf 20 30 5 2
 
 abbrev Said : Type 0
 Said = Outcome Decision
@@ -96,6 +105,9 @@ runCases =
     ∷ asks sample (member ∷ group ∷ noSource ∷ []) 3 (gives (some 2)) (P 0 ∷ P 0 ∷ R8 ∷ [])
     ∷ asks sample (noDest ∷ []) 1 (gives (some 0)) (R9 ∷ [])
     ∷ asks (extended sample (allow 10 30 5 3)) (member ∷ separated ∷ transition ∷ []) 3 (gives (some 1)) (P 0 ∷ gives (unknown 1 1) ∷ P 2 ∷ [])
+    -- each row under its own word: rule 3 by switch 0; and a separation that a rule of switch 5 breaks, found again for each word
+    ∷ asks (rinse 2) (rinsing 1 ∷ rinsing 0 ∷ rinsing 0xFFFFFFFF ∷ rinsing 0xFFFFFFFE ∷ []) 4 (gives (some 1)) (P 3 ∷ N 1 0 ∷ P 3 ∷ N 1 0 ∷ [])
+    ∷ asks (extended sample (allowIf 7 (allow 10 30 5 3))) (apart 31 ∷ apart 32 ∷ apart 31 ∷ apart 0 ∷ []) 4 (gives (some 1)) (P 1 ∷ gives (unknown 1 1) ∷ P 1 ∷ P 1 ∷ [])
     ∷ asks sample (replicate 64 transition) 64 (gives none) (replicate 64 (P 2))
     ∷ asks sample (replicate 63 transition ++ (offRule ∷ [])) 64 (gives (some 63)) (replicate 63 (P 2) ++ (N 1 0 ∷ []))
     ∷ asks sample (replicate 65 transition) 65 (refused (refusal 16 0)) (blank 65)
@@ -136,25 +148,28 @@ calls l ns m n s = record { image = l; numbers = ns; slots = m; comes = n; says 
 
 unfoldable pub numberCases : List NumberCase
 numberCases =
-    calls sample (10 ∷ 21 ∷ 5 ∷ 1 ∷ 12 ∷ 20 ∷ 9 ∷ 9 ∷ []) 2 0x100000000 (0x100000000 ∷ 0x100000002 ∷ [])
-    ∷ calls sample (20 ∷ 30 ∷ 5 ∷ 2 ∷ 13 ∷ 21 ∷ 5 ∷ 1 ∷ []) 2 1 (0x100000001 ∷ 0x10000 ∷ [])
-    ∷ calls sample (13 ∷ 21 ∷ 5 ∷ 1 ∷ []) 1 0 (0x10000 ∷ [])
-    ∷ calls sample (10 ∷ 21 ∷ 5 ∷ 9 ∷ []) 1 0 (0x40000 ∷ [])
-    ∷ calls sample (20 ∷ 30 ∷ 6 ∷ 2 ∷ []) 1 0 (0x30001 ∷ [])
-    ∷ calls empty (13 ∷ 21 ∷ 5 ∷ 1 ∷ []) 1 0 (0xFFFF ∷ [])
-    ∷ calls (extended empty (off (allow 10 21 5 1))) (10 ∷ 21 ∷ 5 ∷ 1 ∷ []) 1 0 (0 ∷ [])
-    ∷ calls sample (10 ∷ 21 ∷ 5 ∷ 1 ∷ 1024 ∷ 21 ∷ 5 ∷ 1 ∷ []) 2 1 (0x100000000 ∷ 0x200080000 ∷ [])
-    ∷ calls sample (10 ∷ 32769 ∷ 5 ∷ 1 ∷ []) 1 0 (0x200090000 ∷ [])
-    ∷ calls (extended sample (allow 10 30 5 3)) (20 ∷ 30 ∷ 5 ∷ 2 ∷ []) 1 0 (0x300010001 ∷ [])
-    ∷ calls sample (replicate 256 0) 64 0 (replicate 64 0x10000)
+    calls sample (10 ∷ 21 ∷ 5 ∷ 1 ∷ 0 ∷ 0 ∷ 12 ∷ 20 ∷ 9 ∷ 9 ∷ 0 ∷ 0 ∷ []) 2 0x100000000 (0x100000000 ∷ 0x100000002 ∷ [])
+    ∷ calls sample (20 ∷ 30 ∷ 5 ∷ 2 ∷ 0 ∷ 0 ∷ 13 ∷ 21 ∷ 5 ∷ 1 ∷ 0 ∷ 0 ∷ []) 2 1 (0x100000001 ∷ 0x10000 ∷ [])
+    ∷ calls sample (13 ∷ 21 ∷ 5 ∷ 1 ∷ 0 ∷ 0 ∷ []) 1 0 (0x10000 ∷ [])
+    ∷ calls sample (10 ∷ 21 ∷ 5 ∷ 9 ∷ 0 ∷ 0 ∷ []) 1 0 (0x40000 ∷ [])
+    ∷ calls sample (20 ∷ 30 ∷ 6 ∷ 2 ∷ 0 ∷ 0 ∷ []) 1 0 (0x30001 ∷ [])
+    ∷ calls empty (13 ∷ 21 ∷ 5 ∷ 1 ∷ 0 ∷ 0 ∷ []) 1 0 (0xFFFF ∷ [])
+    ∷ calls (extended empty (off (allow 10 21 5 1))) (10 ∷ 21 ∷ 5 ∷ 1 ∷ 0 ∷ 0 ∷ []) 1 0 (0 ∷ [])
+    ∷ calls sample (10 ∷ 21 ∷ 5 ∷ 1 ∷ 0 ∷ 0 ∷ 1024 ∷ 21 ∷ 5 ∷ 1 ∷ 0 ∷ 0 ∷ []) 2 1 (0x100000000 ∷ 0x200080000 ∷ [])
+    ∷ calls sample (10 ∷ 32769 ∷ 5 ∷ 1 ∷ 0 ∷ 0 ∷ []) 1 0 (0x200090000 ∷ [])
+    ∷ calls (extended sample (allow 10 30 5 3)) (20 ∷ 30 ∷ 5 ∷ 2 ∷ 0 ∷ 0 ∷ []) 1 0 (0x300010001 ∷ [])
+    ∷ calls sample (replicate 384 0) 64 0 (replicate 64 0x10000)
+    -- switch 16 is the lowest of the high half, switch 0 of the low one
+    ∷ calls (rinse 18) (13 ∷ 21 ∷ 5 ∷ 1 ∷ 1 ∷ 0 ∷ 13 ∷ 21 ∷ 5 ∷ 1 ∷ 0 ∷ 1 ∷ []) 2 1 (0x100000003 ∷ 0x10000 ∷ [])
+    ∷ calls (rinse 2) (13 ∷ 21 ∷ 5 ∷ 1 ∷ 1 ∷ 0 ∷ 13 ∷ 21 ∷ 5 ∷ 1 ∷ 0 ∷ 1 ∷ []) 2 0 (0x10000 ∷ 0x100000003 ∷ [])
     ∷ calls sample [] 0 0x200100000 []
-    ∷ calls sample (12 ∷ 20 ∷ 9 ∷ []) 1 0x200100000 (7 ∷ [])
-    ∷ calls sample (12 ∷ 20 ∷ 9 ∷ 9 ∷ 12 ∷ []) 1 0x200110000 (7 ∷ [])
-    ∷ calls sample (12 ∷ 20 ∷ 9 ∷ 9 ∷ []) 0 0x200110000 []
-    ∷ calls sample (12 ∷ 20 ∷ 9 ∷ 9 ∷ []) 4 0x200110000 (replicate 4 7)
-    ∷ calls sample (replicate 259 0) 64 0x200110000 (replicate 64 7)
-    ∷ calls sample (replicate 260 0) 65 0x200100000 (replicate 65 7)
-    ∷ calls (take 79 sample) (12 ∷ 20 ∷ 9 ∷ 9 ∷ []) 1 0x200030000 (7 ∷ [])
+    ∷ calls sample (12 ∷ 20 ∷ 9 ∷ 9 ∷ 0 ∷ []) 1 0x200100000 (7 ∷ [])
+    ∷ calls sample (12 ∷ 20 ∷ 9 ∷ 9 ∷ 0 ∷ 0 ∷ 12 ∷ []) 1 0x200110000 (7 ∷ [])
+    ∷ calls sample (12 ∷ 20 ∷ 9 ∷ 9 ∷ 0 ∷ 0 ∷ []) 0 0x200110000 []
+    ∷ calls sample (12 ∷ 20 ∷ 9 ∷ 9 ∷ 0 ∷ 0 ∷ []) 4 0x200110000 (replicate 4 7)
+    ∷ calls sample (replicate 389 0) 64 0x200110000 (replicate 64 7)
+    ∷ calls sample (replicate 390 0) 65 0x200100000 (replicate 65 7)
+    ∷ calls (take 79 sample) (12 ∷ 20 ∷ 9 ∷ 9 ∷ 0 ∷ 0 ∷ []) 1 0x200030000 (7 ∷ [])
     ∷ []
 
 unfoldable pub numberOf : NumberCase → ℕ

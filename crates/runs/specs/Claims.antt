@@ -14,11 +14,11 @@
 --     AnswerSaid         `answerOf` and `answerOutcome` are inverses, so a slot says the whole answer
 -- And of runs over numbers.
 --     NumbersRun         over the numbers of rows it is the run over the rows, and its slots hold their answers' numbers
---     NumbersWhole       and every list of four numbers a row is the numbers of rows
---     NumbersAnswered    slot i is the number of the answer to the query of numbers 4 i to 4 i + 3
+--     NumbersWhole       and every list of six 16-bit numbers a row is the numbers of rows
+--     NumbersAnswered    slot i is the number of the answer to the query of numbers 6 i to 6 i + 5
 --     NumbersRefused     it is refused for its own causes alone
 --     NumbersLeft        a refused call leaves every slot, and there are always as many
---     NumbersFaults      the image's refusal first; fewer than 4 numbers, and 260 or more, are 16; else 17 unless there are four for
+--     NumbersFaults      the image's refusal first; fewer than 6 numbers, and 390 or more, are 16; else 17 unless there are six for
 --                        each slot
 use Prim.Native.Nat.{ℕ, _+_, _*_, _<_, _≤_}
 use mathlib.Core.Path.{_≡_}
@@ -120,13 +120,14 @@ NumbersRun =
     × (codesAfter l (numbersOf qs) ys ≡ unlessRefused (queriesFault l (length qs) (length ys)) (map (rowCode l) qs) ys)
 
 abbrev pub NumbersWhole : Type 0
-NumbersWhole = (ns : List ℕ) (m : ℕ) → length ns ≡ 4 * m → numbersOf (rowsOf ns) ≡ ns
+NumbersWhole = (ns : List ℕ) (m : ℕ) → ((i : ℕ) → getD ns i 0 < 65536) → length ns ≡ 6 * m → numbersOf (rowsOf ns) ≡ ns
 
 abbrev pub NumbersAnswered : Type 0
 NumbersAnswered =
     (l ns ys : List ℕ) (i y : ℕ) → numbersFault l (length ns) (length ys) ≡ none → i < length ys
     → getD (codesAfter l ns ys) i y
-    ≡ decisionCode (answer l (queryOf (getD ns (4 * i) 0) (getD ns (4 * i + 1) 0) (getD ns (4 * i + 2) 0) (getD ns (4 * i + 3) 0)))
+    ≡ decisionCode (answer l (queryOf (getD ns (6 * i) 0) (getD ns (6 * i + 1) 0) (getD ns (6 * i + 2) 0) (getD ns (6 * i + 3) 0)
+    (getD ns (6 * i + 4) 0 * 65536 + getD ns (6 * i + 5) 0)))
 
 abbrev pub NumbersRefused : Type 0
 NumbersRefused =
@@ -145,7 +146,7 @@ NumbersFaults =
     (l : List ℕ)
     → ((f : Refusal) (n m : ℕ) → check l ≡ some f → numbersFault l n m ≡ some f)
     × (Accepted l
-    → ((n m : ℕ) → n ≤ 3 → numbersFault l n m ≡ some (refusal 16 0))
-    × ((n m : ℕ) → 260 ≤ n → numbersFault l n m ≡ some (refusal 16 0))
-    × ((n m : ℕ) → 4 ≤ n → n ≤ 259 → (n ≡ 4 * m → ⊥) → numbersFault l n m ≡ some (refusal 17 0))
-    × ((m : ℕ) → 1 ≤ m → m ≤ 64 → numbersFault l (4 * m) m ≡ none))
+    → ((n m : ℕ) → n ≤ 5 → numbersFault l n m ≡ some (refusal 16 0))
+    × ((n m : ℕ) → 390 ≤ n → numbersFault l n m ≡ some (refusal 16 0))
+    × ((n m : ℕ) → 6 ≤ n → n ≤ 389 → (n ≡ 6 * m → ⊥) → numbersFault l n m ≡ some (refusal 17 0))
+    × ((m : ℕ) → 1 ≤ m → m ≤ 64 → numbersFault l (6 * m) m ≡ none))

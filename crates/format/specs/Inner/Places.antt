@@ -37,6 +37,7 @@ pub record RuleAt (l : List ℕ) (at : ℕ) (r : List ℕ) : Type 0 where
   pub here : Stands l at r
   pub long : 8 ≤ length r
   pub kind : ((getD l (at + 1) 0 ≡ 2) × (length r ≡ 11)) ⊎ (getD l (at + 1) 0 ≡ 3)
+  pub condition : getD l (at + 1) 0 ≡ 2 → getD l (at + 10) 0 ≤ 33
   pub source : IsType (countOf l Groups) (wordAt l (at + 2))
   pub dest : IsType (countOf l Groups) (wordAt l (at + 4))
 

@@ -19,6 +19,7 @@ use Rattle.decision.specs.Decide.{queryOf}
 use Rattle.runs.specs.declared.Run.{Run}
 use Rattle.runs.specs.declared.Run.the-variants.{Fit, Unfit, Refused}
 use Rattle.runs.specs.Runs.{rowsFault}
+use Rattle.runs.specs.Numbers.{wordFrom}
 
 abbrev pub openFault : Outcome Starts → ℕ → Bool → Option Refusal
 openFault (refused f) rows fits = some f
@@ -42,4 +43,6 @@ nextRun (Unfit n) i a = Unfit n
 nextRun (Refused f) i a = Refused f
 
 abbrev pub rowAt : List ℕ → ℕ → Query
-rowAt ns i = queryOf (getD ns (4 * i) 0) (getD ns (4 * i + 1) 0) (getD ns (4 * i + 2) 0) (getD ns (4 * i + 3) 0)
+rowAt ns i =
+    queryOf (getD ns (6 * i) 0) (getD ns (6 * i + 1) 0) (getD ns (6 * i + 2) 0) (getD ns (6 * i + 3) 0)
+    (wordFrom (getD ns (6 * i + 4) 0) (getD ns (6 * i + 5) 0))
