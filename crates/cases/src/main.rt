@@ -1,9 +1,10 @@
-// The sample sheet of document 01, with request [2]'s steps, as request [3]'s text and with request [5]'s story, run through the C
-// interface, and records given as parts of an image, which C does not have: each line is a case and its answer. The file stdout beside src/ has what the
-// documents say.
+// The sample sheet of document 01, with request [2]'s steps, as request [3]'s text, with request [5]'s story and request [6]'s
+// switches, run through the C interface, and records given as parts of an image, which C does not have: each line is a case and
+// its answer. The file stdout beside src/ has what the documents say.
 mod batch; // batch.rt: runs of queries on the sample
 mod images; // images.rt: images that are longer than a line
 mod show; // show.rt: a case's line
+mod switches; // switches.rt: rules that a switch turns on
 mod texts; // texts.rt: policies as text
 
 use batch::runs;
@@ -15,6 +16,7 @@ use samples::SAMPLE;
 use show::ask;
 use show::check;
 use show::give;
+use switches::switches;
 use texts::texts;
 
 fn main() {
@@ -24,6 +26,7 @@ fn main() {
     companion();
     shared();
     not_shared();
+    switches();
     cuts();
     members();
     rules();
@@ -48,7 +51,7 @@ fn queries() {
 }
 
 // The sample, with space for two records.
-fn roomy() -> [u8; 102] {
+pub(crate) fn roomy() -> [u8; 102] {
     let mut buffer = [0u8; 102];
     bytes::copy(&SAMPLE, &mut buffer);
     buffer
@@ -100,8 +103,10 @@ fn cuts() {
     longer[2] = 81;
     check(b"one byte more, length field 81", image::leading(&longer));
     let mut condition = SAMPLE;
-    condition[25] = 2;
-    check(b"condition 2", &condition);
+    condition[25] = 33;
+    check(b"condition 33", &condition);
+    condition[25] = 34;
+    check(b"condition 34", &condition);
 }
 
 fn members() {

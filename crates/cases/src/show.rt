@@ -4,7 +4,7 @@ use format::Section;
 use libc::STDOUT_FILENO;
 use samples::SAMPLE;
 
-// The query on the image that a buffer starts with.
+// The query on the image that a buffer starts with, without a switch on.
 pub(crate) fn ask(
     label: &[u8],
     buffer: &[u8],
@@ -13,10 +13,23 @@ pub(crate) fn ask(
     class: u16,
     action: u16,
 ) {
+    ask_on(label, buffer, source, destination, class, action, 0);
+}
+
+// The same under a switch word.
+pub(crate) fn ask_on(
+    label: &[u8],
+    buffer: &[u8],
+    source: u16,
+    destination: u16,
+    class: u16,
+    action: u16,
+    switches: u32,
+) {
     let image = image::leading(buffer);
     line(
         label,
-        mungaite::mungaite_decide(source, destination, class, action, image),
+        mungaite::mungaite_decide(source, destination, class, action, switches, image),
     );
 }
 

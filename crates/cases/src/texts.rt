@@ -10,6 +10,15 @@ pub(crate) fn texts() {
         limit 5 1 10 21 2 10\nlimit 5 2 20 30 1",
         &SAMPLE,
     );
+    let mut switched = SAMPLE;
+    switched[55] = 33;
+    build(
+        b"text of the sample, rule 3 by s31",
+        b"group 20 21\nallow 10 g0 5 1 on\nallow 20 30 5 2 on\ntrans 12 20 5\nallow 13 21 5 1 s31\n\
+        limit 5 1 10 21 2 10\nlimit 5 2 20 30 1\n",
+        &switched,
+    );
+    build(b"allow 1 2 3 4 s32", b"allow 1 2 3 4 s32", &EMPTY);
     build(b"empty text", b"", &EMPTY);
     build(
         b"group 20 21, allow 10 g0 5 1 ON",

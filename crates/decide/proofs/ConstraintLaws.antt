@@ -60,23 +60,23 @@ reaching-all :
     → anyOf (reachingFrom ms f) rs ≡ anyOf (λ a. reaches S a && g (a .source)) rs
 reaching-all S ms k f g e rs = anyOf-same _ _ rs (λ a m. reaching-is S ms k f a ∙ ap (λ b. reaches S a && b) (e (a .source)))
 
-module _ (l : List ℕ) (C : Constraint) where
+module _ (rs : List Rule) (C : Constraint) where
   pub separation-is :
       (first second : List Bool) → Marks (C .first) first → Marks (C .second) second
-      → anyOf (reachingFrom first (sharesSource l second)) (rulesIn l) ≡ separationBroken (rulesIn l) C
+      → anyOf (reachingFrom first (sharesSource rs second)) rs ≡ separationBroken rs C
   unfolding separationBroken sharesSource
   separation-is first second k h =
-      reaching-all (C .first) first k _ (λ X. anyOf (λ b. reaches (C .second) b && touches X (b .source)) (rulesIn l))
-      (λ X. reaching-all (C .second) second h (touches X) (touches X) (λ Y. refl) (rulesIn l))
-      (rulesIn l)
+      reaching-all (C .first) first k _ (λ X. anyOf (λ b. reaches (C .second) b && touches X (b .source)) rs)
+      (λ X. reaching-all (C .second) second h (touches X) (touches X) (λ Y. refl) rs)
+      rs
 
-  pub roster-is : (second list : List Bool) → Marks (C .second) second → Marks (C .list) list → anyOf (reachingFrom second (anyIs list false)) (rulesIn l) ≡ rosterBroken (rulesIn l) C
+  pub roster-is : (second list : List Bool) → Marks (C .second) second → Marks (C .list) list → anyOf (reachingFrom second (anyIs list false)) rs ≡ rosterBroken rs C
   unfolding rosterBroken
-  roster-is second list k h = reaching-all (C .second) second k (anyIs list false) (λ X. not (within X (C .list))) (any-outside (C .list) list h) (rulesIn l)
+  roster-is second list k h = reaching-all (C .second) second k (anyIs list false) (λ X. not (within X (C .list))) (any-outside (C .list) list h) rs
 
-  pub companion-is : (first second : List Bool) → Marks (C .first) first → Marks (C .second) second → not (anyOf (reachingFrom first (anyIs second true)) (rulesIn l)) ≡ companionBroken (rulesIn l) C
+  pub companion-is : (first second : List Bool) → Marks (C .first) first → Marks (C .second) second → not (anyOf (reachingFrom first (anyIs second true)) rs) ≡ companionBroken rs C
   unfolding companionBroken
-  companion-is first second k h = ap not (reaching-all (C .first) first k (anyIs second true) (λ X. touches X (C .second)) (any-touches (C .second) second h) (rulesIn l))
+  companion-is first second k h = ap not (reaching-all (C .first) first k (anyIs second true) (λ X. touches X (C .second)) (any-touches (C .second) second h) rs)
 
 -- ---- the fields of a constraint
 
@@ -137,7 +137,7 @@ module _ (rs : List Rule) (C : Constraint) where
 
 module _ (l : List ℕ) (at : ℕ) (r : List ℕ) (h : ConstraintAt l at r) (q : Query) where
   abbrev fails? : Bool
-  fails? = fails (rulesIn l) (requestIn l q) (constraintOf (policyOf l) r)
+  fails? = fails (rulesIn l (q .switches)) (requestIn l q) (constraintOf (policyOf l) r)
 
   abbrev first? : Bool
   first? = within (setIn l (q .source)) (setAt l (at + 6))
@@ -146,7 +146,7 @@ module _ (l : List ℕ) (at : ℕ) (r : List ℕ) (h : ConstraintAt l at r) (q :
   second? = within (setIn l (q .dest)) (setAt l (at + 8))
 
   fails-is :
-      fails? ≡ (eqb (wordAt l (at + 2)) (q .class) && eqb (wordAt l (at + 4)) (q .action)) && (first? && second?) && broken (rulesIn l) (constraintOf (policyOf l) r)
+      fails? ≡ (eqb (wordAt l (at + 2)) (q .class) && eqb (wordAt l (at + 4)) (q .action)) && (first? && second?) && broken (rulesIn l (q .switches)) (constraintOf (policyOf l) r)
   unfolding fails applies inside requestOf
   fails-is = rw (class-is l at r h, action-is l at r h, first-is l at r h, second-is l at r h) refl
 
@@ -158,7 +158,7 @@ module _ (l : List ℕ) (at : ℕ) (r : List ℕ) (h : ConstraintAt l at r) (q :
     fails-action n = fails-is ∙ simp (eq-eqb (wordAt l (at + 2)) (q .class) c, ne-eqb (wordAt l (at + 4)) (q .action) n)
 
     module _ (a : wordAt l (at + 4) ≡ q .action) where
-      applies-is : fails? ≡ (first? && second?) && broken (rulesIn l) (constraintOf (policyOf l) r)
+      applies-is : fails? ≡ (first? && second?) && broken (rulesIn l (q .switches)) (constraintOf (policyOf l) r)
       applies-is = fails-is ∙ simp (eq-eqb (wordAt l (at + 2)) (q .class) c, eq-eqb (wordAt l (at + 4)) (q .action) a)
 
       pub fails-first : first? ≡ false → fails? ≡ false
@@ -167,5 +167,5 @@ module _ (l : List ℕ) (at : ℕ) (r : List ℕ) (h : ConstraintAt l at r) (q :
       pub fails-second : first? ≡ true → second? ≡ false → fails? ≡ false
       fails-second k n = applies-is ∙ simp (k, n)
 
-      pub fails-broken : first? ≡ true → second? ≡ true → fails? ≡ broken (rulesIn l) (constraintOf (policyOf l) r)
+      pub fails-broken : first? ≡ true → second? ≡ true → fails? ≡ broken (rulesIn l (q .switches)) (constraintOf (policyOf l) r)
       fails-broken k n = applies-is ∙ simp (k, n)

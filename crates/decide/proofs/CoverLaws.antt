@@ -16,6 +16,7 @@ use Rattle.format.proofs.Bytes.{word-at}
 use Rattle.format.proofs.Shapes.{stands-word}
 use Rattle.decision.specs.declared.Query.{Query}
 use Rattle.decision.specs.Sets.{allOf, within}
+use Rattle.decision.specs.Conditions.{isOn}
 use Rattle.decision.specs.Reading.{Rule, Request, asks, ruleOf, requestOf}
 use Rattle.decision.specs.Decide.{tests, covers}
 use Rattle.decide.specs.Inner.Parts.{setIn, setAt, requestIn}
@@ -44,7 +45,7 @@ covers-asked a R =
 
 module _ (l : List ℕ) (at : ℕ) (q : Query) (r : List ℕ) (h : RuleAt l at r) where
   abbrev may? : Bool
-  may? = mayAt l at (q .class) (q .action)
+  may? = mayAt l at q
 
   abbrev dest? : Bool
   dest? = within (setIn l (q .dest)) (setAt l (at + 4))
@@ -52,7 +53,7 @@ module _ (l : List ℕ) (at : ℕ) (q : Query) (r : List ℕ) (h : RuleAt l at r
   abbrev source? : Bool
   source? = within (setIn l (q .source)) (setAt l (at + 2))
 
-  asked-is : asked? (requestIn l q) (ruleOf (policyOf l) r) ≡ may?
+  asked-is : asked? (requestIn l q) (ruleOf (policyOf l) (q .switches) r) ≡ may?
   unfolding asked? asks ruleOf requestOf mayAt allowAt
   asked-is =
       let k1 : getD r 1 0 ≡ getD l (at + 1) 0 = h .here .field 1 (omega (arith, h .long)) in
@@ -65,24 +66,24 @@ module _ (l : List ℕ) (at : ℕ) (q : Query) (r : List ℕ) (h : RuleAt l at r
       (λ w. simp (k1, eq-eqb (getD l (at + 1) 0) 3 w, ne-eqb (getD l (at + 1) 0) 2 (omega (arith, w))))
       (h .kind)
 
-  pub covers-is : covers (requestIn l q) (ruleOf (policyOf l) r) ≡ may? && dest? && source?
+  pub covers-is : covers (requestIn l q) (ruleOf (policyOf l) (q .switches) r) ≡ may? && dest? && source?
   unfolding ruleOf requestOf
   covers-is =
       let k2 : wordAt r 2 ≡ wordAt l (at + 2) = stands-word l at r 2 (h .here) (omega (arith, h .long)) in
       let k4 : wordAt r 4 ≡ wordAt l (at + 4) = stands-word l at r 4 (h .here) (omega (arith, h .long)) in
-      covers-asked (requestIn l q) (ruleOf (policyOf l) r) ∙ rw (asked-is, k2, k4) refl
+      covers-asked (requestIn l q) (ruleOf (policyOf l) (q .switches) r) ∙ rw (asked-is, k2, k4) refl
 
-  pub covers-no-may : may? ≡ false → covers (requestIn l q) (ruleOf (policyOf l) r) ≡ false
+  pub covers-no-may : may? ≡ false → covers (requestIn l q) (ruleOf (policyOf l) (q .switches) r) ≡ false
   covers-no-may e = covers-is ∙ simp e
 
-  pub covers-no-dest : dest? ≡ false → covers (requestIn l q) (ruleOf (policyOf l) r) ≡ false
+  pub covers-no-dest : dest? ≡ false → covers (requestIn l q) (ruleOf (policyOf l) (q .switches) r) ≡ false
   covers-no-dest e = covers-is ∙ go may? source?
     where
       go : (m s : Bool) → m && dest? && s ≡ false
       go true s = simp e
       go false s = refl
 
-  pub covers-no-source : source? ≡ false → covers (requestIn l q) (ruleOf (policyOf l) r) ≡ false
+  pub covers-no-source : source? ≡ false → covers (requestIn l q) (ruleOf (policyOf l) (q .switches) r) ≡ false
   covers-no-source e = covers-is ∙ go may? dest?
     where
       go : (m d : Bool) → m && d && source? ≡ false
@@ -90,7 +91,7 @@ module _ (l : List ℕ) (at : ℕ) (q : Query) (r : List ℕ) (h : RuleAt l at r
       go true false = refl
       go false d = refl
 
-  pub covers-yes : may? ≡ true → dest? ≡ true → source? ≡ true → covers (requestIn l q) (ruleOf (policyOf l) r) ≡ true
+  pub covers-yes : may? ≡ true → dest? ≡ true → source? ≡ true → covers (requestIn l q) (ruleOf (policyOf l) (q .switches) r) ≡ true
   covers-yes a b c = covers-is ∙ simp (a, b, c)
 
 -- the low byte of the class
@@ -100,31 +101,31 @@ low-byte l at x class e few is =
     let low = ap (λ (i : ℕ). getD l i 0) z in
     omega (arith, word-at l (at + 6), low)
 
-module _ (l : List ℕ) (at class action : ℕ) where
-  pub may-transition : allowAt l at ≡ false → mayAt l at class action ≡ true
+module _ (l : List ℕ) (at : ℕ) (q : Query) where
+  pub may-transition : allowAt l at ≡ false → mayAt l at q ≡ true
   unfolding mayAt
   may-transition e = simp e
 
   module _ (k : allowAt l at ≡ true) where
-    pub may-other : (wordAt l (at + 6) ≡ class → ⊥) → mayAt l at class action ≡ false
+    pub may-other : (wordAt l (at + 6) ≡ q .class → ⊥) → mayAt l at q ≡ false
     unfolding mayAt
-    may-other h = simp (k, ne-eqb (wordAt l (at + 6)) class h) (either (eqb (getD l (at + 10) 0) 1))
+    may-other h = simp (k, ne-eqb (wordAt l (at + 6)) (q .class) h) (either (isOn (q .switches) (getD l (at + 10) 0)))
       where
         either : (b : Bool) → cond b false false ≡ false
         either true = refl
         either false = refl
 
-    pub may-off : (getD l (at + 10) 0 ≡ 1 → ⊥) → mayAt l at class action ≡ false
+    pub may-off : isOn (q .switches) (getD l (at + 10) 0) ≡ false → mayAt l at q ≡ false
     unfolding mayAt
-    may-off h = simp (k, ne-eqb (getD l (at + 10) 0) 1 h)
+    may-off h = simp (k, h)
 
-    pub may-class : (c : ℕ) → c ≡ wordAt l (at + 6) → getD l (at + 10) 0 ≡ 1 → (c ≡ class → ⊥) → mayAt l at class action ≡ false
+    pub may-class : (c : ℕ) → c ≡ wordAt l (at + 6) → isOn (q .switches) (getD l (at + 10) 0) ≡ true → (c ≡ q .class → ⊥) → mayAt l at q ≡ false
     unfolding mayAt
-    may-class c e o h = simp (k, eq-eqb (getD l (at + 10) 0) 1 o, ne-eqb (wordAt l (at + 6)) class (λ d. h (e ∙ d)))
+    may-class c e o h = simp (k, o, ne-eqb (wordAt l (at + 6)) (q .class) (λ d. h (e ∙ d)))
 
-    pub may-action : (c a : ℕ) → c ≡ wordAt l (at + 6) → a ≡ wordAt l (at + 8) → getD l (at + 10) 0 ≡ 1 → c ≡ class → mayAt l at class action ≡ eqb a action
+    pub may-action : (c a : ℕ) → c ≡ wordAt l (at + 6) → a ≡ wordAt l (at + 8) → isOn (q .switches) (getD l (at + 10) 0) ≡ true → c ≡ q .class → mayAt l at q ≡ eqb a (q .action)
     unfolding mayAt
-    may-action c a e f o h = rw f (simp (k, eq-eqb (getD l (at + 10) 0) 1 o, eq-eqb (wordAt l (at + 6)) class (sym e ∙ h)))
+    may-action c a e f o h = rw f (simp (k, o, eq-eqb (wordAt l (at + 6)) (q .class) (sym e ∙ h)))
 
 -- ---- a test that is made only where it is asked
 

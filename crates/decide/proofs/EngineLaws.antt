@@ -41,14 +41,14 @@ found-back (some n) = refl
 module _ (l : List ℕ) (q : Query) where
   pub engine-is :
       (a b : Found) → a ≡ firstRule l q → b ≡ firstConstraint l q
-      → deciding.decisionOf (nearest (requestIn l q) (rulesIn l)) (optionOf a) (optionOf b) ≡ deciding.decide (policyOf l) q
+      → deciding.decisionOf (nearest (requestIn l q) (rulesIn l (q .switches))) (optionOf a) (optionOf b) ≡ deciding.decide (policyOf l) q
   unfolding deciding.decide deciding.judge firstRule firstConstraint
-  engine-is a b e f = rw (e, f, found-back (firstAt (covers (requestIn l q)) 0 (rulesIn l)), found-back (firstAt (fails (rulesIn l) (requestIn l q)) 0 (constraintsOf (policyOf l))))
+  engine-is a b e f = rw (e, f, found-back (firstAt (covers (requestIn l q)) 0 (rulesIn l (q .switches))), found-back (firstAt (fails (rulesIn l (q .switches)) (requestIn l q)) 0 (constraintsOf (policyOf l))))
 
   -- no rule was found, so none covers
   pub found-none : Nothing ≡ firstRule l q → Uncovered l q
   unfolding firstRule
-  found-none e = firstAt-none (covers (requestIn l q)) 0 (rulesIn l) (sym (found-back _) ∙ ap optionOf (sym e))
+  found-none e = firstAt-none (covers (requestIn l q)) 0 (rulesIn l (q .switches)) (sym (found-back _) ∙ ap optionOf (sym e))
 
   -- ---- the answer
 

@@ -30,7 +30,7 @@ kept-more f table n v k e = record { is = by-set 0 (λ (j x : ℕ). 0 < x → x 
 
 -- ---- of a test
 
-bit-two : (b : Bool) → eqb (bit b + 1) 2 ≡ b
+pub bit-two : (b : Bool) → eqb (bit b + 1) 2 ≡ b
 unfolding bit
 bit-two true = refl
 bit-two false = refl

@@ -13,6 +13,7 @@ pub mod CoverLaws
 pub mod NearerLaws
 pub mod SourceLaws
 pub mod ConstraintLaws
+pub mod VerdictLaws
 pub mod EngineLaws
 pub mod RowLaws
 pub mod BatchLaws

@@ -28,6 +28,7 @@ use Rattle.decision.specs.declared.Query.{Query}
 use Rattle.decision.specs.declared.Nearest.{Nearest}
 use Rattle.decision.specs.declared.Nearest.the-variants.{NoRules, Near}
 use Rattle.decision.specs.Sets.{anyOf, allOf, within}
+use Rattle.decision.specs.Conditions.{isOn}
 use Rattle.decision.specs.Reading.{Rule, Request, asks, ruleOf, requestOf}
 use Rattle.decision.specs.Decide.{tests, covers, passes, steps, nearest, nearestBy, nearestOf, firstAt}
 use Rattle.decision.specs.Inner.OnePass.{nearer, nearestFrom}
@@ -45,18 +46,18 @@ use Rattle.decide.proofs.WalkLaws.{walk-start, walk-next, walk-hit, wal
 
 module _ (l : List ℕ) (at : ℕ) where
   module _ (e : allowAt l at ≡ false) where
-    pub off-no : offAt l at ≡ false
+    pub off-no : (w : ℕ) → offAt l w at ≡ false
     unfolding offAt
-    off-no = simp e
+    off-no w = simp e
 
     pub other-no : (class : ℕ) → otherClassAt l at class ≡ false
     unfolding otherClassAt
     other-no class = simp e
 
   module _ (e : allowAt l at ≡ true) where
-    pub off-yes : offAt l at ≡ not (eqb (getD l (at + 10) 0) 1)
+    pub off-yes : (w : ℕ) → offAt l w at ≡ not (isOn w (getD l (at + 10) 0))
     unfolding offAt
-    off-yes = simp e
+    off-yes w = simp e
 
     pub other-yes : (class : ℕ) → otherClassAt l at class ≡ not (eqb (wordAt l (at + 6)) class)
     unfolding otherClassAt
@@ -154,20 +155,20 @@ module _ (l : List ℕ) (at : ℕ) (q : Query) (r : List ℕ) (h : RuleAt l at r
   source? = within (setIn l (q .source)) (setAt l (at + 2))
 
   abbrev counted : ℕ
-  counted = shortSteps (requestIn l q) (ruleOf (policyOf l) r)
+  counted = shortSteps (requestIn l q) (ruleOf (policyOf l) (q .switches) r)
 
-  on-is : ruleOf (policyOf l) r .on ≡ not (offAt l at)
+  on-is : ruleOf (policyOf l) (q .switches) r .on ≡ not (offAt l (q .switches) at)
   unfolding ruleOf offAt allowAt
   on-is =
       let k1 : getD r 1 0 ≡ getD l (at + 1) 0 = h .here .field 1 (omega (arith, h .long)) in
       ⊎-elim
       (λ w.
       let k10 : getD r 10 0 ≡ getD l (at + 10) 0 = h .here .field 10 (omega (arith, w .1)) in
-      simp (k1, k10, eq-eqb (getD l (at + 1) 0) 2 (w .0), ne-eqb (getD l (at + 1) 0) 3 (omega (arith, w .0))) (twice (eqb (getD l (at + 10) 0) 1)))
+      simp (k1, k10, eq-eqb (getD l (at + 1) 0) 2 (w .0), ne-eqb (getD l (at + 1) 0) 3 (omega (arith, w .0))) (twice (isOn (q .switches) (getD l (at + 10) 0))))
       (λ w. simp (k1, eq-eqb (getD l (at + 1) 0) 3 w, ne-eqb (getD l (at + 1) 0) 2 (omega (arith, w))))
       (h .kind)
 
-  class-is : asks (ruleOf (policyOf l) r .class) (q .class) ≡ not (otherClassAt l at (q .class))
+  class-is : asks (ruleOf (policyOf l) (q .switches) r .class) (q .class) ≡ not (otherClassAt l at (q .class))
   unfolding ruleOf asks otherClassAt allowAt
   class-is =
       let k1 : getD r 1 0 ≡ getD l (at + 1) 0 = h .here .field 1 (omega (arith, h .long)) in
@@ -178,13 +179,13 @@ module _ (l : List ℕ) (at : ℕ) (q : Query) (r : List ℕ) (h : RuleAt l at r
       (λ w. simp (k1, eq-eqb (getD l (at + 1) 0) 3 w, ne-eqb (getD l (at + 1) 0) 2 (omega (arith, w))))
       (h .kind)
 
-  counted-is : counted ≡ cond (not (offAt l at)) (cond source? (cond dest? (cond (not (otherClassAt l at (q .class))) 4 3) 2) 1) 0
+  counted-is : counted ≡ cond (not (offAt l (q .switches) at)) (cond source? (cond dest? (cond (not (otherClassAt l at (q .class))) 4 3) 2) 1) 0
   unfolding requestOf
-  counted-is = short-is (requestIn l q) (ruleOf (policyOf l) r) ∙ rw (on-is, class-is, source-is l at r h, dest-is l at r h)
+  counted-is = short-is (requestIn l q) (ruleOf (policyOf l) (q .switches) r) ∙ rw (on-is, class-is, source-is l (q .switches) at r h, dest-is l (q .switches) at r h)
 
   -- a class that differs ends the count, and a condition that is off
   pub class-stops : (most : ℕ) → 3 ≤ most → otherClassAt l at (q .class) ≡ true → counted ≤ most
-  class-stops most m e = go (offAt l at) source? dest? (counted-is ∙ rw e refl)
+  class-stops most m e = go (offAt l (q .switches) at) source? dest? (counted-is ∙ rw e refl)
     where
       go : (o s d : Bool) → counted ≡ cond (not o) (cond s (cond d 3 2) 1) 0 → counted ≤ most
       go true s d is = omega arith
@@ -192,26 +193,26 @@ module _ (l : List ℕ) (at : ℕ) (q : Query) (r : List ℕ) (h : RuleAt l at r
       go false true false is = omega arith
       go false true true is = omega arith
 
-  pub off-stops : (most : ℕ) → offAt l at ≡ true → counted ≤ most
+  pub off-stops : (most : ℕ) → offAt l (q .switches) at ≡ true → counted ≤ most
   off-stops most e = let is : counted ≡ 0 = counted-is ∙ simp e in omega arith
 
   -- and a type that fails
   pub source-stops : (most : ℕ) → 1 ≤ most → source? ≡ false → counted ≤ most
-  source-stops most m e = go (offAt l at) (counted-is ∙ rw e refl)
+  source-stops most m e = go (offAt l (q .switches) at) (counted-is ∙ rw e refl)
     where
       go : (o : Bool) → counted ≡ cond (not o) 1 0 → counted ≤ most
       go true is = omega arith
       go false is = omega arith
 
   pub dest-stops : (most : ℕ) → 2 ≤ most → dest? ≡ false → counted ≤ most
-  dest-stops most m e = go (offAt l at) source? (counted-is ∙ rw e refl)
+  dest-stops most m e = go (offAt l (q .switches) at) source? (counted-is ∙ rw e refl)
     where
       go : (o s : Bool) → counted ≡ cond (not o) (cond s 2 1) 0 → counted ≤ most
       go true s is = omega arith
       go false false is = omega arith
       go false true is = omega arith
 
-  module _ (on : offAt l at ≡ false) where
+  module _ (on : offAt l (q .switches) at ≡ false) where
     pub steps-source : source? ≡ false → counted ≡ 1
     steps-source s = counted-is ∙ simp (on, s)
 
@@ -265,7 +266,7 @@ module _ {A : Type 0} (f : A → ℕ) where
 
 module _ (l : List ℕ) (q : Query) where
   abbrev whole : Nearest
-  whole = nearest (requestIn l q) (rulesIn l)
+  whole = nearest (requestIn l q) (rulesIn l (q .switches))
 
   abbrev rest : Best → ℕ → List Rule → Nearest
   rest b n rs = nearestFrom (shortSteps (requestIn l q)) (nearOf b) n rs
@@ -273,36 +274,36 @@ module _ (l : List ℕ) (q : Query) where
   pub near-empty : (count : ℕ) → count ≡ countOf l Rules → count ≡ 0 → NoRules ≡ whole
   unfolding nearest nearestBy nearestOf firstAt
   near-empty count e z =
-      let none : rulesIn l ≡ [] = all-rules l ∙ ap (map (ruleOf (policyOf l))) (records-none l (startOf l Rules) (countOf l Rules) (sym e ∙ z)) in
+      let none : rulesIn l (q .switches) ≡ [] = all-rules l (q .switches) ∙ ap (map (ruleOf (policyOf l) (q .switches))) (records-none l (startOf l Rules) (countOf l Rules) (sym e ∙ z)) in
       rw none refl
 
-  some-first : (count : ℕ) → count ≡ countOf l Rules → (count ≡ 0 → ⊥) → nearestFrom (shortSteps (requestIn l q)) NoRules 0 (rulesIn l) ≡ rest (record { steps = 0; rule = 0 }) 0 (rulesIn l)
+  some-first : (count : ℕ) → count ≡ countOf l Rules → (count ≡ 0 → ⊥) → nearestFrom (shortSteps (requestIn l q)) NoRules 0 (rulesIn l (q .switches)) ≡ rest (record { steps = 0; rule = 0 }) 0 (rulesIn l (q .switches))
   some-first count e z =
       let next : countOf l Rules ≡ suc (countOf l Rules - 1) = omega (arith, z) in
       let at : ℕ = startOf l Rules in
-      let is : rulesIn l ≡ ruleOf (policyOf l) (recordAt l at) ∷ map (ruleOf (policyOf l)) (recordsAt l (at + getD l at 0) (countOf l Rules - 1)) = all-rules l ∙ ap (map (ruleOf (policyOf l))) (records-next l at (countOf l Rules) (countOf l Rules - 1) next) in
-      rw is (from-first (shortSteps (requestIn l q)) (ruleOf (policyOf l) (recordAt l at)) (map (ruleOf (policyOf l)) (recordsAt l (at + getD l at 0) (countOf l Rules - 1))))
+      let is : rulesIn l (q .switches) ≡ ruleOf (policyOf l) (q .switches) (recordAt l at) ∷ map (ruleOf (policyOf l) (q .switches)) (recordsAt l (at + getD l at 0) (countOf l Rules - 1)) = all-rules l (q .switches) ∙ ap (map (ruleOf (policyOf l) (q .switches))) (records-next l at (countOf l Rules) (countOf l Rules - 1) next) in
+      rw is (from-first (shortSteps (requestIn l q)) (ruleOf (policyOf l) (q .switches) (recordAt l at)) (map (ruleOf (policyOf l) (q .switches)) (recordsAt l (at + getD l at 0) (countOf l Rules - 1))))
 
   pub near-start :
       Uncovered l q → (from count : ℕ) → from ≡ startOf l Rules → count ≡ countOf l Rules → (count ≡ 0 → ⊥)
       → AtNearest l q (record { steps = 0; rule = 0 }) count 0 from
   unfolding nearest
   near-start u from count e c z =
-      walk-start Rules (ruleOf (policyOf l)) l whole (rest (record { steps = 0; rule = 0 })) from count e c
-      (nearest-same (steps (requestIn l q)) (shortSteps (requestIn l q)) (rulesIn l) (λ r m. short-steps (requestIn l q) r (anyOf-none (covers (requestIn l q)) u m))
+      walk-start Rules (ruleOf (policyOf l) (q .switches)) l whole (rest (record { steps = 0; rule = 0 })) from count e c
+      (nearest-same (steps (requestIn l q)) (shortSteps (requestIn l q)) (rulesIn l (q .switches)) (λ r m. short-steps (requestIn l q) r (anyOf-none (covers (requestIn l q)) u m))
       ∙ some-first count c z
-      ∙ ap (rest (record { steps = 0; rule = 0 }) 0) (all-rules l))
+      ∙ ap (rest (record { steps = 0; rule = 0 }) 0) (all-rules l (q .switches)))
 
   module _ (b : Best) (count n at : ℕ) (w : AtNearest l q b count n at) where
     abbrev here : ℕ
-    here = shortSteps (requestIn l q) (ruleOf (policyOf l) (recordAt l at))
+    here = shortSteps (requestIn l q) (ruleOf (policyOf l) (q .switches) (recordAt l at))
 
     pub near-end : (n < count → ⊥) → nearOf b ≡ whole
     unfolding nearestFrom
-    near-end h = sym (walk-end Rules (ruleOf (policyOf l)) l whole (rest b) count n at w h)
+    near-end h = sym (walk-end Rules (ruleOf (policyOf l) (q .switches)) l whole (rest b) count n at w h)
 
     module _ (more : n < count) where
-      turn : (b′ : Best) → nearer (nearOf b) here n ≡ nearOf b′ → (rs : List Rule) → rest b n (ruleOf (policyOf l) (recordAt l at) ∷ rs) ≡ rest b′ (n + 1) rs
+      turn : (b′ : Best) → nearer (nearOf b) here n ≡ nearOf b′ → (rs : List Rule) → rest b n (ruleOf (policyOf l) (q .switches) (recordAt l at) ∷ rs) ≡ rest b′ (n + 1) rs
       unfolding nearestFrom
       turn b′ e rs =
           let z : suc n ≡ n + 1 = omega arith in
@@ -310,16 +311,16 @@ module _ (l : List ℕ) (q : Query) where
 
       -- a rule that comes no nearer is passed over
       pub near-over : here ≤ b .steps → (to : ℕ) → to ≡ at + getD l at 0 → AtNearest l q b count (n + 1) to
-      near-over h to = walk-next Rules (ruleOf (policyOf l)) l whole (rest b) count n at w more (rest b) to (turn b (stays-best b here n h))
+      near-over h to = walk-next Rules (ruleOf (policyOf l) (q .switches)) l whole (rest b) count n at w more (rest b) to (turn b (stays-best b here n h))
 
       module _ (s : ℕ) (is : s ≡ here) (h : b .steps < s) where
         taken : nearer (nearOf b) here n ≡ Near s n
         taken = ap (λ (k : ℕ). nearer (nearOf b) k n) (sym is) ∙ now-best b s n h
 
         pub near-next : (to : ℕ) → to ≡ at + getD l at 0 → AtNearest l q (record { steps = s; rule = n }) count (n + 1) to
-        near-next to = walk-next Rules (ruleOf (policyOf l)) l whole (rest b) count n at w more (rest (record { steps = s; rule = n })) to (turn (record { steps = s; rule = n }) taken)
+        near-next to = walk-next Rules (ruleOf (policyOf l) (q .switches)) l whole (rest b) count n at w more (rest (record { steps = s; rule = n })) to (turn (record { steps = s; rule = n }) taken)
 
         pub near-four : s ≡ 4 → Near 4 n ≡ whole
         near-four e =
-            sym (walk-hit Rules (ruleOf (policyOf l)) l whole (rest b) count n at w more (Near 4 n)
+            sym (walk-hit Rules (ruleOf (policyOf l) (q .switches)) l whole (rest b) count n at w more (Near 4 n)
             (λ rs. turn (record { steps = s; rule = n }) taken rs ∙ ap (λ (k : ℕ). nearestFrom (shortSteps (requestIn l q)) (Near k n) (n + 1) rs) e ∙ stays (shortSteps (requestIn l q)) 4 n (n + 1) rs (short-few (requestIn l q))))

@@ -1,7 +1,7 @@
 -- Laws of a run over numbers. Assumes nothing.
 --     fault, codes, out, rows    its refusal, its rows' numbers, what it comes to after i rows, how many are decided
 --     begun-numbers              what it begins with
---     row-slot, row-few, row-numbers   of a row that is decided: its slot, its number, its four numbers
+--     row-slot, row-few, row-numbers   of a row that is decided: its slot, its number, its six numbers
 --     row-run, row-code          what the run comes to after it, and its slot
 use Prim.Native.Nat.{ℕ, suc, _+_, _*_, _/_, _<_}
 use mathlib.Core.Path.{_≡_, sym, ap, subst, _∙_}
@@ -30,7 +30,7 @@ use Rattle.decide.specs.declared.steps.Step.{Step}
 use Rattle.decide.specs.Inner.Steps.{Begins, stepOf}
 
 abbrev noQuery : Query
-noQuery = queryOf 0 0 0 0
+noQuery = queryOf 0 0 0 0 0
 
 module _ (l ns ys : List ℕ) where
   abbrev pub fault : Option Refusal
@@ -45,10 +45,10 @@ module _ (l ns ys : List ℕ) where
   abbrev pub rows : ℕ
   rows = rowsFor (runSaid fault) (length (rowsOf ns))
 
-  pub begun-numbers : (t : Bool) (b : Begun) → t ≡ eqb (length ns) (4 * length ys) → Begins l (length ns / 4) (runFault l (length ns / 4) t) b → Begins l (length (rowsOf ns)) fault b
+  pub begun-numbers : (t : Bool) (b : Begun) → t ≡ eqb (length ns) (6 * length ys) → Begins l (length ns / 6) (runFault l (length ns / 6) t) b → Begins l (length (rowsOf ns)) fault b
   begun-numbers t b e k =
-      let f : runFault l (length ns / 4) t ≡ fault = ap (runFault l (length ns / 4)) e ∙ sym (numbers-fault l (length ns) (length ys)) in
-      subst (λ n. Begins l n fault b) (sym (rows-many ns)) (subst (λ x. Begins l (length ns / 4) x b) f k)
+      let f : runFault l (length ns / 6) t ≡ fault = ap (runFault l (length ns / 6)) e ∙ sym (numbers-fault l (length ns) (length ys)) in
+      subst (λ n. Begins l n fault b) (sym (rows-many ns)) (subst (λ x. Begins l (length ns / 6) x b) f k)
 
   module _ (i r : ℕ) (e : r ≡ rows) (h : i < r) where
     row-none : fault ≡ none
@@ -63,7 +63,7 @@ module _ (l ns ys : List ℕ) where
     pub row-few : i < 64
     row-few = omega (arith, few-numbers l (length ns) (length ys) row-none, rows-many ns, row-in)
 
-    pub row-numbers : 4 * i + 3 < length ns
+    pub row-numbers : 6 * i + 5 < length ns
     row-numbers = row-inside ns i row-in
 
     module _ (q : Query) (s : Step) (a : q ≡ rowAt ns i) (z : s ≡ stepOf l q (out i) i) where

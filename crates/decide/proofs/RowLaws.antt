@@ -17,7 +17,7 @@ filled l b slots k = fill (numbers l b) slots k
 
 module _ (l b slots : List ℕ) where
   pub rows-next :
-      (s : List ℕ) (k v : ℕ) → k < length b / 8 → k < length slots → v ≡ decisionCode (answer l (queryAt b (8 * k)))
+      (s : List ℕ) (k v : ℕ) → k < length b / 12 → k < length slots → v ≡ decisionCode (answer l (queryAt b (12 * k)))
       → s ≡ filled l b slots k → set s k v ≡ filled l b slots (k + 1)
   rows-next s k v h f e is =
       ap (λ x. set x k v) is

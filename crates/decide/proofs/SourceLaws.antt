@@ -1,5 +1,6 @@
 -- Laws of the sources that reach an argument, as marks. Assumes nothing.
---     joins, joined-done, joined-reaching, joined-far   marks with a set, with one that was marked, with a rule's source
+--     joins, joined-done, joined-reaching, joined-far, joined-rule   marks with a set, with one that was marked, with the source of the
+--                                                       rule at a place
 --     marking-none, marking-more, marking-done          what is marked at first, with a set, and with a group
 --     sources-start, sources-next, sources-end          the walk that gathers them
 --     shared-is                                         the two share a member where a number is marked in both
@@ -17,17 +18,18 @@ use Rattle.format.specs.Format.{countOf}
 use Rattle.format.specs.Policy.{policyOf, startOf}
 use Rattle.format.proofs.Tests.{both, and-true, either, or-left, or-right, or-assoc, false-not-true}
 use Rattle.decision.specs.Sets.{anyOf, isIn}
-use Rattle.decision.specs.Reading.{Rule, ruleOf}
+use Rattle.decision.specs.Reading.{ruleOf}
+use Rattle.format.specs.Inner.Places.{RuleAt}
 use Rattle.decision.proofs.Search.{by-test, anyOf-intro, anyOf-elim}
 use Rattle.decision.proofs.Implies.{touches-elim, touches-intro}
-use Rattle.decide.specs.Inner.Parts.{rulesIn, ruleIn, groupSet}
+use Rattle.decide.specs.Inner.Parts.{rulesIn, ruleIn, groupSet, setAt}
 use Rattle.decide.specs.Inner.Marks.{noMarks, markAll, bothBelow}
-use Rattle.decide.specs.Inner.Rules.{reaching, reachingFrom, sharesSource}
-use Rattle.decide.specs.Inner.Sources.{Joined, has, sourceHas, Marking, AtSource}
+use Rattle.decide.specs.Inner.Rules.{liveAt, reaching, reachingAt, reachingFrom, sharesSource}
+use Rattle.decide.specs.Inner.Sources.{Joined, has, sourceHas, sourceAt, Marking, AtSource}
 use Rattle.decide.proofs.ArrayLaws.{blank, by-set}
 use Rattle.decide.proofs.MarkedLaws.{Small, marked-get}
 use Rattle.decide.proofs.WalkLaws.{walk-start, walk-next, walk-end, all-rules}
-use Rattle.decide.proofs.RuleLaws.{not-reaching, reaching-source}
+use Rattle.decide.proofs.RuleLaws.{reaching-is, source-is}
 
 -- ---- marks, and what is joined to them
 
@@ -68,32 +70,38 @@ marking-none l n = record { all = length-replicate 1024 false; marked = λ g d. 
 
 -- ---- the source of a rule
 
-module _ (ms ns : List Bool) (a : Rule) where
-  pub joined-reaching : (os : List Bool) (S : List ℕ) → reaching ms a ≡ true → a .source ≡ S → Joined ns (has S) os → Joined ns (sourceHas ms a) os
-  joined-reaching os S t e j = record { is = λ m. j .is m ∙ ap (λ b. getD ns m false || b) (sym (reaching-source ms (isIn m) a t ∙ ap (isIn m) e)) }
+module _ (l : List ℕ) (at : ℕ) (ms ns : List Bool) (live : Bool) where
+  pub joined-reaching : (os : List Bool) → reachingAt l ms at live ≡ true → Joined ns (has (setAt l (at + 2))) os → Joined ns (sourceAt l ms at live) os
+  joined-reaching os t j = record { is = λ m. j .is m ∙ ap (λ b. getD ns m false || b && isIn m (setAt l (at + 2))) (sym t) }
 
-  pub joined-far : reaching ms a ≡ false → Joined ns (sourceHas ms a) ns
-  joined-far f = record { is = λ m. sym (ap (λ b. getD ns m false || b) (not-reaching ms (isIn m) a f) ∙ or-false (getD ns m false)) }
+  pub joined-far : reachingAt l ms at live ≡ false → Joined ns (sourceAt l ms at live) ns
+  joined-far f = record { is = λ m. sym (ap (λ b. getD ns m false || b && isIn m (setAt l (at + 2))) f ∙ or-false (getD ns m false)) }
+
+  -- the rule as it is read under a word
+  module _ (w : ℕ) (r : List ℕ) (h : RuleAt l at r) (is : live ≡ liveAt l w at) where
+    pub joined-rule : (os : List Bool) → Joined ns (sourceAt l ms at live) os → Joined ns (sourceHas ms (ruleOf (policyOf l) w r)) os
+    unfolding reachingFrom
+    joined-rule os j = record { is = λ m. j .is m ∙ ap (λ b. getD ns m false || b) (sym (rw (reaching-is l w at r h ms live is, source-is l w at r h))) }
 
 -- ---- the walk
 
-module _ (l : List ℕ) (ms : List Bool) where
-  pub sources-start : (from count : ℕ) → from ≡ startOf l Rules → count ≡ countOf l Rules → AtSource l ms noMarks count 0 from
+module _ (l : List ℕ) (w : ℕ) (ms : List Bool) where
+  pub sources-start : (from count : ℕ) → from ≡ startOf l Rules → count ≡ countOf l Rules → AtSource l w ms noMarks count 0 from
   sources-start from count e h m =
-      walk-start Rules (ruleOf (policyOf l)) l _ _ from count e h
-      (ap (λ b. b || anyOf (reachingFrom ms (isIn m)) (rulesIn l)) (sym (blank false 1024 m)) ∙ ap (λ rs. getD noMarks m false || anyOf (reachingFrom ms (isIn m)) rs) (all-rules l))
+      walk-start Rules (ruleOf (policyOf l) w) l _ _ from count e h
+      (ap (λ b. b || anyOf (reachingFrom ms (isIn m)) (rulesIn l w)) (sym (blank false 1024 m)) ∙ ap (λ rs. getD noMarks m false || anyOf (reachingFrom ms (isIn m)) rs) (all-rules l w))
 
-  module _ (ns : List Bool) (count n at : ℕ) (w : AtSource l ms ns count n at) where
-    pub sources-next : n < count → (os : List Bool) → Joined ns (sourceHas ms (ruleIn l at)) os → (to : ℕ) → to ≡ at + getD l at 0 → AtSource l ms os count (n + 1) to
+  module _ (ns : List Bool) (count n at : ℕ) (k : AtSource l w ms ns count n at) where
+    pub sources-next : n < count → (os : List Bool) → Joined ns (sourceHas ms (ruleIn l w at)) os → (to : ℕ) → to ≡ at + getD l at 0 → AtSource l w ms os count (n + 1) to
     unfolding anyOf
     sources-next more os j to e m =
-        walk-next Rules (ruleOf (policyOf l)) l _ _ count n at (w m) more _ to
-        (λ rs. sym (ap (λ b. b || anyOf (reachingFrom ms (isIn m)) rs) (j .is m) ∙ or-assoc (getD ns m false) (reachingFrom ms (isIn m) (ruleIn l at)) (anyOf (reachingFrom ms (isIn m)) rs)))
+        walk-next Rules (ruleOf (policyOf l) w) l _ _ count n at (k m) more _ to
+        (λ rs. sym (ap (λ b. b || anyOf (reachingFrom ms (isIn m)) rs) (j .is m) ∙ or-assoc (getD ns m false) (reachingFrom ms (isIn m) (ruleIn l w at)) (anyOf (reachingFrom ms (isIn m)) rs)))
         e
 
-    pub sources-end : (n < count → ⊥) → (m : ℕ) → getD ns m false ≡ anyOf (reachingFrom ms (isIn m)) (rulesIn l)
+    pub sources-end : (n < count → ⊥) → (m : ℕ) → getD ns m false ≡ anyOf (reachingFrom ms (isIn m)) (rulesIn l w)
     unfolding anyOf
-    sources-end h m = sym (walk-end Rules (ruleOf (policyOf l)) l _ _ count n at (w m) h ∙ or-false (getD ns m false))
+    sources-end h m = sym (walk-end Rules (ruleOf (policyOf l) w) l _ _ count n at (k m) h ∙ or-false (getD ns m false))
 
 -- ---- numbers that are marked in both
 
@@ -124,27 +132,27 @@ same-tests true b f g = sym (f refl)
 same-tests false true f g = g refl
 same-tests false false f g = refl
 
-module _ (l : List ℕ) (first second : List Bool) (ms ns : List Bool) (all : length ms ≡ 1024)
-    (f : (m : ℕ) → getD ms m false ≡ anyOf (reachingFrom first (isIn m)) (rulesIn l))
-    (g : (m : ℕ) → getD ns m false ≡ anyOf (reachingFrom second (isIn m)) (rulesIn l)) where
-  pub shared-is : bothBelow ms ns 1024 ≡ anyOf (reachingFrom first (sharesSource l second)) (rulesIn l)
+module _ (l : List ℕ) (w : ℕ) (first second : List Bool) (ms ns : List Bool) (all : length ms ≡ 1024)
+    (f : (m : ℕ) → getD ms m false ≡ anyOf (reachingFrom first (isIn m)) (rulesIn l w))
+    (g : (m : ℕ) → getD ns m false ≡ anyOf (reachingFrom second (isIn m)) (rulesIn l w)) where
+  pub shared-is : bothBelow ms ns 1024 ≡ anyOf (reachingFrom first (sharesSource (rulesIn l w) second)) (rulesIn l w)
   unfolding reachingFrom sharesSource
   shared-is = same-tests _ _ there back
     where
-      there : bothBelow ms ns 1024 ≡ true → anyOf (reachingFrom first (sharesSource l second)) (rulesIn l) ≡ true
+      there : bothBelow ms ns 1024 ≡ true → anyOf (reachingFrom first (sharesSource (rulesIn l w) second)) (rulesIn l w) ≡ true
       there t =
           let k = both-elim ms ns 1024 t in
-          let a = anyOf-elim _ (rulesIn l) (sym (f (k .0)) ∙ k .1) in
-          let b = anyOf-elim _ (rulesIn l) (sym (g (k .0)) ∙ k .2) in
+          let a = anyOf-elim _ (rulesIn l w) (sym (f (k .0)) ∙ k .1) in
+          let b = anyOf-elim _ (rulesIn l w) (sym (g (k .0)) ∙ k .2) in
           let x = both (reaching first (a .0)) _ (a .2) in
           let y = both (reaching second (b .0)) _ (b .2) in
           anyOf-intro _ (a .1) (and-true (x .0) (anyOf-intro _ (b .1) (and-true (y .0) (touches-intro (a .0 .source) (b .0 .source) (k .0) (x .1) (y .1)))))
 
-      back : anyOf (reachingFrom first (sharesSource l second)) (rulesIn l) ≡ true → bothBelow ms ns 1024 ≡ true
+      back : anyOf (reachingFrom first (sharesSource (rulesIn l w) second)) (rulesIn l w) ≡ true → bothBelow ms ns 1024 ≡ true
       back t =
-          let a = anyOf-elim _ (rulesIn l) t in
+          let a = anyOf-elim _ (rulesIn l w) t in
           let x = both (reaching first (a .0)) _ (a .2) in
-          let b = anyOf-elim _ (rulesIn l) (x .1) in
+          let b = anyOf-elim _ (rulesIn l w) (x .1) in
           let y = both (reaching second (b .0)) _ (b .2) in
           let k = touches-elim (a .0 .source) (b .0 .source) (y .1) in
           let s : getD ms (k .0) false ≡ true = f (k .0) ∙ anyOf-intro _ (a .1) (and-true (x .0) (k .1)) in

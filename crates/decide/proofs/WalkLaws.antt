@@ -108,9 +108,9 @@ module _ {R : Type 0} where
 
 -- ---- all rules, and all constraints
 
-pub all-rules : (l : List ℕ) → rulesIn l ≡ map (ruleOf (policyOf l)) (recordsAt l (startOf l Rules) (countOf l Rules))
+pub all-rules : (l : List ℕ) (w : ℕ) → rulesIn l w ≡ map (ruleOf (policyOf l) w) (recordsAt l (startOf l Rules) (countOf l Rules))
 unfolding rulesOf
-all-rules l = ap (map (ruleOf (policyOf l))) (policy-rules l)
+all-rules l w = ap (map (ruleOf (policyOf l) w)) (policy-rules l)
 
 pub all-constraints : (l : List ℕ) → constraintsOf (policyOf l) ≡ map (constraintOf (policyOf l)) (recordsAt l (startOf l Constraints) (countOf l Constraints))
 unfolding constraintsOf

@@ -2,6 +2,7 @@
 pub mod Parts
 pub mod Marks
 pub mod Kept
+pub mod Verdicts
 pub mod Walks
 pub mod Rules
 pub mod Nearer

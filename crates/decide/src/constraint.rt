@@ -1,11 +1,12 @@
 // Whether a constraint applies and fails, and the lowest that does.
 use crate::cover::Found;
 use crate::kept::inside;
-use crate::kept::keep;
 use crate::predicates::any_rule;
 use crate::separation::any_shared;
 use crate::sets::mark_at;
 use crate::sets::mark_types;
+use crate::verdicts::keep_verdict;
+use crate::verdicts::recall;
 use crate::word::wide;
 use crate::word::wide_word;
 use crate::word::word_in;
@@ -15,57 +16,58 @@ use format::header;
 ghost use mathlib.Core.Path.{_≡_};
 ghost use Rattle.decision.specs.Decide.{separationBroken, rosterBroken, companionBroken, broken, fails};
 ghost use Rattle.decide.specs.Inner.Parts.{Ready, ConstraintHere, NthConstraint, rulesIn, constraintIn, requestIn};
-ghost use Rattle.decide.specs.Inner.Kept.{Sides, KeptVerdicts, Leaves};
+ghost use Rattle.decide.specs.Inner.Kept.{Sides, Leaves};
+ghost use Rattle.decide.specs.Inner.Verdicts.{KeptVerdicts, HeldFor};
 ghost use Rattle.decide.specs.Inner.Rules.{firstConstraint};
 
-// Whether the separation at a place is broken.
-fn separation_broken(image: &[u8], groups: &[u16; 256], s: Starts, at: usize) -> bool
+// Whether the separation at a place is broken under a switch word.
+fn separation_broken(image: &[u8], groups: &[u16; 256], s: Starts, at: usize, switches: u32) -> bool
     requires { ⌜ Ready (now image) (now groups) s × ConstraintHere (now image) at ⌝ }
-    ensures { λ r. ⌜ r ≡ separationBroken (rulesIn (now (image .entry))) (constraintIn (now (image .entry)) at) ⌝ }
+    ensures { λ r. ⌜ r ≡ separationBroken (rulesIn (now (image .entry)) switches) (constraintIn (now (image .entry)) at) ⌝ }
 {
     let mut first = [false; 1024];
     mark_at(image, groups, at + 6, &mut first);
     let mut second = [false; 1024];
     mark_at(image, groups, at + 8, &mut second);
-    any_shared(image, groups, s, &first, &second)
+    any_shared(image, groups, s, &first, &second, switches)
 }
 
 // Whether the roster at a place is broken: a rule reaches its second argument from off its list.
-fn roster_broken(image: &[u8], groups: &[u16; 256], s: Starts, at: usize) -> bool
+fn roster_broken(image: &[u8], groups: &[u16; 256], s: Starts, at: usize, switches: u32) -> bool
     requires { ⌜ Ready (now image) (now groups) s × ConstraintHere (now image) at ⌝ }
-    ensures { λ r. ⌜ r ≡ rosterBroken (rulesIn (now (image .entry))) (constraintIn (now (image .entry)) at) ⌝ }
+    ensures { λ r. ⌜ r ≡ rosterBroken (rulesIn (now (image .entry)) switches) (constraintIn (now (image .entry)) at) ⌝ }
 {
     let mut second = [false; 1024];
     mark_at(image, groups, at + 8, &mut second);
     let mut list = [false; 1024];
     let types = (wide(image[at]) - 11) / 2;
     mark_types(image, groups, at + 11, types, &mut list);
-    any_rule(image, groups, s, &second, &list, false)
+    any_rule(image, groups, s, &second, &list, false, switches)
 }
 
 // Whether the companion at a place is broken: no rule reaches its first argument from its second.
-fn companion_broken(image: &[u8], groups: &[u16; 256], s: Starts, at: usize) -> bool
+fn companion_broken(image: &[u8], groups: &[u16; 256], s: Starts, at: usize, switches: u32) -> bool
     requires { ⌜ Ready (now image) (now groups) s × ConstraintHere (now image) at ⌝ }
-    ensures { λ r. ⌜ r ≡ companionBroken (rulesIn (now (image .entry))) (constraintIn (now (image .entry)) at) ⌝ }
+    ensures { λ r. ⌜ r ≡ companionBroken (rulesIn (now (image .entry)) switches) (constraintIn (now (image .entry)) at) ⌝ }
 {
     let mut first = [false; 1024];
     mark_at(image, groups, at + 6, &mut first);
     let mut second = [false; 1024];
     mark_at(image, groups, at + 8, &mut second);
-    !any_rule(image, groups, s, &first, &second, true)
+    !any_rule(image, groups, s, &first, &second, true, switches)
 }
 
 // Whether the predicate of the constraint at a place is broken: ban, separation, roster or companion. An accepted constraint
 // has no other number.
-fn predicate_broken(image: &[u8], groups: &[u16; 256], s: Starts, at: usize) -> bool
+fn predicate_broken(image: &[u8], groups: &[u16; 256], s: Starts, at: usize, switches: u32) -> bool
     requires { ⌜ Ready (now image) (now groups) s × ConstraintHere (now image) at ⌝ }
-    ensures { λ r. ⌜ r ≡ broken (rulesIn (now (image .entry))) (constraintIn (now (image .entry)) at) ⌝ }
+    ensures { λ r. ⌜ r ≡ broken (rulesIn (now (image .entry)) switches) (constraintIn (now (image .entry)) at) ⌝ }
 {
     match image[at + 10] {
         0 => true,
-        1 => separation_broken(image, groups, s, at),
-        2 => roster_broken(image, groups, s, at),
-        3 => companion_broken(image, groups, s, at),
+        1 => separation_broken(image, groups, s, at, switches),
+        2 => roster_broken(image, groups, s, at, switches),
+        3 => companion_broken(image, groups, s, at, switches),
         _ => false,
     }
 }
@@ -85,13 +87,13 @@ fn constraint_fails(
     at: usize,
     ksource: &mut [u8; 256],
     kdest: &mut [u8; 256],
-    verdicts: &mut [u8; 256],
+    verdicts: &mut [u8; 261],
 ) -> bool
     requires { ⌜ Ready (now image) (now groups) s × Sides (now image) q (now source) sources (now dest) dests (now ksource) (now kdest)
-        × NthConstraint (now image) n at × KeptVerdicts (now image) (now verdicts) ⌝ }
-    ensures { λ r. ⌜ Leaves (fails (rulesIn (now (image .entry))) (requestIn (now (image .entry)) q) (constraintIn (now (image .entry)) at))
+        × NthConstraint (now image) n at × HeldFor (now image) (q .switches) (now verdicts) ⌝ }
+    ensures { λ r. ⌜ Leaves (fails (rulesIn (now (image .entry)) (q .switches)) (requestIn (now (image .entry)) q) (constraintIn (now (image .entry)) at))
         (Sides (now (image .entry)) q (now (source .entry)) sources (now (dest .entry)) dests (now (ksource .exit)) (now (kdest .exit))
-        × KeptVerdicts (now (image .entry)) (now (verdicts .exit))) r ⌝ }
+        × HeldFor (now (image .entry)) (q .switches) (now (verdicts .exit))) r ⌝ }
 {
     if word_in(image, at + 2) != wide_word(q.class) {
         return false;
@@ -109,11 +111,11 @@ fn constraint_fails(
     if 0 < k {
         return k == 2;
     }
-    let found = predicate_broken(image, groups, s, at);
-    keep(verdicts, n, found)
+    let found = predicate_broken(image, groups, s, at, q.switches);
+    keep_verdict(verdicts, n, found)
 }
 
-// The lowest constraint that applies to the query and fails.
+// The lowest constraint that applies to the query and fails. What is kept of verdicts is first made right for the query's word.
 pub(crate) fn first_constraint(
     image: &[u8],
     groups: &[u16; 256],
@@ -125,12 +127,13 @@ pub(crate) fn first_constraint(
     dests: usize,
     ksource: &mut [u8; 256],
     kdest: &mut [u8; 256],
-    verdicts: &mut [u8; 256],
+    verdicts: &mut [u8; 261],
 ) -> Found
     requires { ⌜ Ready (now image) (now groups) s × Sides (now image) q (now source) sources (now dest) dests (now ksource) (now kdest)
         × KeptVerdicts (now image) (now verdicts) ⌝ }
     ensures { λ r. ⌜ Leaves (firstConstraint (now (image .entry)) q) (KeptVerdicts (now (image .entry)) (now (verdicts .exit))) r ⌝ }
 {
+    recall(image, groups, s, verdicts, q.switches);
     let count = word_in(image, header::CONSTRAINTS_AT);
     let mut at = s.constraints;
     let mut n: usize = 0;

@@ -1,4 +1,5 @@
 // The lowest rule that covers a query.
+use crate::condition::is_on;
 use crate::kept::inside;
 use crate::kept::keep_outside;
 use crate::kept::known_outside;
@@ -26,7 +27,7 @@ pub(crate) enum Found {
 // of another class, which the low byte tells first.
 fn may(image: &[u8], at: usize, allow: bool, q: Query) -> bool
     requires { ⌜ RuleHere (now image) at × (allow ≡ allowAt (now image) at) ⌝ }
-    ensures { λ r. ⌜ r ≡ mayAt (now (image .entry)) at (q .class) (q .action) ⌝ }
+    ensures { λ r. ⌜ r ≡ mayAt (now (image .entry)) at q ⌝ }
 {
     if !allow {
         return true;
@@ -34,7 +35,7 @@ fn may(image: &[u8], at: usize, allow: bool, q: Query) -> bool
     if wide(image[at + 7]) != wide_word(q.class) % 256 {
         return false;
     }
-    if image[at + 10] != 1 {
+    if !is_on(q.switches, image[at + 10]) {
         return false;
     }
     if word_in(image, at + 6) != wide_word(q.class) {

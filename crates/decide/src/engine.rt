@@ -21,7 +21,8 @@ ghost use Rattle.format.specs.Answers.{gives};
 ghost use Rattle.decision.specs.Decide as deciding;
 ghost use Rattle.decide.specs.Inner.Parts.{Ready, Surveyed, setIn};
 ghost use Rattle.decide.specs.Inner.Marks.{Marked};
-ghost use Rattle.decide.specs.Inner.Kept.{KeptVerdicts, Tables, Leaves};
+ghost use Rattle.decide.specs.Inner.Kept.{Leaves};
+ghost use Rattle.decide.specs.Inner.Verdicts.{KeptVerdicts, Tables};
 
 // The decision of an accepted policy on a query whose source and destination are marked, with their sizes. Where no rule covers
 // the query, a second walk over the rules finds the nearest.
@@ -34,7 +35,7 @@ fn judge_marked(
     sources: usize,
     dest: &[bool; 1024],
     dests: usize,
-    verdicts: &mut [u8; 256],
+    verdicts: &mut [u8; 261],
 ) -> Answer
     requires { ⌜ Ready (now image) (now groups) s × deciding.Valid (now image) q
         × Marked (setIn (now image) (q .source)) (now source) sources
@@ -94,7 +95,7 @@ fn judge(
     groups: &[u16; 256],
     s: Starts,
     q: Query,
-    verdicts: &mut [u8; 256],
+    verdicts: &mut [u8; 261],
     source: &mut [bool; 1024],
     dest: &mut [bool; 1024],
 ) -> Answer
@@ -120,7 +121,7 @@ pub(crate) fn decide_surveyed(
     groups: &[u16; 256],
     sections: Sections,
     q: Query,
-    verdicts: &mut [u8; 256],
+    verdicts: &mut [u8; 261],
     source: &mut [bool; 1024],
     dest: &mut [bool; 1024],
 ) -> Answer
@@ -155,7 +156,7 @@ pub fn decide(image: &[u8], q: Query) -> Answer
 {
     let mut groups = [0u16; 256];
     let sections = survey(image, &mut groups);
-    let mut verdicts = [0u8; 256];
+    let mut verdicts = [0u8; 261];
     let mut source = [false; 1024];
     let mut dest = [false; 1024];
     decide_surveyed(

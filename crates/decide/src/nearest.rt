@@ -92,7 +92,7 @@ pub(crate) fn nearest_rule(
     requires { ⌜ Ready (now image) (now groups) s
         × Sides (now image) q (now source) sources (now dest) dests (now ksource) (now kdest)
         × Uncovered (now image) q ⌝ }
-    ensures { λ r. ⌜ r ≡ nearest (requestIn (now (image .entry)) q) (rulesIn (now (image .entry))) ⌝ }
+    ensures { λ r. ⌜ r ≡ nearest (requestIn (now (image .entry)) q) (rulesIn (now (image .entry)) (q .switches)) ⌝ }
 {
     let count = word_in(image, header::RULES_AT);
     if count == 0 {

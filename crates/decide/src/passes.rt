@@ -1,5 +1,6 @@
 // How many steps the rule at a place passes of a query that no rule covers: condition, source, destination, class. As none covers,
 // the action is not asked.
+use crate::condition::is_on;
 use crate::kept::find_inside;
 use crate::kept::inside;
 use crate::rules::is_allow;
@@ -14,15 +15,15 @@ ghost use Rattle.decide.specs.Inner.Kept.{Sides, Leaves};
 ghost use Rattle.decide.specs.Inner.Rules.{allowAt};
 ghost use Rattle.decide.specs.Inner.Nearer.{offAt, otherClassAt, classStops, stopsAt, On, SourceIn, shortSteps, Counts};
 
-// Whether the rule at a place is an allow rule that is off.
-fn is_off(image: &[u8], at: usize, allow: bool) -> bool
+// Whether the rule at a place is an allow rule that is off under the query's word.
+fn is_off(image: &[u8], at: usize, allow: bool, q: Query) -> bool
     requires { ⌜ RuleHere (now image) at × (allow ≡ allowAt (now image) at) ⌝ }
-    ensures { λ r. ⌜ r ≡ offAt (now (image .entry)) at ⌝ }
+    ensures { λ r. ⌜ r ≡ offAt (now (image .entry)) (q .switches) at ⌝ }
 {
     if !allow {
         return false;
     }
-    image[at + 10] != 1
+    !is_on(q.switches, image[at + 10])
 }
 
 // Whether the rule at a place is an allow rule of another class than the query's.
@@ -83,9 +84,9 @@ fn steps_past_source(
     ksource: &[u8; 256],
     kdest: &mut [u8; 256],
 ) -> usize
-    requires { ⌜ Known (now image) (now groups) × On (now image) at
+    requires { ⌜ Known (now image) (now groups) × On (now image) (q .switches) at
         × Sides (now image) q (now source) sources (now dest) dests (now ksource) (now kdest) × SourceIn (now image) q at ⌝ }
-    ensures { λ r. ⌜ Leaves (shortSteps (requestIn (now (image .entry)) q) (ruleIn (now (image .entry)) at))
+    ensures { λ r. ⌜ Leaves (shortSteps (requestIn (now (image .entry)) q) (ruleIn (now (image .entry)) (q .switches) at))
         (Sides (now (image .entry)) q (now (source .entry)) sources (now (dest .entry)) dests
         (now (ksource .entry)) (now (kdest .exit))) r ⌝ }
 {
@@ -111,9 +112,9 @@ fn steps_on(
     ksource: &mut [u8; 256],
     kdest: &mut [u8; 256],
 ) -> usize
-    requires { ⌜ Known (now image) (now groups) × On (now image) at
+    requires { ⌜ Known (now image) (now groups) × On (now image) (q .switches) at
         × Sides (now image) q (now source) sources (now dest) dests (now ksource) (now kdest) ⌝ }
-    ensures { λ r. ⌜ Leaves (shortSteps (requestIn (now (image .entry)) q) (ruleIn (now (image .entry)) at))
+    ensures { λ r. ⌜ Leaves (shortSteps (requestIn (now (image .entry)) q) (ruleIn (now (image .entry)) (q .switches) at))
         (Sides (now (image .entry)) q (now (source .entry)) sources (now (dest .entry)) dests
         (now (ksource .exit)) (now (kdest .exit))) r ⌝ }
 {
@@ -186,7 +187,7 @@ pub(crate) fn steps_at(
 ) -> usize
     requires { ⌜ Known (now image) (now groups) × RuleHere (now image) at × (allow ≡ allowAt (now image) at)
         × Sides (now image) q (now source) sources (now dest) dests (now ksource) (now kdest) ⌝ }
-    ensures { λ r. ⌜ Counts most (shortSteps (requestIn (now (image .entry)) q) (ruleIn (now (image .entry)) at)) r
+    ensures { λ r. ⌜ Counts most (shortSteps (requestIn (now (image .entry)) q) (ruleIn (now (image .entry)) (q .switches) at)) r
         × Sides (now (image .entry)) q (now (source .entry)) sources (now (dest .entry)) dests
         (now (ksource .exit)) (now (kdest .exit)) ⌝ }
 {
@@ -196,7 +197,7 @@ pub(crate) fn steps_at(
     if is_known_to_stop(image, at + 2, source, ksource, 1, most) {
         return 0;
     }
-    if is_off(image, at, allow) {
+    if is_off(image, at, allow, q) {
         return 0;
     }
     if is_known_to_stop(image, at + 4, dest, kdest, 2, most) {

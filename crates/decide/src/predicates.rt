@@ -8,10 +8,10 @@ use format::Starts;
 use format::header;
 ghost use mathlib.Core.Path.{_≡_};
 ghost use Rattle.decision.specs.Sets.{anyOf};
-ghost use Rattle.decide.specs.Inner.Parts.{Ready, rulesIn, ruleIn};
+ghost use Rattle.decide.specs.Inner.Parts.{Ready, rulesIn};
 ghost use Rattle.decide.specs.Inner.Marks.{anyIs, anyMarked};
 ghost use Rattle.decide.specs.Inner.Kept.{KeptTest, Leaves};
-ghost use Rattle.decide.specs.Inner.Rules.{AtRule, reaching, reachingFrom};
+ghost use Rattle.decide.specs.Inner.Rules.{AtRule, reachingAt, reachingFrom};
 
 // Whether the rule at a place is live and its destination has a member that is marked.
 pub(crate) fn reaches(
@@ -22,8 +22,8 @@ pub(crate) fn reaches(
     reach: &[bool; 1024],
     kreach: &mut [u8; 256],
 ) -> bool
-    requires { ⌜ AtRule (now image) (now groups) at live × KeptTest (anyMarked (now reach)) (now image) (now kreach) ⌝ }
-    ensures { λ r. ⌜ Leaves (reaching (now (reach .entry)) (ruleIn (now (image .entry)) at))
+    requires { ⌜ AtRule (now image) (now groups) at × KeptTest (anyMarked (now reach)) (now image) (now kreach) ⌝ }
+    ensures { λ r. ⌜ Leaves (reachingAt (now (image .entry)) (now (reach .entry)) at live)
         (KeptTest (anyMarked (now (reach .entry))) (now (image .entry)) (now (kreach .exit))) r ⌝ }
 {
     if !live {
@@ -32,7 +32,7 @@ pub(crate) fn reaches(
     meets(image, groups, at + 4, reach, true, kreach)
 }
 
-// Whether there is such a rule whose source has a member with a mark of the value in `source`.
+// Whether there is such a rule, live under a switch word, whose source has a member with a mark of the value in `source`.
 pub(crate) fn any_rule(
     image: &[u8],
     groups: &[u16; 256],
@@ -40,9 +40,10 @@ pub(crate) fn any_rule(
     reach: &[bool; 1024],
     source: &[bool; 1024],
     value: bool,
+    switches: u32,
 ) -> bool
     requires { ⌜ Ready (now image) (now groups) s ⌝ }
-    ensures { λ r. ⌜ r ≡ anyOf (reachingFrom (now (reach .entry)) (anyIs (now (source .entry)) value)) (rulesIn (now (image .entry))) ⌝ }
+    ensures { λ r. ⌜ r ≡ anyOf (reachingFrom (now (reach .entry)) (anyIs (now (source .entry)) value)) (rulesIn (now (image .entry)) switches) ⌝ }
 {
     let count = word_in(image, header::RULES_AT);
     let mut kreach = [0u8; 256];
@@ -50,7 +51,7 @@ pub(crate) fn any_rule(
     let mut at = s.rules;
     let mut n: usize = 0;
     while n < count {
-        let live = is_live(image, at);
+        let live = is_live(image, at, switches);
         if reaches(image, groups, at, live, reach, &mut kreach) {
             if meets(image, groups, at + 2, source, value, &mut ksource) {
                 return true;

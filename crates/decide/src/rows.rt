@@ -1,4 +1,4 @@
-// Many queries at once: rows of 8 bytes, and a slot for the number of each answer.
+// Many queries at once: rows of 12 bytes, and a slot for the number of each answer.
 use crate::engine::decide_surveyed;
 use decision::Query;
 use format::Sections;
@@ -10,13 +10,24 @@ ghost use Prim.Native.Nat.{_+_, _<_};
 ghost use lib.ListN.{length};
 ghost use Rattle.decision.specs.Decide.{answer};
 ghost use Rattle.decision.specs.Numbers.{decisionCode};
-ghost use Rattle.decision.specs.Rows.{queryAt, rowsIn, answered};
+ghost use Rattle.decision.specs.Rows.{longAt, queryAt, rowsIn, answered};
 ghost use Rattle.decide.specs.Inner.Parts.{Surveyed};
-ghost use Rattle.decide.specs.Inner.Kept.{Tables, Leaves};
+ghost use Rattle.decide.specs.Inner.Kept.{Leaves};
+ghost use Rattle.decide.specs.Inner.Verdicts.{Tables};
+
+// The 4-byte number at a place that has four bytes.
+fn long_at(bytes: &[u8], at: usize) -> u32
+    requires { ⌜ at + 3 < length (now bytes) ⌝ }
+    ensures { λ r. ⌜ r ≡ longAt (now (bytes .entry)) at ⌝ }
+{
+    let high = word_at(bytes, at) as u32;
+    let low = word_at(bytes, at + 2) as u32;
+    high * 65536 + low
+}
 
 // The query in the row at a place.
 fn query_at(queries: &[u8], at: usize) -> Query
-    requires { ⌜ at + 7 < length (now queries) ⌝ }
+    requires { ⌜ at + 11 < length (now queries) ⌝ }
     ensures { λ r. ⌜ r ≡ queryAt (now (queries .entry)) at ⌝ }
 {
     Query {
@@ -24,6 +35,7 @@ fn query_at(queries: &[u8], at: usize) -> Query
         dest: word_at(queries, at + 2) as u16,
         class: word_at(queries, at + 4) as u16,
         action: word_at(queries, at + 6) as u16,
+        switches: long_at(queries, at + 8),
     }
 }
 
@@ -34,12 +46,12 @@ fn row(
     sections: Sections,
     queries: &[u8],
     at: usize,
-    verdicts: &mut [u8; 256],
+    verdicts: &mut [u8; 261],
     source: &mut [bool; 1024],
     dest: &mut [bool; 1024],
 ) -> u64
     requires { ⌜ Surveyed (now image) (now groups) sections × Tables (now image) (now verdicts) (now source) (now dest)
-        × (at + 7 < length (now queries)) ⌝ }
+        × (at + 11 < length (now queries)) ⌝ }
     ensures { λ r. ⌜ Leaves (decisionCode (answer (now (image .entry)) (queryAt (now (queries .entry)) at)))
         (Tables (now (image .entry)) (now (verdicts .exit)) (now (source .exit)) (now (dest .exit))) r ⌝ }
 {
@@ -53,10 +65,10 @@ pub fn decide_all(image: &[u8], queries: &[u8], answers: &mut [u64]) -> usize
     ensures { λ r. ⌜ r ≡ rowsIn (now (queries .entry)) (length (now (answers .entry))) ⌝ }
     ensures { λ _. ⌜ now (answers .exit) ≡ answered (now (image .entry)) (now (queries .entry)) (now (answers .entry)) ⌝ }
 {
-    let rows = queries.len() / 8;
+    let rows = queries.len() / 12;
     let mut groups = [0u16; 256];
     let sections = survey(image, &mut groups);
-    let mut verdicts = [0u8; 256];
+    let mut verdicts = [0u8; 261];
     let mut source = [false; 1024];
     let mut dest = [false; 1024];
     for k in 0..answers.len() {
@@ -68,7 +80,7 @@ pub fn decide_all(image: &[u8], queries: &[u8], answers: &mut [u64]) -> usize
             &groups,
             sections,
             queries,
-            8 * k,
+            12 * k,
             &mut verdicts,
             &mut source,
             &mut dest,

@@ -1,4 +1,5 @@
 // The rule at a place: whether it is an allow rule, whether it is live, and where the next one stands.
+use crate::condition::is_on;
 use crate::word::wide;
 ghost use mathlib.Core.Path.{_≡_};
 ghost use mathlib.Core.Bool.{true};
@@ -15,15 +16,15 @@ pub(crate) fn is_allow(image: &[u8], at: usize) -> bool
     image[at + 1] == 2
 }
 
-// Whether the rule at a place is an allow rule that is on.
-pub(crate) fn is_live(image: &[u8], at: usize) -> bool
+// Whether the rule at a place is an allow rule that is on under a switch word.
+pub(crate) fn is_live(image: &[u8], at: usize, switches: u32) -> bool
     requires { ⌜ RuleHere (now image) at ⌝ }
-    ensures { λ r. ⌜ r ≡ liveAt (now (image .entry)) at ⌝ }
+    ensures { λ r. ⌜ r ≡ liveAt (now (image .entry)) switches at ⌝ }
 {
     if !is_allow(image, at) {
         return false;
     }
-    image[at + 10] == 1
+    is_on(switches, image[at + 10])
 }
 
 // The place past the rule at a place. One that is known to be an allow rule has 11 bytes, and its length need not be read.

@@ -11,9 +11,9 @@ use format::Starts;
 use format::header;
 ghost use mathlib.Core.Path.{_≡_};
 ghost use Rattle.decision.specs.Sets.{anyOf};
-ghost use Rattle.decide.specs.Inner.Parts.{Ready, rulesIn, ruleIn};
+ghost use Rattle.decide.specs.Inner.Parts.{Ready, rulesIn};
 ghost use Rattle.decide.specs.Inner.Rules.{AtRule, reachingFrom, sharesSource};
-ghost use Rattle.decide.specs.Inner.Sources.{Joined, sourceHas, Gathering};
+ghost use Rattle.decide.specs.Inner.Sources.{Joined, sourceAt, Gathering};
 
 // Marks the members of the source of the rule at a place, where it is live and reaches marks.
 fn mark_source(
@@ -26,9 +26,9 @@ fn mark_source(
     marks: &mut [bool; 1024],
     done: &mut [bool; 256],
 )
-    requires { ⌜ AtRule (now image) (now groups) at live
+    requires { ⌜ AtRule (now image) (now groups) at
         × Gathering (now image) (now reach) (now kreach) (now marks) (now done) ⌝ }
-    ensures { λ _. ⌜ Joined (now (marks .entry)) (sourceHas (now (reach .entry)) (ruleIn (now (image .entry)) at)) (now (marks .exit))
+    ensures { λ _. ⌜ Joined (now (marks .entry)) (sourceAt (now (image .entry)) (now (reach .entry)) at live) (now (marks .exit))
         × Gathering (now (image .entry)) (now (reach .entry)) (now (kreach .exit)) (now (marks .exit)) (now (done .exit)) ⌝ }
 {
     if reaches(image, groups, at, live, reach, kreach) {
@@ -36,17 +36,18 @@ fn mark_source(
     }
 }
 
-// Whether a live rule that reaches the first marks and one that reaches the second have sources that touch.
+// Whether, under a switch word, a live rule that reaches the first marks and one that reaches the second have sources that touch.
 pub(crate) fn any_shared(
     image: &[u8],
     groups: &[u16; 256],
     s: Starts,
     first: &[bool; 1024],
     second: &[bool; 1024],
+    switches: u32,
 ) -> bool
     requires { ⌜ Ready (now image) (now groups) s ⌝ }
-    ensures { λ r. ⌜ r ≡ anyOf (reachingFrom (now (first .entry)) (sharesSource (now (image .entry)) (now (second .entry))))
-        (rulesIn (now (image .entry))) ⌝ }
+    ensures { λ r. ⌜ r ≡ anyOf (reachingFrom (now (first .entry)) (sharesSource (rulesIn (now (image .entry)) switches) (now (second .entry))))
+        (rulesIn (now (image .entry)) switches) ⌝ }
 {
     let count = word_in(image, header::RULES_AT);
     // of the first argument, and of the second: what is kept of groups that meet it, the members of sources that reach it, and the
@@ -60,7 +61,7 @@ pub(crate) fn any_shared(
     let mut at = s.rules;
     let mut n: usize = 0;
     while n < count {
-        let live = is_live(image, at);
+        let live = is_live(image, at, switches);
         meet_each(image, groups, at, live, first, second, &mut kf, &mut ks);
         mark_source(image, groups, at, live, first, &mut kf, &mut a, &mut da);
         mark_source(image, groups, at, live, second, &mut ks, &mut b, &mut db);

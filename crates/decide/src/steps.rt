@@ -11,7 +11,8 @@ ghost use Rattle.format.specs.Answers.{sectionsOutcome};
 ghost use Rattle.runs.specs.Runs.{runFault, queriesFault};
 ghost use Rattle.runs.specs.Inner.Progress.{openFault, runSaid, rowsFor, nextRun};
 ghost use Rattle.decide.specs.Inner.Parts.{Surveyed};
-ghost use Rattle.decide.specs.Inner.Kept.{Tables, Leaves};
+ghost use Rattle.decide.specs.Inner.Kept.{Leaves};
+ghost use Rattle.decide.specs.Inner.Verdicts.{Tables};
 ghost use Rattle.decide.specs.Inner.Steps.{Begins, stepOf};
 
 // What a run begins with: how many rows are decided, what it comes to before the first of them, and the policy as the check
@@ -114,7 +115,7 @@ pub(crate) fn decide_row(
     groups: &[u16; 256],
     sections: Sections,
     q: Query,
-    verdicts: &mut [u8; 256],
+    verdicts: &mut [u8; 261],
     source: &mut [bool; 1024],
     dest: &mut [bool; 1024],
     run: Run,

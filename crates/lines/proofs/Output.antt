@@ -13,7 +13,7 @@ use Rattle.lines.specs.Claims.{AnyReads}
 use Rattle.lines.proofs.Queries.{lines-few, rest-length, lines-append, ending-append}
 use Rattle.lines.proofs.Image.{image-taken, image-size, image-front}
 
-pub served-all : (l kept : List ℕ) (cs : List (List ℕ)) → length kept < 8 → served l kept cs ≡ lines l (kept ++ flatten cs) ++ ending (kept ++ flatten cs)
+pub served-all : (l kept : List ℕ) (cs : List (List ℕ)) → length kept < 12 → served l kept cs ≡ lines l (kept ++ flatten cs) ++ ending (kept ++ flatten cs)
 unfolding served flatten
 served-all l kept [] h = rw (append-nil kept, lines-few l kept h) refl
 served-all l kept (c ∷ cs) h =

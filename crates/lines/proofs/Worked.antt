@@ -12,12 +12,13 @@ use Rattle.text.specs.Words.{ascii, splitStep, split, same, isDigit, digitsFrom
 use Rattle.text.specs.Rows.{valueOf, fieldBytes, group, allow, transition, constraint, forms, asBytes, joined, fieldsOf, headed, recordBy, recordOfWords, recordOfRow}
 use Rattle.text.specs.Build.{movedTo, recordFault, afterRecord, rowFault, afterRow, onward, rowsFrom, built}
 use Rattle.decision.specs.Sets.{anyOf, allOf, isIn, setOf, unionOf, within, touches}
+use Rattle.decision.specs.Conditions.{switchOn, isOn}
 use Rattle.decision.specs.Reading.{asks, live, ruleOf, constraintOf, requestOf, rulesOf, constraintsOf}
 use Rattle.decision.specs.Decide.{tests, covers, passes, steps, nearestOf, greatest, nearestBy, nearest, reaches, separationBroken, rosterBroken, companionBroken, broken, applies, inside, fails, firstAt, decisionOf, judge, decide, queryFault, answerFault, answer}
 use Rattle.lines.specs.Lines.{widthFrom, width, linesFrom, lines}
 use Rattle.lines.specs.Output.{ending, printed}
 use Rattle.lines.specs.Compiled as compile
-use Rattle.lines.specs.Worked.{workedLines, lineOf, lineSaid, WorkedLines, asked, workedRuns, runOf, runSaid, WorkedRuns, workedCompiled, textGives, textWritten, WorkedCompiled}
+use Rattle.lines.specs.Worked.{workedLines, lineOf, lineSaid, WorkedLines, askedOn, asked, workedRuns, runOf, runSaid, WorkedRuns, workedCompiled, textGives, textWritten, WorkedCompiled}
 
 pub worked-lines : WorkedLines
 unfolding widthFrom width ascii workedLines lineOf lineSaid
@@ -31,9 +32,9 @@ unfolding
     readFields readOf readFault sectionFault countFault headerFault bodyFault check imageIn checkFront
     sample empty
     anyOf allOf isIn setOf unionOf within touches
-    asks live ruleOf constraintOf requestOf rulesOf constraintsOf tests covers passes steps nearestOf greatest nearestBy nearest reaches separationBroken rosterBroken companionBroken broken applies inside fails firstAt decisionOf judge decide queryFault answerFault answer
+    switchOn isOn asks live ruleOf constraintOf requestOf rulesOf constraintsOf tests covers passes steps nearestOf greatest nearestBy nearest reaches separationBroken rosterBroken companionBroken broken applies inside fails firstAt decisionOf judge decide queryFault answerFault answer
     widthFrom width linesFrom lines ending printed
-    ascii asked workedRuns runOf runSaid
+    ascii askedOn asked workedRuns runOf runSaid
 worked-runs = refl
 
 pub worked-compiled : WorkedCompiled

@@ -47,7 +47,7 @@ line (refused f) = pairLine 82 (f .number) (f .place)
 
 unfoldable pub linesFrom : List ℕ → List ℕ → ℕ → ℕ → List ℕ
 linesFrom l b zero at = []
-linesFrom l b (suc k) at = line (answer l (queryAt b at)) ++ linesFrom l b k (at + 8)
+linesFrom l b (suc k) at = line (answer l (queryAt b at)) ++ linesFrom l b k (at + 12)
 
 unfoldable pub lines : List ℕ → List ℕ → List ℕ
-lines l b = linesFrom l b (length b / 8) 0
+lines l b = linesFrom l b (length b / 12) 0

@@ -2,7 +2,7 @@
 --     imageSize b         how many bytes the image takes that b starts with: its length field; the header's 9 where that
 --                         field is below 9 or has not come yet
 --     restOf b            the bytes past the last whole query
---     ending b            the last line: `R 15 0` where 1 to 7 bytes are left as a query, else none
+--     ending b            the last line: `R 15 0` where 1 to 11 bytes are left as a query, else none
 --     saidUnless f x      x, or the line of the refusal f where there is one
 --     printed i           the output for the input i: the line of the refusal of the image that i starts with, or else the
 --                         lines of the queries behind that image, and then the ending
@@ -27,10 +27,10 @@ unfoldable pub imageSize : List ℕ → ℕ
 imageSize b = cond (leb 9 (length b) && leb 9 (wordAt b 1)) (wordAt b 1) 9
 
 unfoldable pub restOf : List ℕ → List ℕ
-restOf b = drop (8 * (length b / 8)) b
+restOf b = drop (12 * (length b / 12)) b
 
 unfoldable pub ending : List ℕ → List ℕ
-ending b = cond (eqb (length b % 8) 0) [] (line (refused (refusal 15 0)))
+ending b = cond (eqb (length b % 12) 0) [] (line (refused (refusal 15 0)))
 
 abbrev pub saidUnless : Option Refusal → List ℕ → List ℕ
 saidUnless none x = x

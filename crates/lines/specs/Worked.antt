@@ -1,4 +1,4 @@
--- Lines and whole outputs, written out from document 01 and from the requests [2] and [3].
+-- Lines and whole outputs, written out from document 01 and from the requests [2], [3] and [6].
 --     WorkedLines    the lines of some outcomes, a place of 5 digits among them
 --     WorkedRuns     the outputs of some inputs
 --     WorkedCompiled what is written for some texts, built in a buffer of 100 bytes
@@ -6,7 +6,7 @@ use Prim.Native.Nat.{ℕ}
 use Prim.Native.String.{String}
 use mathlib.Core.Path.{_≡_}
 use mathlib.Core.List.{List, [], _∷_, _++_, map}
-use lib.ListN.{take, replicate}
+use lib.ListN.{take, set, replicate}
 use Rattle.format.specs.Refusals.{refusal}
 use Rattle.format.specs.Answers.{Outcome, refused, gives}
 use Rattle.format.specs.Sample.{sample, empty}
@@ -49,9 +49,12 @@ pub record WorkedRun : Type 0 where
   pub input : List ℕ
   pub says : String
 
--- source, destination, class and action, each below 256
+-- source, destination, class and action, each below 256, and the four bytes of a word; without a switch on
+unfoldable pub askedOn : List ℕ → ℕ → ℕ → ℕ → ℕ → List ℕ
+askedOn w s d c a = 0 ∷ s ∷ 0 ∷ d ∷ 0 ∷ c ∷ 0 ∷ a ∷ w
+
 unfoldable pub asked : ℕ → ℕ → ℕ → ℕ → List ℕ
-asked s d c a = 0 ∷ s ∷ 0 ∷ d ∷ 0 ∷ c ∷ 0 ∷ a ∷ []
+asked = askedOn (0 ∷ 0 ∷ 0 ∷ 0 ∷ [])
 
 unfoldable pub workedRuns : List WorkedRun
 workedRuns =
@@ -65,12 +68,20 @@ workedRuns =
     ∷ record { input = empty ++ replicate 5 0; says = "R 15 0\n" }
     ∷ record { input = empty ++ replicate 6 0; says = "R 15 0\n" }
     ∷ record { input = empty ++ replicate 7 0; says = "R 15 0\n" }
-    ∷ record { input = empty ++ replicate 8 0; says = "N -\n" }
-    ∷ record { input = empty ++ replicate 9 0; says = "N -\nR 15 0\n" }
+    ∷ record { input = empty ++ replicate 8 0; says = "R 15 0\n" }
+    ∷ record { input = empty ++ replicate 9 0; says = "R 15 0\n" }
+    ∷ record { input = empty ++ replicate 10 0; says = "R 15 0\n" }
+    ∷ record { input = empty ++ replicate 11 0; says = "R 15 0\n" }
+    ∷ record { input = empty ++ replicate 12 0; says = "N -\n" }
+    ∷ record { input = empty ++ replicate 13 0; says = "N -\nR 15 0\n" }
     ∷ record { input = 1 ∷ 0 ∷ 8 ∷ replicate 20 0; says = "R 3 0\n" }
     ∷ record { input = take 79 sample; says = "R 3 0\n" }
     ∷ record { input = sample ++ (asked 10 21 5 1 ++ (asked 13 21 5 1 ++ asked 12 20 9 9)); says = "P 0\nN 1 0\nP 2\n" }
     ∷ record { input = sample ++ (asked 10 21 5 2 ++ asked 12 30 5 1); says = "N 4 0\nN 2 2\n" }
+    -- rule 3 by switch 0 and by switch 31: the word is the last four bytes, the highest first
+    ∷ record { input = set sample 55 2 ++ (askedOn (0 ∷ 0 ∷ 0 ∷ 1 ∷ []) 13 21 5 1 ++ asked 13 21 5 1); says = "P 3\nN 1 0\n" }
+    ∷ record { input = set sample 55 33 ++ (askedOn (128 ∷ 0 ∷ 0 ∷ 0 ∷ []) 13 21 5 1 ++ askedOn (0 ∷ 0 ∷ 0 ∷ 128 ∷ []) 13 21 5 1); says = "P 3\nN 1 0\n" }
+    ∷ record { input = set sample 55 34 ++ asked 10 21 5 1; says = "R 6 55\n" }
     ∷ []
 
 unfoldable pub runOf : WorkedRun → List ℕ

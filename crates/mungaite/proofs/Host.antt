@@ -78,5 +78,5 @@ run-back (gives (some n)) h =
 pub run-read : RunRead
 run-read l b ns ys = (
   run-back (numbersRun l ns (length ys)) (run-whole l b ns (length ys)),
-  λ i e k. ap hostDecision (numbers-answered l ns ys i 0 e k) ∙ decide-read l b (queryOf (getD ns (4 * i) 0) (getD ns (4 * i + 1) 0) (getD ns (4 * i + 2) 0) (getD ns (4 * i + 3) 0)),
+  λ i e k. ap hostDecision (numbers-answered l ns ys i 0 e k) ∙ decide-read l b (queryOf (getD ns (6 * i) 0) (getD ns (6 * i + 1) 0) (getD ns (6 * i + 2) 0) (getD ns (6 * i + 3) 0) (getD ns (6 * i + 4) 0 * 65536 + getD ns (6 * i + 5) 0)),
 )

@@ -82,7 +82,8 @@ RunRead =
     → (hostRun (runCode (numbersRun l ns (length ys))) ≡ numbersRun l ns (length ys))
     × ((i : ℕ) → numbersFault l (length ns) (length ys) ≡ none → i < length ys
     → hostDecision (getD (codesAfter l ns ys) i 0)
-    ≡ answer l (queryOf (getD ns (4 * i) 0) (getD ns (4 * i + 1) 0) (getD ns (4 * i + 2) 0) (getD ns (4 * i + 3) 0)))
+    ≡ answer l (queryOf (getD ns (6 * i) 0) (getD ns (6 * i + 1) 0) (getD ns (6 * i + 2) 0) (getD ns (6 * i + 3) 0)
+    (getD ns (6 * i + 4) 0 * 65536 + getD ns (6 * i + 5) 0)))
 
 abbrev pub BuiltFits : Outcome ℕ → Type 0
 BuiltFits (gives n) = (9 ≤ n) × (n ≤ 55561)

@@ -39,27 +39,29 @@ pub extern "C" fn mungaite_check(image: &[u8]) -> u64
     }
 }
 
-// The engine's answer to a query.
+// The engine's answer to a query under a switch word.
 #[no_mangle]
 pub extern "C" fn mungaite_decide(
     source: u16,
     destination: u16,
     class: u16,
     action: u16,
+    switches: u32,
     image: &[u8],
 ) -> u64
-    ensures { λ r. ⌜ r ≡ decisionCode (deciding.answer (now (image .entry)) (deciding.queryOf source destination class action)) ⌝ }
+    ensures { λ r. ⌜ r ≡ decisionCode (deciding.answer (now (image .entry)) (deciding.queryOf source destination class action switches)) ⌝ }
 {
     let q = Query {
         source,
         dest: destination,
         class,
         action,
+        switches,
     };
     number(decide(image, q))
 }
 
-// A run of 1 to 64 queries, four numbers for each: the number of each answer, and 0, 1, 0, 0 where every row is Permitted, else
+// A run of 1 to 64 queries, six numbers for each, the halves of its word last: the number of each answer, and 0, 1, 0, 0 where every row is Permitted, else
 // 0, 0, 0, row. A refused call leaves the answers as they were.
 #[no_mangle]
 pub extern "C" fn mungaite_run(queries: &[u16], answers: &mut [u64], image: &[u8]) -> u64

@@ -14,9 +14,9 @@ use Rattle.streams.specs.declared.Got.{Got}
 use Rattle.streams.specs.declared.Got.the-variants as got
 use Rattle.permit.specs.Inner.Turn.{came, Turned, Faulty, Due}
 
-module _ (l input : List ℕ) (output : List ℕ) (kept end : ℕ) (few : kept < 8) (fits : kept ≤ length input) where
+module _ (l input : List ℕ) (output : List ℕ) (kept end : ℕ) (few : kept < 12) (fits : kept ≤ length input) where
   pub turn-more :
-      (g : Got) (n rest : ℕ) (input' : List ℕ) → g ≡ got.Bytes n → Front output end (lines l (take (kept + n) input)) → rest < 8
+      (g : Got) (n rest : ℕ) (input' : List ℕ) → g ≡ got.Bytes n → Front output end (lines l (take (kept + n) input)) → rest < 12
       → Front input' rest (restOf (take (kept + n) input))
       → Turned g l (take (kept + came g) input) input' output (record { kept = rest; end = end })
   turn-more g n rest input' e w r k =

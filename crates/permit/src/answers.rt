@@ -12,14 +12,14 @@ ghost use Rattle.streams.specs.Put.{Front};
 
 // Puts the lines of the input's whole queries at the front of the output, one behind the other, and tells how many bytes they
 // are. All are decided in one call, whose numbers stand in the slots that are lent for them. A line has at most 44 bytes, fewer
-// than 6 for each byte of its query.
+// than 4 for each byte of its query.
 pub(crate) fn put_answers(
     image: &[u8],
     input: &[u8],
     numbers: &mut [u64],
     output: &mut [u8],
 ) -> usize
-    requires { ⌜ (Accepted (now image)) × (length (now input) ≤ 8 * length (now numbers)) × (6 * length (now input) ≤ length (now output)) ⌝ }
+    requires { ⌜ (Accepted (now image)) × (length (now input) ≤ 12 * length (now numbers)) × (4 * length (now input) ≤ length (now output)) ⌝ }
     ensures { λ r. ⌜ Front (now (output .exit)) r (lines (now (image .entry)) (now (input .entry))) ⌝ }
 {
     let rows = decide::decide_all(image, input, numbers);
@@ -43,7 +43,7 @@ pub(crate) fn put_ending(left: &[u8], output: &mut [u8]) -> usize
     requires { ⌜ 44 ≤ length (now output) ⌝ }
     ensures { λ r. ⌜ Front (now (output .exit)) r (ending (now (left .entry))) ⌝ }
 {
-    if left.len() % 8 == 0 {
+    if left.len() % 12 == 0 {
         return 0;
     }
     put_refusal(

@@ -1,4 +1,4 @@
-// An image and then queries of 8 bytes each from standard input; a line to standard output for each answer.
+// An image and then queries of 12 bytes each from standard input; a line to standard output for each answer.
 //
 // The image is the bytes up to its length field. A refused image gives one line and nothing more. What a query is
 // answered is `decide`'s; here are only the reads, the writes and the lines. An input that cannot be read, or an output

@@ -31,15 +31,15 @@ fn take_turn(
     numbers: &mut [u64],
     output: &mut [u8],
 ) -> Turn
-    requires { ⌜ (Accepted (now image)) × (kept < 8) × (16384 ≡ length (now input)) × (2048 ≡ length (now numbers))
-        × (98304 ≡ length (now output)) × Brings (16384 - kept) got ⌝ }
+    requires { ⌜ (Accepted (now image)) × (kept < 12) × (24576 ≡ length (now input)) × (2048 ≡ length (now numbers))
+        × (98304 ≡ length (now output)) × Brings (24576 - kept) got ⌝ }
     ensures { λ r. ⌜ Turned got (now (image .entry)) (take (kept + came got) (now (input .entry))) (now (input .exit)) (now (output .exit)) r ⌝ }
 {
     match got {
         Got::Bytes(n) => {
             let have = kept + n;
             let end = put_answers(image, &input[..have], numbers, output);
-            let rest = have % 8;
+            let rest = have % 12;
             keep_rest(input, have - rest, have);
             Turn { kept: rest, end }
         }
@@ -51,11 +51,11 @@ fn take_turn(
     }
 }
 
-// 16,384 zeros: 2,048 queries. The `ensures` gives only the length, which lending the array needs.
-fn input_space() -> [u8; 16384]
-    ensures { λ r. ⌜ 16384 ≡ length r ⌝ }
+// 24,576 zeros: 2,048 queries. The `ensures` gives only the length, which lending the array needs.
+fn input_space() -> [u8; 24576]
+    ensures { λ r. ⌜ 24576 ≡ length r ⌝ }
 {
-    [0; 16384]
+    [0; 24576]
 }
 
 // 2,048 zeros, for the numbers of so many answers.
@@ -88,7 +88,7 @@ pub(crate) fn serve(image: &[u8])
             b"permit: standard input",
             &mut input,
             kept,
-            16384,
+            24576,
         );
         let t = take_turn(image, got, &mut input, kept, &mut numbers, &mut output);
         let end = t.end;

@@ -7,11 +7,8 @@
 --     Side l t ms size table   a query's source or destination t, a type: its marks and its size, and what is kept of the groups
 --                              that it is within
 --     Sides l q ..             a query's two sides
---     verdictOf l n            whether the rules break the predicate of constraint n
---     KeptVerdicts l verdicts  of the verdicts
 --     KeptReach l ms f ..      of the groups that touch marks, and of a test of sources
 --     Unmarks t ms ns          where ms are the marks of the type t, ns are none
---     Tables l vs ms ns        what is lent from query to query: the verdicts, and marks for a source and a destination, none of them set
 --     Leaves x K r             the answer is x, and what is kept is right after it
 use Prim.Native.Nat.{ℕ, _+_, _-_, _<_}
 use mathlib.Core.Path.{_≡_}
@@ -19,13 +16,11 @@ use mathlib.Core.Bool.{Bool, false, not, cond}
 use mathlib.Core.List.{List}
 use lib.ListN.{getD, set}
 use lib.Dec.{eqb, ltb}
-use Rattle.format.specs.declared.Section.the-variants.{Groups, Constraints}
+use Rattle.format.specs.declared.Section.the-variants.{Groups}
 use Rattle.format.specs.Format.{countOf}
-use Rattle.format.specs.Policy.{placeOf}
 use Rattle.format.specs.Claims.{IsType}
 use Rattle.decision.specs.declared.Query.{Query}
-use Rattle.decision.specs.Decide.{broken}
-use Rattle.decide.specs.Inner.Parts.{rulesIn, constraintIn, setIn, groupSet}
+use Rattle.decide.specs.Inner.Parts.{setIn, groupSet}
 use Rattle.decide.specs.Inner.Marks.{noMarks, markAll, Marked, anyMarked, fullyMarked}
 
 unfoldable pub bit : Bool → ℕ
@@ -52,23 +47,12 @@ pub record Sides (l : List ℕ) (q : Query) (ms : List Bool) (sources : ℕ) (ns
   pub source : Side l (q .source) ms sources ks
   pub dest : Side l (q .dest) ns dests kd
 
-abbrev pub verdictOf : List ℕ → ℕ → Bool
-verdictOf l n = broken (rulesIn l) (constraintIn l (placeOf l Constraints n))
-
-abbrev pub KeptVerdicts : List ℕ → List ℕ → Type 0
-KeptVerdicts l = Kept (λ n. bit (verdictOf l n))
-
 pub record KeptReach (l : List ℕ) (ms : List Bool) (f : List ℕ → Bool) (kr ks : List ℕ) : Type 0 where
   pub reach : KeptTest (anyMarked ms) l kr
   pub source : KeptTest f l ks
 
 abbrev pub Unmarks : ℕ → List Bool → List Bool → Type 0
 Unmarks t ms ns = (l : List ℕ) → ms ≡ markAll noMarks (setIn l t) → ns ≡ noMarks
-
-pub record Tables (l vs : List ℕ) (ms ns : List Bool) : Type 0 where
-  pub verdicts : KeptVerdicts l vs
-  pub source : ms ≡ noMarks
-  pub dest : ns ≡ noMarks
 
 module _ {A : Type 0} where
   pub record Leaves (x : A) (K : Type 0) (r : A) : Type 0 where

@@ -1,6 +1,6 @@
 -- What the deciding code reads of an accepted image, and what it relies on there.
---     groupsIn l, rulesIn l    the records of the groups, and the rules
---     ruleIn l at, constraintIn l at, requestIn l q   the rule and the constraint that stand at a place, and a query
+--     groupsIn l, rulesIn l w  the records of the groups, and the rules under a switch word
+--     ruleIn l w at, constraintIn l at, requestIn l q   the rule and the constraint that stand at a place, and a query
 --     setIn l t, setAt l at, groupSet l g   the set of a type, of the type in the field at a place, of a group
 --     Part l from count        a part of the image holds members that rise
 --     Spans l from count S     it holds those of a set
@@ -32,11 +32,11 @@ use Rattle.decision.specs.Reading.{Rule, Constraint, Request, ruleOf, constrain
 abbrev pub groupsIn : List ℕ → List (List ℕ)
 groupsIn l = policyOf l .groups
 
-abbrev pub rulesIn : List ℕ → List Rule
-rulesIn l = rulesOf (policyOf l)
+abbrev pub rulesIn : List ℕ → ℕ → List Rule
+rulesIn l w = rulesOf (policyOf l) w
 
-abbrev pub ruleIn : List ℕ → ℕ → Rule
-ruleIn l at = ruleOf (policyOf l) (recordAt l at)
+abbrev pub ruleIn : List ℕ → ℕ → ℕ → Rule
+ruleIn l w at = ruleOf (policyOf l) w (recordAt l at)
 
 abbrev pub constraintIn : List ℕ → ℕ → Constraint
 constraintIn l at = constraintOf (policyOf l) (recordAt l at)

@@ -36,7 +36,7 @@ leaves got.Failed b = b
 
 pub record Turned (g : Got) (l b input output : List ℕ) (r : Turn) : Type 0 where
   pub written : Front output (r .end) (says g l b)
-  pub few : r .kept < 8
+  pub few : r .kept < 12
   pub left : Front input (r .kept) (leaves g b)
 
 pub record Faulty (f : Refusal) : Type 0 where

@@ -82,9 +82,9 @@ use Rattle.decide.proofs.LentTables.{tab-ty, tab-val, repeated, map-sam
 use Rattle.decide.specs.declared.steps.Begun.{Begun}
 use Rattle.decide.specs.declared.steps.Step.{Step}
 use Rattle.decide.specs.Inner.Parts.{Surveyed}
-use Rattle.decide.specs.Inner.Kept as Kept
 use Rattle.decide.specs.Inner.Kept.{Leaves}
-use Rattle.decide.proofs.KeptLaws.{kept-none}
+use Rattle.decide.specs.Inner.Verdicts as Kept
+use Rattle.decide.proofs.VerdictLaws.{verdicts-none}
 use Rattle.decide.specs.Inner.Steps.{Begins, stepOf}
 use Rattle.decide.proofs.steps.Begun as B
 use Rattle.decide.proofs.steps.Begun.Laws as B′
@@ -134,7 +134,7 @@ abbrev gval : List ℕ → Val
 gval = tab-val (uint-vals w16)
 
 abbrev Verdicts : RattleType
-Verdicts = Array u8 256
+Verdicts = Array u8 261
 
 abbrev vval : List ℕ → Val
 vval = tab-val (uint-vals w8)
@@ -150,13 +150,13 @@ abbrev tyG : Ty
 tyG = tab-ty u16 256
 
 abbrev tyV : Ty
-tyV = tab-ty u8 256
+tyV = tab-ty u8 261
 
 abbrev tyM : Ty
 tyM = tab-ty bool 1024
 
 abbrev noQuery : Query
-noQuery = record { source = 0; dest = 0; class = 0; action = 0 }
+noQuery = record { source = 0; dest = 0; class = 0; action = 0; switches = 0 }
 
 -- ---- numbers
 -- the byte offset of an element fits, whatever the element's size
@@ -472,7 +472,7 @@ module _ {M : Type 1} (𝓤 : URA M) (H : Heap 𝓤) (A : Atoms 𝓤) (W : Given
           move ! (6 ∷ []) $ use1 W (‵ Own₀ ⊛ ‵ Own₀) (shr-slice-copy 𝓤 H A W (named 0) κ₀ u8 .twice x₀ (s₀ ∷ [])) $ split ! $
           move ! (11 ∷ []) $ use1 W (‵ Lent ⊛ ‵ Lent) (shr-copy 𝓤 H A W (named 1) (α ∷ []) G .twice (xg st gs l₈ l₉ l₁₀ l₁₁ α γ) (vptr l₈ 0 ∷ [])) $ split ! $
           -- [the table; the table; image; image; κ₁; the fractured borrow; obs; the borrow; κ₂; κ₀; res; queries' fact; α; the locals]: the verdicts are lent
-          owned ! Verdicts (Is Verdicts) (array-makes 𝓤 H A W u8 (uint-makes 𝓤 H A W w8) 256) vs _ (t .verdicts-are) $ move ! (L 14 9 ∷ 0 ∷ []) $ use2 W (‵ (partAt Verdicts fullShare vs l₉ 0)) (lies 𝓤 H A W u8 (uint-vals w8) (uint-tells w8) 256 vs l₉) $
+          owned ! Verdicts (Is Verdicts) (array-makes 𝓤 H A W u8 (uint-makes 𝓤 H A W w8) 261) vs _ (t .verdicts-are) $ move ! (L 14 9 ∷ 0 ∷ []) $ use2 W (‵ (partAt Verdicts fullShare vs l₉ 0)) (lies 𝓤 H A W u8 (uint-vals w8) (uint-tells w8) 261 vs l₉) $
           lft-new ! tt (λ ν. move ! (1 ∷ []) $ use1 W (later (some (λ (δ : GName). ‵ (OwnV st gs l₈ l₉ l₁₀ l₁₁ α γ vs ν δ) ⊛ ‵ (flent (ν ∷ []) (Body (mem Verdicts) l₉ 0 δ))))) (lends-ref 𝓤 H A W Verdicts (named 2) (ν ∷ []) vs l₉ 0) $ await ! tt $ pick ! (λ δ₁. split ! $
           -- [the verdicts; lent; ν; as before; the locals but _9]: the source's marks are
           owned ! Marks (Is Marks) (array-makes 𝓤 H A W bool (bool-makes 𝓤 H A W) 1024) ms _ (t .source-is) $ move ! (L 17 10 ∷ 0 ∷ []) $ use2 W (‵ (partAt Marks fullShare ms l₁₀ 0)) (lies 𝓤 H A W bool bool-vals bool-tells 1024 ms l₁₀) $
@@ -511,7 +511,7 @@ module _ {M : Type 1} (𝓤 : URA M) (H : Heap 𝓤) (A : Atoms 𝓤) (W : Given
           facts ! Marks (Is Marks) (shows 𝓤 H A Marks) ms′ (mval ms′ ∷ []) (λ isc.
           -- [_10; _11; ν; α; κ₀; a last; lent; ..]: then the verdicts
           move ! (2 ∷ []) $ lft-end ! tt $ move ! (0 ∷ 6 ∷ 5 ∷ []) $ use3 W (later (‵ (partAt Verdicts fullShare vs′ l₉ 0))) (ref-back 𝓤 H A W Verdicts (ν ∷ []) δ₁ vs′ l₉ 0) $ await ! tt $
-          use1 W (‵ (fat fullShare tyV l₉ 0 (vval vs′)) ⊛ ‵ (Verdicts .own vs′ (vval vs′ ∷ []))) (lies-back 𝓤 H A W u8 (uint-vals w8) (uint-tells w8) 256 vs′ l₉) $ split ! $ move ! (1 ∷ []) $
+          use1 W (‵ (fat fullShare tyV l₉ 0 (vval vs′)) ⊛ ‵ (Verdicts .own vs′ (vval vs′ ∷ []))) (lies-back 𝓤 H A W u8 (uint-vals w8) (uint-tells w8) 261 vs′ l₉) $ split ! $ move ! (1 ∷ []) $
           facts ! Verdicts (Is Verdicts) (shows 𝓤 H A Verdicts) vs′ (vval vs′ ∷ []) (λ isv.
           move ! (3 ∷ 4 ∷ 5 ∷ 6 ∷ 7 ∷ 8 ∷ 9 ∷ 10 ∷ 11 ∷ 12 ∷ 13 ∷ 14 ∷ 15 ∷ 16 ∷ 17 ∷ 18 ∷ 19 ∷ 20 ∷ 21 ∷ 22 ∷ 23 ∷ 24 ∷ 25 ∷ 26 ∷ 27 ∷ 28 ∷ 29 ∷ 30 ∷ 31 ∷ 32 ∷ 33 ∷ 34 ∷ 35 ∷ 36 ∷ 37 ∷ 38 ∷ 39 ∷ 2 ∷ 40 ∷ 1 ∷ 41 ∷ 0 ∷ []) $
           -- [α; κ₀; the table; image; κ₁; the fractured borrow; obs; the borrow; κ₂; res; queries' fact; the locals]
@@ -570,21 +570,21 @@ module _ {M : Type 1} (𝓤 : URA M) (H : Heap 𝓤) (A : Atoms 𝓤) (W : Given
         let e : r .run ≡ out 0 = b .run ∙ out-none img o qs in
         let isx = isb .1 .1 .0 in
         let isg = isb .1 .1 .1 .0 in
-        let vs : List ℕ = replicate 256 0 in
+        let vs : List ℕ = replicate 261 0 in
         let ms : List Bool = replicate 1024 false in
-        -- what `[0u8; 256]` and `[false; 1024]` own
-        owned ! u8 (Is u8) (uint-makes 𝓤 H A W w8) 0 (vint w8 0 ∷ []) (refl, lit< tt) $ use1 W (‵ (Verdicts .own vs (repeated (vint w8 0) 256 ∷ []))) (array-repeat 𝓤 H A W u8 (uint-copy 𝓤 H A W w8) 256 0 (vint w8 0)) $
-        facts ! Verdicts (Is Verdicts) (shows 𝓤 H A Verdicts) vs (repeated (vint w8 0) 256 ∷ []) (λ isv.
+        -- what `[0u8; 261]` and `[false; 1024]` own
+        owned ! u8 (Is u8) (uint-makes 𝓤 H A W w8) 0 (vint w8 0 ∷ []) (refl, lit< tt) $ use1 W (‵ (Verdicts .own vs (repeated (vint w8 0) 261 ∷ []))) (array-repeat 𝓤 H A W u8 (uint-copy 𝓤 H A W w8) 261 0 (vint w8 0)) $
+        facts ! Verdicts (Is Verdicts) (shows 𝓤 H A Verdicts) vs (repeated (vint w8 0) 261 ∷ []) (λ isv.
         owned ! bool (Is bool) (bool-makes 𝓤 H A W) false (vbool false ∷ []) refl $ use1 W (‵ (Marks .own ms (repeated (vbool false) 1024 ∷ []))) (array-repeat 𝓤 H A W bool (bool-copy 𝓤 H A W) 1024 false (vbool false)) $
         facts ! Marks (Is Marks) (shows 𝓤 H A Marks) ms (repeated (vbool false) 1024 ∷ []) (λ ism.
-        let ve = array-tells u8 (uint-vals w8) (uint-tells w8) 256 vs (repeated (vint w8 0) 256 ∷ []) isv in
+        let ve = array-tells u8 (uint-vals w8) (uint-tells w8) 261 vs (repeated (vint w8 0) 261 ∷ []) isv in
         let me = array-tells bool bool-vals bool-tells 1024 ms (repeated (vbool false) 1024 ∷ []) ism in
         let marks-are : Is Marks ms (mval ms ∷ []) = subst (Is Marks ms) me ism in
         assigns ! (of-opd ! (load ! (from ! (fld ! refl (stop !))) (look-in ! (L 2 4) (sub ! 0 refl (whole !))))) (from ! (stop !)) (init ! (L 2 5) refl (tt, record { fits = isb .0 .1 })) $
         assigns ! (of-opd ! (load ! (from ! (fld ! refl (stop !))) (look-in ! (L 2 4) (sub ! 1 refl (whole !))))) (from ! (stop !)) (init ! (L 2 6) refl (EL.lawful O.the-type O′.the-laws 𝓤 H A W tt .typed (r .run) _ (isb .1 .0) .0)) $
         assigns ! (of-opd ! (load ! (from ! (fld ! refl (stop !))) (look-in ! (L 2 4) (sub ! 2 refl (whole !))))) (from ! (stop !)) (init ! (L 2 7) refl (EL.lawful X.the-type X′.the-laws 𝓤 H A W tt .typed (r .sections) _ isx .0)) $
         assigns ! (of-opd ! (load ! (from ! (fld ! refl (stop !))) (look-in ! (L 2 4) (sub ! 3 refl (whole !))))) (from ! (stop !)) (init ! (L 2 8) refl (array-lawful 𝓤 H A W u16 (uint-lawful 𝓤 H A W w16) 256 .typed gs _ isg .0)) $
-        assigns ! (rep ! 256 (lit ! tt)) (from ! (stop !)) (init ! (L 2 9) refl (array-lawful 𝓤 H A W u8 (uint-lawful 𝓤 H A W w8) 256 .typed vs _ isv .0)) $
+        assigns ! (rep ! 261 (lit ! tt)) (from ! (stop !)) (init ! (L 2 9) refl (array-lawful 𝓤 H A W u8 (uint-lawful 𝓤 H A W w8) 261 .typed vs _ isv .0)) $
         assigns ! (rep ! 1024 (false-lit !)) (from ! (stop !)) (init ! (L 2 10) refl (array-lawful 𝓤 H A W bool (bool-lawful 𝓤 H A W) 1024 .typed ms _ ism .0)) $
         assigns ! (rep ! 1024 (false-lit !)) (from ! (stop !)) (init ! (L 2 11) refl (array-lawful 𝓤 H A W bool (bool-lawful 𝓤 H A W) 1024 .typed ms _ ism .0)) $
         assigns ! (of-opd ! (lit ! tt)) (from ! (stop !)) (init ! (L 2 12) refl (tt, record { fits = lit< tt })) $
@@ -600,7 +600,7 @@ module _ {M : Type 1} (𝓤 : URA M) (H : Heap 𝓤) (A : Atoms 𝓤) (W : Given
         -- [the table; lent; α; κ₀; image; the locals but _8; the rest]
         first ! $ blocks ! $ move ! (54 ∷ 55 ∷ 56 ∷ 3 ∷ 4 ∷ 57 ∷ 58 ∷ 59 ∷ 60 ∷ 2 ∷ 0 ∷ 5 ∷ 6 ∷ 7 ∷ 8 ∷ 9 ∷ 10 ∷ 11 ∷ 12 ∷ 13 ∷ 14 ∷ 15 ∷ 16 ∷ 17 ∷ 18 ∷ 19 ∷ 20 ∷ 21 ∷ 22 ∷ 23 ∷ 24 ∷ 25 ∷ 26 ∷ 27 ∷ 28 ∷ 29 ∷ 30 ∷ 31 ∷ 32 ∷ 33 ∷ 34 ∷ 35 ∷ 36 ∷ 1 ∷ []) $
         loops ! 𝓣 (Less (r .sections) gs surveyed isx isg α γ) (wf (r .sections) gs surveyed isx isg α γ) (Inv (r .sections) gs surveyed isx isg α γ) (turn-at (r .sections) gs surveyed isx isg α γ)
-        (record { i = 0; vs = vs; ms = ms; ns = ms; few = omega arith; run-is = subst (λ (c : Run). Is O.the-row c (oval c ∷ [])) e (isb .1 .0); verdicts-are = subst (Is Verdicts vs) ve isv; source-is = marks-are; dest-is = marks-are; kept = record { verdicts = kept-none _ 256; source = refl; dest = refl } })))))
+        (record { i = 0; vs = vs; ms = ms; ns = ms; few = omega arith; run-is = subst (λ (c : Run). Is O.the-row c (oval c ∷ [])) e (isb .1 .0); verdicts-are = subst (Is Verdicts vs) ve isv; source-is = marks-are; dest-is = marks-are; kept = record { verdicts = verdicts-none _; source = refl; dest = refl } })))))
 
     -- the body, up to the result of `begin_queries`
     body : Triple 𝓤 (𝓣 .C #decide·begin) (Begin 𝓤 H A at-mem run)

@@ -14,9 +14,9 @@ use Rattle.runs.specs.Numbers.{rowsOf}
 use Rattle.runs.proofs.Fill.{fill, length-fill}
 use Rattle.runs.proofs.Progress.{out-none, ran-numbers, wrote-numbers}
 use Rattle.decide.specs.declared.steps.Begun.{Begun}
-use Rattle.decide.specs.Inner.Kept.{Tables}
+use Rattle.decide.specs.Inner.Verdicts.{Tables}
 use Rattle.decide.specs.Inner.Steps.{Begins, stepOf}
-use Rattle.decide.proofs.KeptLaws.{kept-none}
+use Rattle.decide.proofs.VerdictLaws.{verdicts-none}
 use Rattle.decide.proofs.NumberLaws.{fault, codes, out, rows, begun-numbers, row-slot, row-few, row-numbers, row-run, row-code}
 use Rattle.decide.proofs.batch.run_numbers.Statement.{statement}
 use Rattle.decide.proofs.batch.run_numbers.Tie as tie
@@ -49,10 +49,10 @@ module _ (d : tie.After-groups Inv-loop μ-loop) where
   begun = d .before .begin .result
 
   begins : Begins l (length (rowsOf ns)) (fault l ns ys) begun
-  begins = begun-numbers l ns ys _ begun (d .before .before .four-each .ensures) (d .before .begin .ensures)
+  begins = begun-numbers l ns ys _ begun (d .before .before .six-each .ensures) (d .before .begin .ensures)
 
 loop-holds : tie.Need-loop-holds Inv-loop μ-loop
-loop-holds c = record { few = omega arith; ran = begins c .run ∙ out-none (l c) (fault (l c) (ns c) (ys c)) (rowsOf (ns c)); are = refl; kept = record { verdicts = kept-none _ 256; source = refl; dest = refl } }
+loop-holds c = record { few = omega arith; ran = begins c .run ∙ out-none (l c) (fault (l c) (ns c) (ys c)) (rowsOf (ns c)); are = refl; kept = record { verdicts = verdicts-none _; source = refl; dest = refl } }
 
 row-at-requires : tie.Need-row-at-requires Inv-loop μ-loop
 row-at-requires c κs = let a = c .before .before in row-numbers (l a) (ns a) (ys a) (c .before .loop .i) (begun a .rows) (begins a .rows) (c .loop-test .taken)

@@ -7,9 +7,10 @@ use Rattle.format.specs.Bytes.{wordAt}
 use Rattle.decision.specs.Sets.{within}
 use Rattle.decision.specs.Decide.{broken, fails}
 use Rattle.decide.specs.Inner.Parts.{rulesIn, constraintIn, requestIn, setIn, setAt}
-use Rattle.decide.specs.Inner.Kept.{verdictOf}
+use Rattle.decide.specs.Inner.Verdicts.{verdictOf}
 use Rattle.decide.proofs.PartLaws.{constraint-first, constraint-second}
-use Rattle.decide.proofs.KeptLaws.{kept-says, kept-adds, with-source, with-dest, side-within}
+use Rattle.decide.proofs.KeptLaws.{with-source, with-dest, side-within}
+use Rattle.decide.proofs.VerdictLaws.{held-says, held-adds}
 use Rattle.decide.proofs.ConstraintLaws.{fails-class, fails-action, fails-first, fails-second, fails-broken}
 use borrow.Author.Needs.{needs}
 use Rattle.decide.proofs.constraint.constraint_fails.Statement.{statement}
@@ -57,11 +58,11 @@ returns-4 c = let p = c .before .before .before .before .before .before .before 
     }
 
 -- the predicate of the constraint at the place is that of constraint n
-by-place : (d : tie.Else4) → broken (rulesIn (now (d .before .before .before .before .before .before .before .before .before .before .before .before .before .args .image))) (constraintIn (now (d .before .before .before .before .before .before .before .before .before .before .before .before .before .args .image)) (d .before .before .before .before .before .before .before .before .before .before .before .before .before .args .at)) ≡ verdictOf (now (d .before .before .before .before .before .before .before .before .before .before .before .before .before .args .image)) (d .before .before .before .before .before .before .before .before .before .before .before .before .before .args .n)
-by-place d = let a = d .before .before .before .before .before .before .before .before .before .before .before .before .before in ap (λ x. broken (rulesIn (now (a .args .image))) (constraintIn (now (a .args .image)) x)) (a .pre .2 .place)
+by-place : (d : tie.Else4) → broken (rulesIn (now (d .before .before .before .before .before .before .before .before .before .before .before .before .before .args .image)) (d .before .before .before .before .before .before .before .before .before .before .before .before .before .args .q .switches)) (constraintIn (now (d .before .before .before .before .before .before .before .before .before .before .before .before .before .args .image)) (d .before .before .before .before .before .before .before .before .before .before .before .before .before .args .at)) ≡ verdictOf (now (d .before .before .before .before .before .before .before .before .before .before .before .before .before .args .image)) (d .before .before .before .before .before .before .before .before .before .before .before .before .before .args .q .switches) (d .before .before .before .before .before .before .before .before .before .before .before .before .before .args .n)
+by-place d = let a = d .before .before .before .before .before .before .before .before .before .before .before .before .before in ap (λ x. broken (rulesIn (now (a .args .image)) (a .args .q .switches)) (constraintIn (now (a .args .image)) x)) (a .pre .2 .place)
 
 -- what is left to the predicate
-by-rules : (d : tie.Else4) → fails (rulesIn (now (d .before .before .before .before .before .before .before .before .before .before .before .before .before .args .image))) (requestIn (now (d .before .before .before .before .before .before .before .before .before .before .before .before .before .args .image)) (d .before .before .before .before .before .before .before .before .before .before .before .before .before .args .q)) (constraintIn (now (d .before .before .before .before .before .before .before .before .before .before .before .before .before .args .image)) (d .before .before .before .before .before .before .before .before .before .before .before .before .before .args .at)) ≡ verdictOf (now (d .before .before .before .before .before .before .before .before .before .before .before .before .before .args .image)) (d .before .before .before .before .before .before .before .before .before .before .before .before .before .args .n)
+by-rules : (d : tie.Else4) → fails (rulesIn (now (d .before .before .before .before .before .before .before .before .before .before .before .before .before .args .image)) (d .before .before .before .before .before .before .before .before .before .before .before .before .before .args .q .switches)) (requestIn (now (d .before .before .before .before .before .before .before .before .before .before .before .before .before .args .image)) (d .before .before .before .before .before .before .before .before .before .before .before .before .before .args .q)) (constraintIn (now (d .before .before .before .before .before .before .before .before .before .before .before .before .before .args .image)) (d .before .before .before .before .before .before .before .before .before .before .before .before .before .args .at)) ≡ verdictOf (now (d .before .before .before .before .before .before .before .before .before .before .before .before .before .args .image)) (d .before .before .before .before .before .before .before .before .before .before .before .before .before .args .q .switches) (d .before .before .before .before .before .before .before .before .before .before .before .before .before .args .n)
 by-rules d =
     fails-broken _ _ _ (d .before .before .before .before .before .before .before .before .before .before .before .before .before .pre .2 .here) _ (same-class (d .before .before .before .before .before .before .before .before .before)) (same-action (d .before .before .before .before .before .before)) (first-told (d .before .before .before .before) ∙ not-false _ (d .before .before .before .if3 .left)) (second-told (d .before) ∙ not-false _ (d .if4 .left))
     ∙ by-place d
@@ -69,15 +70,15 @@ by-rules d =
 returns-5 : tie.Need-returns-5
 returns-5 c = let a = c .before .before .before .before .before .before .before .before .before .before .before .before .before .before .before in
     let d = c .before .before in
-    record { is = kept-says (verdictOf (now (a .args .image))) _ (a .pre .3) _ (c .if5 .taken) ∙ sym (by-rules d); kept = (with-dest (with-source (a .pre .1) (d .before .before .before .before .inside .ensures .kept)) (d .before .inside2 .ensures .kept), a .pre .3) }
+    record { is = held-says _ _ _ (a .pre .3) _ (a .pre .2 .few) (c .if5 .taken) ∙ sym (by-rules d); kept = (with-dest (with-source (a .pre .1) (d .before .before .before .before .inside .ensures .kept)) (d .before .inside2 .ensures .kept), a .pre .3) }
 
 returns-6 : tie.Need-returns-6
 returns-6 c = let a = c .before .before .before .before .before .before .before .before .before .before .before .before .before .before .before .before .before .before in
     let d = c .before .before .before .before .before in
     let e = c .before .before .predicate-broken .ensures ∙ by-place d in
     record {
-      is = c .keep .ensures .0 ∙ e ∙ sym (by-rules d);
-      kept = (with-dest (with-source (a .pre .1) (d .before .before .before .before .inside .ensures .kept)) (d .before .inside2 .ensures .kept), rw (c .keep .ensures .1) (kept-adds (verdictOf (now (a .args .image))) _ (a .pre .3) _ _ e));
+      is = c .keep-verdict .ensures .0 ∙ e ∙ sym (by-rules d);
+      kept = (with-dest (with-source (a .pre .1) (d .before .before .before .before .inside .ensures .kept)) (d .before .inside2 .ensures .kept), rw (c .keep-verdict .ensures .1) (held-adds _ _ _ (a .pre .3) _ (a .pre .2 .few) _ e));
     }
 
 pub constraint-fails-spec : {M : Type 1} → statement M

@@ -48,7 +48,7 @@ abbrev μ-members : tie.MeasureT-members
 
 abbrev Inv-rules : tie.InvT-rules
 Inv-rules image groups q source sources dest dests ksource₀ kdest₀ count n₀ at₀ last₀ both₀ ksource kdest n at last both =
-    Turn (FirstOf Rules (ruleOf (policyOf image)) image (covers (requestIn image q)) (firstRule image q) count n at) (Sides image q source sources dest dests ksource kdest)
+    Turn (FirstOf Rules (ruleOf (policyOf image) (q .switches)) image (covers (requestIn image q)) (firstRule image q) count n at) (Sides image q source sources dest dests ksource kdest)
 
 abbrev μ-rules : tie.MeasureT-rules
 μ-rules image groups q source sources dest dests ksource₀ kdest₀ count n₀ at₀ last₀ both₀ ksource kdest n at last both = count - n
@@ -68,7 +68,7 @@ source-told d = let a = d .before .before .before .before .before .before .befor
 -- what a turn that finds nothing leaves
 gone :
     (d : tie.Joined2 Inv-members μ-members Inv-rules μ-rules)
-    → (covers (requestIn (now (d .before .before .before .before .before .before .before .args .image)) (d .before .before .before .before .before .before .before .args .q)) (ruleIn (now (d .before .before .before .before .before .before .before .args .image)) (d .before .before .before .before .rules .at)) ≡ false)
+    → (covers (requestIn (now (d .before .before .before .before .before .before .before .args .image)) (d .before .before .before .before .before .before .before .args .q)) (ruleIn (now (d .before .before .before .before .before .before .before .args .image)) (d .before .before .before .before .before .before .before .args .q .switches) (d .before .before .before .before .rules .at)) ≡ false)
     × Sides (now (d .before .before .before .before .before .before .before .args .image)) (d .before .before .before .before .before .before .before .args .q) (now (d .before .before .before .before .before .before .before .args .source)) (d .before .before .before .before .before .before .before .args .sources) (now (d .before .before .before .before .before .before .before .args .dest)) (d .before .before .before .before .before .before .before .args .dests) (d .if2 .ksource) (d .if2 .kdest)
 gone d =
     let a = d .before .before .before .before .before .before .before in
@@ -126,7 +126,7 @@ unfolding firstRule
 rules-holds c = let a = c .before .before in
     let l = now (a .args .image) in
     record {
-      walk = walk-start _ _ _ _ _ _ _ (ready-rules _ _ _ (a .pre .0)) (c .word-in .ensures .0 ∙ sym (count-rules _)) (ap (λ rs. foundOf (firstAt (covers (requestIn l (a .args .q))) 0 rs)) (all-rules l));
+      walk = walk-start _ _ _ _ _ _ _ (ready-rules _ _ _ (a .pre .0)) (c .word-in .ensures .0 ∙ sym (count-rules _)) (ap (λ rs. foundOf (firstAt (covers (requestIn l (a .args .q))) 0 rs)) (all-rules l (a .args .q .switches)));
       kept = a .pre .1;
     }
 

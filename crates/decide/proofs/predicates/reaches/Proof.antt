@@ -1,18 +1,23 @@
 -- `reaches` meets its contract: the two tests are the definition's. Assumes nothing.
 use borrow.Author.Needs.{needs}
-use mathlib.Core.Path.{sym, _∙_}
+use Prim.Native.Nat.{_+_}
+use mathlib.Core.Path.{sym, ap, _∙_}
+use mathlib.Core.Bool.{_&&_}
+use denote.Ref.{now}
 use borrow.Author.Tests.{not-true, not-false}
-use Rattle.decide.proofs.RuleLaws.{reaching-off, reaching-dest}
+use Rattle.decide.specs.Inner.Parts.{setAt}
+use Rattle.decide.specs.Inner.Marks.{anyMarked}
 use Rattle.decide.proofs.predicates.reaches.Statement.{statement}
 use Rattle.decide.proofs.predicates.reaches.Tie as tie
 
 returns : tie.Need-returns
-returns c = let p = c .before .before .pre in record { is = sym (reaching-off _ _ _ (p .0 .here) _ _ (p .0 .is) (not-true _ (c .if1 .taken))); kept = p .1 }
+returns c = let a = c .before .before in
+    record { is = ap (λ b. b && anyMarked (now (a .args .reach)) (setAt (now (a .args .image)) (a .args .at + 4))) (sym (not-true (a .args .live) (c .if1 .taken))); kept = a .pre .1 }
 
 returns-2 : tie.Need-returns-2
-returns-2 c = let p = c .before .before .before .before .pre in
+returns-2 c = let a = c .before .before .before .before in
     let r = c .meets .ensures in
-    record { is = r .is ∙ sym (reaching-dest _ _ _ (p .0 .here) _ _ (p .0 .is) (not-false _ (c .before .before .if1 .left))); kept = r .kept }
+    record { is = r .is ∙ ap (λ b. b && anyMarked (now (a .args .reach)) (setAt (now (a .args .image)) (a .args .at + 4))) (sym (not-false (a .args .live) (c .before .before .if1 .left))); kept = r .kept }
 
 pub reaches-spec : {M : Type 1} → statement M
 reaches-spec = tie.close (tie.spec returns (λ c. search needs) (λ c κs. search needs) returns-2)

@@ -6,8 +6,8 @@ use mathlib.Core.Bool.{Bool}
 use mathlib.Core.List.{List}
 use lib.ListN.{length, length-set}
 use Rattle.image.proofs.SurveyLaws.{survey-placed}
-use Rattle.decide.specs.Inner.Kept.{Tables}
-use Rattle.decide.proofs.KeptLaws.{kept-none}
+use Rattle.decide.specs.Inner.Verdicts.{Tables}
+use Rattle.decide.proofs.VerdictLaws.{verdicts-none}
 use Rattle.decide.proofs.RowLaws.{filled, rows-next, rows-end}
 use Rattle.decide.proofs.rows.decide_all.Statement.{statement}
 use Rattle.decide.proofs.rows.decide_all.Tie as tie
@@ -28,7 +28,7 @@ abbrev μ-loop : tie.MeasureT-loop
 μ-loop image queries answers₀ rows groups sections verdicts₀ source₀ dest₀ k₀ k-end answers verdicts source dest k = k-end - k
 
 loop-holds : tie.Need-loop-holds Inv-loop μ-loop
-loop-holds c = record { few = omega arith; rows = omega arith; all = refl; same = refl; are = refl; kept = record { verdicts = kept-none _ 256; source = refl; dest = refl } }
+loop-holds c = record { few = omega arith; rows = omega arith; all = refl; same = refl; are = refl; kept = record { verdicts = verdicts-none _; source = refl; dest = refl } }
 
 same-length : tie.Need-same-length Inv-loop μ-loop
 same-length c = c .before .before .loop .inv .same

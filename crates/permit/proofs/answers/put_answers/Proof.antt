@@ -9,7 +9,7 @@ use Rattle.permit.proofs.answers.put_answers.Statement.{statement}
 use Rattle.permit.proofs.answers.put_answers.Tie as tie
 
 abbrev Inv-loop : tie.InvT-loop
-Inv-loop image input numbers output₀ rows end₀ k₀ output end k = (k ≤ rows) × (rows ≡ length input / 8) × (end ≤ 44 * k) × (length output ≡ length output₀) × LinesTo image input output k end
+Inv-loop image input numbers output₀ rows end₀ k₀ output end k = (k ≤ rows) × (rows ≡ length input / 12) × (end ≤ 44 * k) × (length output ≡ length output₀) × LinesTo image input output k end
 
 abbrev μ-loop : tie.MeasureT-loop
 μ-loop image input numbers output₀ rows end₀ k₀ output end k = rows - k

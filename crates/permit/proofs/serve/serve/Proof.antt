@@ -10,7 +10,7 @@ use Rattle.permit.proofs.serve.serve.Statement.{statement}
 use Rattle.permit.proofs.serve.serve.Tie as tie
 
 abbrev Inv-loop : tie.InvT-loop
-Inv-loop image input₀ numbers₀ output₀ kept₀ turns₀ t10 input numbers output kept turns = (kept < 8) × (16384 ≡ length input) × (2048 ≡ length numbers) × (98304 ≡ length output)
+Inv-loop image input₀ numbers₀ output₀ kept₀ turns₀ t10 input numbers output kept turns = (kept < 12) × (24576 ≡ length input) × (2048 ≡ length numbers) × (98304 ≡ length output)
 
 abbrev μ-loop : tie.MeasureT-loop
 μ-loop image input₀ numbers₀ output₀ kept₀ turns₀ t10 input numbers output kept turns = turns

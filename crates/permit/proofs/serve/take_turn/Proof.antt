@@ -11,7 +11,7 @@ use Rattle.permit.proofs.serve.take_turn.Statement.{statement}
 use Rattle.permit.proofs.serve.take_turn.Tie as tie
 
 -- what a read of some bytes has brought
-some : (c : tie.After-known-told) → (0 < c .before .got .given .0 .0) × (c .before .got .given .0 .0 ≤ 16384 - c .before .before .before .before .before .before .before .args .kept)
+some : (c : tie.After-known-told) → (0 < c .before .got .given .0 .0) × (c .before .got .given .0 .0 ≤ 24576 - c .before .before .before .before .before .before .before .args .kept)
 some c = bytes-brought _ _ _ (c .before .got .given .1) (c .before .before .before .before .before .before .before .pre .5)
 
 add-have : tie.Need-add-have
