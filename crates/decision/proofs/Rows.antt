@@ -2,17 +2,17 @@
 --     numbers-length   a number for each whole row
 --     numbers-at       the number of a row is its answer's
 --     rows-whole, rows-answered, slots-stay, row-alone   the claims
-use Prim.Native.Nat.{ℕ, zero, suc, _+_, _-_, _*_, _/_, _<_, _≤_}
+use Prim.Native.Nat.{ℕ, zero, suc, _+_, _-_, _*_, _/_, _%_, _<_, _≤_}
 use native.Mathlib.Omega.{arith}
 use mathlib.Core.Path.{_≡_, refl, sym, ap, _∙_}
 use mathlib.Core.List.{List, _++_}
 use lib.ListN.{length, getD, take, drop, List·getD-append}
 use lib.Seq.{length-take-le, length-front, getD-take, getD-drop, getD-append-add}
-use Rattle.format.specs.Bytes.{wordAt}
+use Rattle.format.specs.Bytes.{wordAt, putWord}
 use Rattle.format.proofs.Bytes.{word-take, word-drop}
 use Rattle.decision.specs.Decide.{answer}
 use Rattle.decision.specs.Numbers.{decisionCode}
-use Rattle.decision.specs.Rows.{queryAt, numbersFrom, numbers, rowsIn, answered, rowAt, RowsAnswered, SlotsStay, RowsWhole, RowAlone}
+use Rattle.decision.specs.Rows.{queryAt, numbersFrom, numbers, rowsIn, answered, rowAt, QueryRead, queryBytes, RowsAnswered, SlotsStay, RowsWhole, RowAlone}
 
 pub rows-whole : RowsWhole
 rows-whole b n = (λ h. omega arith, λ h. omega arith)
@@ -70,6 +70,25 @@ rows-answered l b slots k h =
     List·getD-append (take n (numbers l b)) (drop n slots) 0 k inside
     ∙ getD-take n (numbers l b) k 0 h
     ∙ numbers-at l b k (omega arith)
+
+two-bytes : (n : ℕ) → n < 65536 → n / 256 * 256 + n % 256 ≡ n
+two-bytes n h = omega arith
+
+pub query-read : QueryRead
+unfolding queryBytes putWord wordAt
+query-read =
+    record {
+      back = λ q f.
+          (let s = two-bytes (q .source) (f .source) in
+          let d = two-bytes (q .dest) (f .dest) in
+          let c = two-bytes (q .class) (f .class) in
+          let a = two-bytes (q .action) (f .action) in
+          let h : q .switches / 65536 / 256 * 256 + q .switches / 65536 % 256 ≡ q .switches / 65536 = two-bytes (q .switches / 65536) (omega (arith, f .switches)) in
+          let l : q .switches % 65536 / 256 * 256 + q .switches % 65536 % 256 ≡ q .switches % 65536 = two-bytes (q .switches % 65536) (omega arith) in
+          let w : q .switches / 65536 * 65536 + q .switches % 65536 ≡ q .switches = omega arith in
+          rw (s, d, c, a, h, l, w));
+      by-hand = refl;
+    }
 
 pub slots-stay : SlotsStay
 slots-stay l b slots = (slots-many l b slots, slot-stays l b slots)
