@@ -5,6 +5,7 @@
 --     upto-..           a number in its range
 --     says-..           what a word says, and the place past it
 --     decimal-..        by how many digits there are, and the first
+--     letter-.., other-none, says-behind   by the first byte: a letter, or another
 --     word-is           the bytes up to the place past a word are that word
 use Prim.Native.Nat.{ℕ, zero, suc, _+_, _-_, _*_, _≤_, _<_}
 use mathlib.Core.Path.{_≡_, refl, sym, ap, _∙_}
@@ -249,6 +250,44 @@ module _ (text : List ℕ) (from base most : ℕ) (x : List ℕ) (small : base +
       let o : upTo most (numberOf x) ≡ some (w .number) = said-some (upTo most (numberOf x)) (w .number) (s .number) few in
       says-number text from (w .end) (base + w .number) (rw o) (omega (arith, number-most most x (w .number) o)) (s .end few)
 
+-- ---- a word by its first byte
+
+first-byte : (letter : ℕ) (l : List ℕ) → 0 < letter → getD (wordOf l) 0 0 ≡ letter → getD l 0 0 ≡ letter
+unfolding wordOf wordSize
+first-byte letter [] h e = e
+first-byte letter (c ∷ l) h e = step (eqb c 32 || eqb c 10) e where
+  step : (t : Bool) → getD (take (cond t 0 (suc (wordSize l))) (c ∷ l)) 0 0 ≡ letter → c ≡ letter
+  step true k = absurd (omega arith)
+  step false k = k
+
+letter-other : (letter base most : ℕ) (w : List ℕ) → (getD w 0 0 ≡ letter → ⊥) → lettered letter base most w ≡ none
+unfolding lettered
+letter-other letter base most [] h = refl
+letter-other letter base most (c ∷ w) h = rw (ne-eqb c letter h)
+
+module _ (letter : ℕ) (text : List ℕ) (from : ℕ) where
+  other-none : (base most : ℕ) → 0 < letter → (getD text from 0 ≡ letter → ⊥) → lettered letter base most (wordOf (drop from text)) ≡ none
+  other-none base most h e =
+      letter-other letter base most (wordOf (drop from text))
+      (λ x. e (ap (λ (k : ℕ). getD text k 0) (omega arith) ∙ sym (getD-drop from text 0 0) ∙ first-byte letter (drop from text) h x))
+
+  module _ (h : from < length text) (high : 32 < letter) (e : getD text from 0 ≡ letter) where
+    no-space : getD text from 0 ≡ 32 → ⊥
+    no-space x = absurd (omega arith)
+
+    no-feed : getD text from 0 ≡ 10 → ⊥
+    no-feed x = absurd (omega arith)
+
+    letter-first : wordOf (drop from text) ≡ letter ∷ wordOf (drop (from + 1) text)
+    letter-first = let q : suc from ≡ from + 1 = omega arith in word-byte text from h no-space no-feed ∙ rw (e, q)
+
+    -- what is said behind the letter is said with it
+    says-behind : {o : Option ℕ} (o′ : Option ℕ) (w : Word) → Says o text (from + 1) w → o′ ≡ o → Says o′ text from w
+    says-behind o′ w s i =
+        let q : suc from ≡ from + 1 = omega arith in
+        let n : wordSize (drop from text) ≡ suc (wordSize (drop (from + 1) text)) = word-next text from h no-space no-feed ∙ rw q in
+        record { number = rw i (s .number); few = s .few; end = λ k. s .end k ∙ omega (arith, n) }
+
 -- ---- types
 
 -- `g` is no digit
@@ -257,49 +296,25 @@ unfolding numberTo numberOf digitsFrom isDigit upTo
 letter-none most [] = refl
 letter-none most (d ∷ w) = refl
 
-letter-other : (w : List ℕ) → (getD w 0 0 ≡ 103 → ⊥) → lettered 103 32768 32767 w ≡ none
-unfolding lettered
-letter-other [] h = refl
-letter-other (c ∷ w) h = rw (ne-eqb c 103 h)
-
-first-byte : (l : List ℕ) → getD (wordOf l) 0 0 ≡ 103 → getD l 0 0 ≡ 103
-unfolding wordOf wordSize
-first-byte [] e = e
-first-byte (c ∷ l) e = step (eqb c 32 || eqb c 10) e where
-  step : (t : Bool) → getD (take (cond t 0 (suc (wordSize l))) (c ∷ l)) 0 0 ≡ 103 → c ≡ 103
-  step true k = absurd (omega arith)
-  step false k = k
-
 module _ (text : List ℕ) (from : ℕ) where
   pub type-empty : length text ≤ from → Says (valueOf AnyType (wordOf (drop from text))) text from (record { number = 65536; end = from })
   unfolding valueOf numberTo numberOf upTo lettered
   type-empty h = says-outside text from from (rw (word-empty (drop from text) (word-none text from h)) (orElse-none refl refl))
 
-  module _ (h : from < length text) where
-    pub type-group :
-        (w : Word) → getD text from 0 ≡ 103 → Says (above 32768 (numberTo 32767 (wordOf (drop (from + 1) text)))) text (from + 1) w
-        → Says (valueOf AnyType (wordOf (drop from text))) text from w
-    unfolding valueOf lettered
-    type-group w e s =
-        let q : suc from ≡ from + 1 = omega arith in
-        let no-space : getD text from 0 ≡ 32 → ⊥ = λ x. absurd (omega arith) in
-        let no-feed : getD text from 0 ≡ 10 → ⊥ = λ x. absurd (omega arith) in
-        let b : wordOf (drop from text) ≡ 103 ∷ wordOf (drop (from + 1) text) =
-        word-byte text from h no-space no-feed ∙ rw (e, q) in
-        let n : wordSize (drop from text) ≡ suc (wordSize (drop (from + 1) text)) =
-        word-next text from h no-space no-feed ∙ rw q in
-        let o : valueOf AnyType (wordOf (drop from text)) ≡ above 32768 (numberTo 32767 (wordOf (drop (from + 1) text))) =
-        rw b (orElse-next _ (letter-none 32767 (wordOf (drop (from + 1) text)))) in
-        record { number = rw o (s .number); few = s .few; end = λ k. s .end k ∙ omega (arith, n) }
+  pub type-group :
+      (w : Word) → from < length text → getD text from 0 ≡ 103 → Says (above 32768 (numberTo 32767 (wordOf (drop (from + 1) text)))) text (from + 1) w
+      → Says (valueOf AnyType (wordOf (drop from text))) text from w
+  unfolding valueOf lettered
+  type-group w h e s =
+      says-behind 103 text from h (omega arith) e (valueOf AnyType (wordOf (drop from text))) w s
+      (rw (letter-first 103 text from h (omega arith) e) (orElse-next _ (letter-none 32767 (wordOf (drop (from + 1) text)))))
 
-    pub type-basic :
-        (w : Word) → (getD text from 0 ≡ 103 → ⊥) → Says (numberTo 32767 (wordOf (drop from text))) text from w
-        → Says (valueOf AnyType (wordOf (drop from text))) text from w
-    unfolding valueOf
-    type-basic w e s =
-        let first : getD (wordOf (drop from text)) 0 0 ≡ 103 → ⊥ =
-        λ x. e (ap (λ (k : ℕ). getD text k 0) (omega arith) ∙ sym (getD-drop from text 0 0) ∙ first-byte (drop from text) x) in
-        says-same w s (rw (letter-other (wordOf (drop from text)) first) (orElse-nothing (numberTo 32767 (wordOf (drop from text)))))
+  pub type-basic :
+      (w : Word) → (getD text from 0 ≡ 103 → ⊥) → Says (numberTo 32767 (wordOf (drop from text))) text from w
+      → Says (valueOf AnyType (wordOf (drop from text))) text from w
+  unfolding valueOf
+  type-basic w e s =
+      says-same w s (rw (other-none 103 text from 32768 32767 (omega arith) e) (orElse-nothing (numberTo 32767 (wordOf (drop from text)))))
 
 -- ---- conditions
 
@@ -319,10 +334,27 @@ module _ (text : List ℕ) (from end : ℕ) (e : end ≡ from + wordSize (drop f
         same (take (end - from) (drop from text)) (ascii "on") ≡ true
         → Says (valueOf Condition (wordOf (drop from text))) text from (record { number = 1; end = end })
     unfolding valueOf named
-    says-on h = says-number text from end 1 (orElse-next _ (rw (rw word-is at f)) ∙ rw (rw word-is at h)) (omega arith) e
+    says-on h =
+        says-number text from end 1 (orElse-next _ (rw (rw word-is at f)) ∙ orElse-first _ (rw (rw word-is at h))) (omega arith) e
 
     pub says-neither :
-        same (take (end - from) (drop from text)) (ascii "on") ≡ false
+        same (take (end - from) (drop from text)) (ascii "on") ≡ false → (getD text from 0 ≡ 115 → ⊥)
         → Says (valueOf Condition (wordOf (drop from text))) text from (record { number = 65536; end = end })
     unfolding valueOf named
-    says-neither h = says-outside text from end (orElse-none (rw (rw word-is at f)) (rw (rw word-is at h)))
+    says-neither h s =
+        says-outside text from end
+        (orElse-none (rw (rw word-is at f)) (orElse-none (rw (rw word-is at h)) (other-none 115 text from 2 31 (omega arith) s)))
+
+module _ (text : List ℕ) (from : ℕ) where
+  pub condition-empty : length text ≤ from → Says (valueOf Condition (wordOf (drop from text))) text from (record { number = 65536; end = from })
+  unfolding ascii same valueOf named lettered
+  condition-empty h =
+      says-outside text from from (rw (word-empty (drop from text) (word-none text from h)) (orElse-none refl (orElse-none refl refl)))
+
+  pub condition-switch :
+      (w : Word) → from < length text → getD text from 0 ≡ 115 → Says (above 2 (numberTo 31 (wordOf (drop (from + 1) text)))) text (from + 1) w
+      → Says (valueOf Condition (wordOf (drop from text))) text from w
+  unfolding ascii same valueOf named lettered
+  condition-switch w h e s =
+      says-behind 115 text from h (omega arith) e (valueOf Condition (wordOf (drop from text))) w s
+      (rw (letter-first 115 text from h (omega arith) e) (orElse-next _ refl ∙ orElse-next _ refl))

@@ -151,10 +151,20 @@ fn any_type(text: &[u8], from: usize) -> Word
     number(text, from, 32767)
 }
 
+// `off`, `on`, or `s` and a switch.
 fn condition(text: &[u8], from: usize) -> Word
     requires { ⌜ from ≤ length (now text) ⌝ }
     ensures { λ r. ⌜ Says (valueOf Condition (wordOf (drop from (now (text .entry))))) (now (text .entry)) from r ⌝ }
 {
+    if text.len() <= from {
+        return Word {
+            number: OUTSIDE,
+            end: from,
+        };
+    }
+    if text[from] == b's' {
+        return above_base(text, from + 1, 2, 31);
+    }
     let end = word_end(text, from);
     if same(&text[from..end], b"off") {
         return Word { number: 0, end };

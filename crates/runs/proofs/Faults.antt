@@ -3,7 +3,7 @@
 --     fault-fits, fault-rows           a run that is not refused: its answers' list fits, and it has at most 64 rows
 --     queries-fault, same-lengths      the refusal of queries, by their rows; as many slots as queries
 --     numbers-fault, numbers-named     the refusal of numbers, by their rows; it is the check's, 16 or 17
---     same-count, few-numbers          four numbers for each slot, and at most 64 rows of them
+--     same-count, few-numbers          six numbers for each slot, and at most 64 rows of them
 --     run-faults, numbers-faults       the claims
 use Prim.Native.Nat.{ℕ, _*_, _/_, _≤_, _<_}
 use mathlib.Core.Path.{_≡_, refl, _∙_}

@@ -11,7 +11,7 @@ use Rattle.extension.specs.Add.{sectionOf, withRecord, fieldFault, newNumber, o
 use Rattle.text.specs.Words.{ascii, splitStep, split, same, isDigit, digitsFrom, numberOf, upTo, numberTo, named, above, lettered}
 use Rattle.text.specs.Rows.{valueOf, fieldBytes, group, allow, transition, constraint, forms, asBytes, joined, fieldsOf, headed, recordBy, recordOfWords, recordOfRow}
 use Rattle.text.specs.Build.{movedTo, recordFault, afterRecord, rowFault, afterRow, onward, rowsFrom, built}
-use Rattle.text.specs.Cases.{workedRows, rowGives, rowStands, WorkedRows, outsideRows, rowNamed, members, groupOf, WorkedOutside, oneTransition, workedTexts, textGives, textMakes, WorkedTexts, fullGroups, fullFault, WorkedFull}
+use Rattle.text.specs.Cases.{workedRows, rowGives, rowStands, WorkedRows, outsideRows, rowNamed, members, groupOf, WorkedOutside, oneTransition, oneSwitched, workedTexts, textGives, textMakes, WorkedTexts, fullGroups, fullFault, WorkedFull}
 
 pub worked-rows : WorkedRows
 unfolding
@@ -37,7 +37,7 @@ unfolding
     ascii splitStep split same isDigit digitsFrom numberOf upTo numberTo named above lettered
     valueOf fieldBytes group allow transition constraint forms asBytes joined fieldsOf headed recordBy recordOfWords recordOfRow
     movedTo recordFault afterRecord rowFault afterRow onward rowsFrom built
-    oneTransition workedTexts textGives textMakes
+    oneTransition oneSwitched workedTexts textGives textMakes
 worked-texts = refl
 
 pub worked-full : WorkedFull

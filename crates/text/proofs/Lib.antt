@@ -1,6 +1,7 @@
 pub mod Cases
 pub mod Parts
 pub mod Words
+pub mod Conditions
 pub mod Records
 pub mod Rows
 pub mod Follow

@@ -18,7 +18,7 @@ use Rattle.format.proofs.Bytes.{bytes-nil, bytes-cons, bytes-append, bytes-word
 use Rattle.format.proofs.Shapes.{shape-most, shape-of, long-group, long-allow, long-transition, long-constraint}
 use Rattle.text.specs.declared.Field.{Field}
 use Rattle.text.specs.declared.Field.the-variants.{Member, AnyType, Number, Predicate, Condition}
-use Rattle.text.specs.Words.{ascii, same, numberTo, named, lettered}
+use Rattle.text.specs.Words.{ascii, same, numberTo, lettered}
 use Rattle.text.specs.Rows.{valueOf, fieldBytes, Form, group, allow, transition, constraint, forms}
 use Rattle.text.specs.Rows.{asBytes, joined, fieldsOf, headed, recordBy, recordOfWords, recordOfRow}
 use Rattle.text.specs.Inner.Parts.{runOf, rest, width}
@@ -33,7 +33,7 @@ valueMost Member = 32767
 valueMost AnyType = 65535
 valueMost Number = 65535
 valueMost Predicate = 255
-valueMost Condition = 1
+valueMost Condition = 33
 
 fieldLength : Field → ℕ
 fieldLength Member = 2
@@ -65,11 +65,13 @@ value-says AnyType w n e =
 value-says Number w n e = record { most = number-most 65535 w n e; short = omega (arith, number-short 65535 w n e (omega arith)) }
 value-says Predicate w n e = record { most = number-most 255 w n e; short = omega (arith, number-short 255 w n e (omega arith)) }
 value-says Condition w n e =
-    orElse-refuses (Says 1 w) (named (ascii "off") 0 w) (named (ascii "on") 1 w) (λ x h. says-named (ascii "off") 0 x h off-short (omega arith))
-    (λ _ x h. says-named (ascii "on") 1 x h on-short (omega arith)) n e
+    orElse-refuses (Says 33 w) _ _ (λ x h. says-named (named-is _ _ w x h) off-short (omega arith))
+    (λ _. orElse-refuses (Says 33 w) _ _ (λ x h. says-named (named-is _ _ w x h) on-short (omega arith))
+    (λ _ x h. record { most = omega (arith, lettered-most _ _ _ w x h); short = lettered-short _ _ _ w x (omega arith) h }))
+    n e
   where
-    says-named : (word : List ℕ) (v x : ℕ) → named word v w ≡ some x → length word ≤ 6 → v ≤ 1 → Says 1 w x
-    says-named word v x h k m = let q = named-is word v w x h in record { most = omega (arith, q .1); short = omega (arith, ap length (q .0)) }
+    says-named : {word : List ℕ} {v x : ℕ} → (w ≡ word) × (x ≡ v) → length word ≤ 6 → v ≤ 33 → Says 33 w x
+    says-named q k m = record { most = omega (arith, q .1); short = omega (arith, ap length (q .0)) }
 
 pub value-most : (f : Field) (w : List ℕ) (n : ℕ) → valueOf f w ≡ some n → n ≤ valueMost f
 value-most f w n e = value-says f w n e .most

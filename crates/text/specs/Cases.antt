@@ -1,4 +1,4 @@
--- Rows and texts with what they give, worked out from document 02, request [3].
+-- Rows and texts with what they give, worked out from document 02, request [3]; those with switches, last in each table, from [6].
 --     WorkedRows      rows, and the records that they stand for
 --     WorkedOutside   rows outside the form: 65 members too, but not the 64 that there may be, and bytes that no quoted text has
 --     WorkedFull      rows behind a section that is full
@@ -42,6 +42,10 @@ workedRows =
           ∷ 0 ∷ 9 ∷ 0 ∷ 10 ∷ 0 ∷ 11 ∷ 0 ∷ 12 ∷ 0 ∷ 13 ∷ 0 ∷ 14 ∷ 0 ∷ 15 ∷ 0 ∷ 16 ∷ [];
     }
     ∷ record { row = "limit 1 2 3 4 2 g5 6"; stands = 15 ∷ 4 ∷ 0 ∷ 1 ∷ 0 ∷ 2 ∷ 0 ∷ 3 ∷ 0 ∷ 4 ∷ 2 ∷ 128 ∷ 5 ∷ 0 ∷ 6 ∷ [] }
+    ∷ record { row = "allow 10 g0 5 1 s0"; stands = 11 ∷ 2 ∷ 0 ∷ 10 ∷ 128 ∷ 0 ∷ 0 ∷ 5 ∷ 0 ∷ 1 ∷ 2 ∷ [] }
+    ∷ record { row = "allow 1 2 3 4 s9"; stands = 11 ∷ 2 ∷ 0 ∷ 1 ∷ 0 ∷ 2 ∷ 0 ∷ 3 ∷ 0 ∷ 4 ∷ 11 ∷ [] }
+    ∷ record { row = "allow 1 2 3 4 s10"; stands = 11 ∷ 2 ∷ 0 ∷ 1 ∷ 0 ∷ 2 ∷ 0 ∷ 3 ∷ 0 ∷ 4 ∷ 12 ∷ [] }
+    ∷ record { row = "allow g32767 32767 65535 0 s31"; stands = 11 ∷ 2 ∷ 255 ∷ 255 ∷ 127 ∷ 255 ∷ 255 ∷ 255 ∷ 0 ∷ 0 ∷ 33 ∷ [] }
     ∷ []
 
 unfoldable pub rowGives : WorkedRow → Option (List ℕ)
@@ -53,21 +57,27 @@ rowStands w = some (w .stands)
 abbrev pub WorkedRows : Type 0
 WorkedRows = map rowGives workedRows ≡ map rowStands workedRows
 
--- words, numbers, ranges, types, conditions, counts, control bytes; and then again, with words in other places
+-- words, numbers, ranges, types, conditions, counts, control bytes; then again, with words in other places; and switches
 unfoldable pub outsideRows : List String
 outsideRows =
     "x" ∷ "group" ∷ "group " ∷ " group 1" ∷ "group  1" ∷ "group 1 " ∷ " " ∷ "Group 1" ∷ "groups 1" ∷ "grou 1"
     ∷ "group 01" ∷ "group 00" ∷ "group +1" ∷ "group -1" ∷ "group 1a" ∷ "group 0x1" ∷ "group 1,2" ∷ "trans 1 2 03"
     ∷ "group 32768" ∷ "allow 1 2 65536 4 on" ∷ "allow 1 2 3 65536 on" ∷ "limit 1 2 3 4 256" ∷ "trans 1 2 99999999999999999999"
     ∷ "group g1" ∷ "trans g32768 2 3" ∷ "trans 32768 2 3" ∷ "trans g 2 3" ∷ "trans g01 2 3" ∷ "trans G1 2 3" ∷ "trans gg1 2 3"
-    ∷ "allow 1 2 3 4 ON" ∷ "allow 1 2 3 4 1" ∷ "allow 1 2 3 4 onn" ∷ "allow 1 2 3 4 o" ∷ "allow 1 2 3 4 s0" ∷ "allow 1 2 3 4 of"
+    ∷ "allow 1 2 3 4 ON" ∷ "allow 1 2 3 4 1" ∷ "allow 1 2 3 4 onn" ∷ "allow 1 2 3 4 o" ∷ "allow 1 2 3 4 Off" ∷ "allow 1 2 3 4 of"
     ∷ "allow 1 2 3 4" ∷ "allow 1 2 3 4 on on" ∷ "trans 1 2" ∷ "trans 1 2 3 4" ∷ "limit 1 2 3 4"
     ∷ "limit 1 2 3 4 2 1 2 3 4 5 6 7 8 9 10 11 12 13 14 15 16 17"
     ∷ "group\t1" ∷ "group 1\r" ∷ "\r" ∷ "\t"
     ∷ "group 1 g0" ∷ "group 1 32768" ∷ "allow 1 2 3 g4 on" ∷ "limit g1 2 3 4 0" ∷ "limit 1 g2 3 4 0" ∷ "limit 1 2 3 32768 0"
     ∷ "limit 1 2 3 4 2 32768" ∷ "group :" ∷ "group /" ∷ "trans a1 2 3" ∷ "Allow 1 2 3 4 on" ∷ "Trans 1 2 3" ∷ "Limit 1 2 3 4 0"
     ∷ "a 1 2 3 4 on" ∷ "t 1 2 3" ∷ "l 1 2 3 4 0" ∷ "allow 1 2 3 4 on 5" ∷ "trans 1 2 4294967301"
-    ∷ "trans 1 2 18446744073709551621" ∷ "# x" ∷ []
+    ∷ "trans 1 2 18446744073709551621" ∷ "# x"
+    ∷ "allow 1 2 3 4 s32" ∷ "allow 1 2 3 4 s00" ∷ "allow 1 2 3 4 s01" ∷ "allow 1 2 3 4 s" ∷ "allow 1 2 3 4 s031"
+    ∷ "allow 1 2 3 4 s1x" ∷ "allow 1 2 3 4 S1" ∷ "allow 1 2 3 4 s 1" ∷ "allow 1 2 3 4 on1" ∷ "allow 1 2 3 4 off0"
+    ∷ "allow 1 2 3 4 s+1" ∷ "allow 1 2 3 4 ss1" ∷ "allow 1 2 3 4 1s" ∷ "allow 1 2 3 4 g1" ∷ "allow 1 2 3 4 s1 "
+    ∷ "allow 1 2 3 4 s1 s1" ∷ "allow 1 2 3 4 son" ∷ "allow 1 2 3 4 s99" ∷ "allow 1 2 3 4 s310" ∷ "allow 1 2 3 4 s4294967297"
+    ∷ "allow 1 2 3 4 s18446744073709551617" ∷ "allow s1 2 3 4 on" ∷ "allow 1 2 3 s4 on" ∷ "trans 1 2 s3" ∷ "limit 1 2 3 4 s0"
+    ∷ "group s1" ∷ []
 
 unfoldable pub rowNamed : String → Option (List ℕ)
 rowNamed row = recordOfRow (ascii row)
@@ -81,7 +91,7 @@ groupOf [] = []
 groupOf (w ∷ ws) = w ++ groupOf ws
 
 pub record WorkedOutside : Type 0 where
-  pub rows : map rowNamed outsideRows ≡ replicate 66 none
+  pub rows : map rowNamed outsideRows ≡ replicate 92 none
   pub zero-byte : recordOfRow (ascii "group 1" ++ (0 ∷ [])) ≡ none
   pub high-byte : recordOfRow (ascii "group " ++ (177 ∷ [])) ≡ none
   pub members-65 : recordOfRow (ascii "group" ++ groupOf (members 65)) ≡ none
@@ -96,6 +106,10 @@ pub record WorkedText : Type 0 where
 -- the empty policy with one transition: 12 to 20, class 5
 unfoldable pub oneTransition : List ℕ
 oneTransition = 1 ∷ 0 ∷ 17 ∷ 0 ∷ 0 ∷ 0 ∷ 1 ∷ 0 ∷ 0 ∷ 8 ∷ 3 ∷ 0 ∷ 12 ∷ 0 ∷ 20 ∷ 0 ∷ 5 ∷ []
+
+-- and with one rule that a switch turns on: 12 to 20, class 5, action 1, switch 31
+unfoldable pub oneSwitched : List ℕ
+oneSwitched = 1 ∷ 0 ∷ 20 ∷ 0 ∷ 0 ∷ 0 ∷ 1 ∷ 0 ∷ 0 ∷ 11 ∷ 2 ∷ 0 ∷ 12 ∷ 0 ∷ 20 ∷ 0 ∷ 5 ∷ 0 ∷ 1 ∷ 33 ∷ []
 
 -- document 01's sample
 abbrev pub sampleText : String
@@ -142,6 +156,13 @@ workedTexts =
     ∷ record { text = "\r\n"; space = 9; answer = refused (refusal 18 0); buffer = empty }
     ∷ record { text = "# x\n"; space = 9; answer = refused (refusal 18 0); buffer = empty }
     ∷ record { text = "trans 1 1024 3"; space = 9; answer = refused (refusal 11 0); buffer = empty }
+    ∷ record { text = "allow 12 20 5 1 s31"; space = 20; answer = gives 20; buffer = oneSwitched }
+    ∷ record {
+      text = "allow 12 20 5 1 s31\nallow 12 20 5 1 s32";
+      space = 33;
+      answer = refused (refusal 18 20);
+      buffer = oneSwitched ++ replicate 13 7;
+    }
     ∷ []
 
 unfoldable pub textGives : WorkedText → Made

@@ -1,4 +1,4 @@
--- A row of a text, and the record that it stands for (document 02, request [3]).
+-- A row of a text, and the record that it stands for (document 02, request [3]; the switches of conditions are request [6]'s).
 --     valueOf f w           what the word w says in a field
 --     fieldBytes f n        the bytes that a field of the record has for it: one for a predicate and a condition, else two
 --     Form                  a row's first word, the kind of its record, the fields that follow, and those that may follow them
@@ -18,13 +18,14 @@ use Rattle.text.specs.declared.Field.the-variants.{Member, AnyType, Numb
 use Rattle.text.specs.Words.{ascii, split, same, numberTo, named, lettered}
 
 -- What the form allows: that a basic type is below 1024, and that a group is there, is adding's 11. A member is a basic type; any
--- type is one, or `g` (103) and a group's number, which the field holds with 32768 added; a number is a class or an action.
+-- type is one, or `g` (103) and a group's number, which the field holds with 32768 added; a number is a class or an action. A
+-- condition is `off`, byte 0, or `on`, byte 1; or `s` (115) and a switch, 0 to 31, whose byte is 2 more (request [6]).
 unfoldable pub valueOf : Field → List ℕ → Option ℕ
 valueOf Member w = numberTo 32767 w
 valueOf AnyType w = numberTo 32767 w orElse lettered 103 32768 32767 w
 valueOf Number w = numberTo 65535 w
 valueOf Predicate w = numberTo 255 w
-valueOf Condition w = named (ascii "off") 0 w orElse named (ascii "on") 1 w
+valueOf Condition w = named (ascii "off") 0 w orElse named (ascii "on") 1 w orElse lettered 115 2 31 w
 
 unfoldable pub fieldBytes : Field → ℕ → List ℕ
 fieldBytes Member n = putWord n []

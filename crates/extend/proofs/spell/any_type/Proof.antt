@@ -10,10 +10,10 @@ returns : tie.Need-returns
 returns c = let a = c .before .before .args in type-empty (now (a .text)) (a .from) (omega arith)
 
 returns-2 : tie.Need-returns-2
-returns-2 c = let a = c .before .before .before .before .before .args in type-group (now (a .text)) (a .from) (omega arith) (c .above-base .result) (c .before .if2 .taken) (c .above-base .ensures)
+returns-2 c = let a = c .before .before .before .before .before .args in type-group (now (a .text)) (a .from) (c .above-base .result) (omega arith) (c .before .if2 .taken) (c .above-base .ensures)
 
 returns-3 : tie.Need-returns-3
-returns-3 c = let a = c .before .before .before .before .before .args in type-basic (now (a .text)) (a .from) (omega arith) (c .number .result) (c .before .if2 .left) (c .number .ensures)
+returns-3 c = let a = c .before .before .before .before .before .args in type-basic (now (a .text)) (a .from) (c .number .result) (c .before .if2 .left) (c .number .ensures)
 
 pub any-type-spec : {M : Type 1} → statement M
 any-type-spec =
