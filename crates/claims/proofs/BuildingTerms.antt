@@ -17,8 +17,8 @@ use Rattle.text.proofs.Follow.{rows-place}
 use Rattle.claims.specs.Promises.{Promises}
 use Rattle.claims.specs.Terms.{trans, left, BuildingMet}
 use Rattle.claims.proofs.Worked.{texts, sample-records, one-added, one-after}
-use Rattle.claims.proofs.Worked.{off-row, list-row, return-outside, zero-outside, class-outside}
-use Rattle.claims.proofs.Worked.{full-12, full-18, full-11, full-13, sample-built, trans-built, trans-short, outside-full, return-refused}
+use Rattle.claims.proofs.Worked.{off-row, switch-0-row, switch-31-row, list-row, return-outside, zero-outside, class-outside, switch-32-outside, switch-01-outside}
+use Rattle.claims.proofs.Worked.{full-12, full-18, full-11, full-13, sample-built, trans-built, trans-short, outside-full, switch-built, return-refused}
 use Rattle.claims.proofs.TextTerms.{behind-feed, cause-outside, cause-added, cause-there}
 use Rattle.claims.proofs.TextTerms.{none-built, empty-built, row-counts, rows-left, left-well-formed, left-behind, next-outside, far-outside, first-built, own-alone, never}
 
@@ -88,10 +88,14 @@ building-met p =
       space-own = λ text b f h e h₁ h₂ h₃. own-alone p text b f e h₁ h₂ (c .space-enough text b f h e) h₃;
       worked-all = (texts .rows, texts .outside, texts .texts);
       off-row = off-row (c .worked-rows);
+      switch-0-row = switch-0-row (c .worked-rows);
+      switch-31-row = switch-31-row (c .worked-rows);
       list-row = list-row (c .worked-rows);
       return-outside = return-outside (c .worked-outside);
       zero-outside = zero-outside (c .worked-outside);
       class-outside = class-outside (c .worked-outside);
+      switch-32-outside = switch-32-outside (c .worked-outside);
+      switch-01-outside = switch-01-outside (c .worked-outside);
       zero-byte = c .worked-outside .zero-byte;
       high-byte = c .worked-outside .high-byte;
       members-outside = c .worked-outside .members-65;
@@ -104,5 +108,6 @@ building-met p =
       trans-built = trans-built (c .worked-texts);
       trans-short = trans-short (c .worked-texts);
       outside-full = outside-full (c .worked-texts);
+      switch-built = switch-built (c .worked-texts);
       return-refused = return-refused (c .worked-texts);
     }

@@ -1,11 +1,11 @@
 -- What meets the terms of the claims of the program's output and of the C interface, from the statement: no claim's own proof is
 -- cited. Assumes nothing.
 use native.Mathlib.Omega.{arith}
-use Prim.Native.Nat.{ℕ, suc, _*_, _≤_, _<_}
+use Prim.Native.Nat.{ℕ, zero, suc, _*_, _≤_, _<_}
 use mathlib.Core.Option.{some}
 use mathlib.Core.Path.{_≡_, subst, refl, sym, ap, ap₂, _∙_}
 use mathlib.Core.List.{List, [], _∷_, _++_, map}
-use lib.ListN.{length, take, replicate, length-append, length-replicate}
+use lib.ListN.{length, getD, take, replicate, length-append, length-replicate}
 use Rattle.format.specs.declared.Section.the-variants.{Groups, Rules, Constraints}
 use Rattle.format.specs.Bytes.{Bytes}
 use Rattle.format.specs.Answers.{refused, outcome, extent}
@@ -26,12 +26,12 @@ use Rattle.mungaite.specs.Claims.{FaultFits, ExtentFits, NumberFits, RowFits, B
 use Rattle.mungaite.specs.Code.{buildCode}
 use Rattle.mungaite.specs.Host.{hostRun, hostBuilt}
 use Rattle.runs.specs.Runs.{runOf}
-use Rattle.runs.specs.Numbers.{numbersOf, numbersFault, numbersRun, rowCode, runCode}
+use Rattle.runs.specs.Numbers.{rowsOf, numbersOf, numbersFault, numbersRun, rowCode, runCode}
 use Rattle.runs.specs.Cases.{member, transition, offRule}
 use Rattle.claims.specs.Promises.{Promises}
 use Rattle.claims.specs.Terms.{query, byBytes, sampleBytes, outsideBehind, PrintingMet, CallingMet}
 use Rattle.claims.proofs.Cases.{companion-space, cut-bytes, row-answers, fitNumbers, unfitNumbers, run-numbers, inputs}
-use Rattle.claims.proofs.Worked.{near-line, no-rules-line, unknown-line, empty-printed, short-printed, three-printed}
+use Rattle.claims.proofs.Worked.{near-line, no-rules-line, unknown-line, empty-printed, short-printed, three-printed, eleven-left, switch-0-printed, switch-31-printed}
 use Rattle.claims.proofs.Worked.{texts, reads-bytes, reads-once, reads-in-two, sample-compiled, refused-compiled, sample-built}
 use Rattle.claims.proofs.Worked.{length-code, build-refusal-code}
 use Rattle.claims.proofs.TextTerms.{far-outside}
@@ -67,6 +67,9 @@ module _ (p : Promises) where
         no-rules-line = no-rules-line (p .printing .worked-lines);
         unknown-line = unknown-line (p .printing .worked-lines);
         three-printed = three;
+        eleven-left = eleven-left runs;
+        switch-0-printed = switch-0-printed runs;
+        switch-31-printed = switch-31-printed runs;
         compiled-by-bytes = λ text b h. p .printing .any-compiled text b (byBytes text) h (reads-bytes text);
         compiled-at-once = λ text b h. p .printing .any-compiled text b (text ∷ []) h (reads-once text);
         compiled-in-two = λ text more b h. p .printing .any-compiled (text ++ more) b (text ∷ [] ∷ more ∷ []) h (reads-in-two text more);
@@ -89,8 +92,22 @@ module _ (p : Promises) where
   refused-16 l ns slots = p .calling .numbers-refused l ns slots (refusal 16 0) .0
 
   refused-17 :
-      (l ns : List ℕ) (slots : ℕ) → Accepted l → 4 ≤ length ns → length ns ≤ 259 → (length ns ≡ 4 * slots → ⊥) → numbersRun l ns slots ≡ refused (refusal 17 0)
+      (l ns : List ℕ) (slots : ℕ) → Accepted l → 6 ≤ length ns → length ns ≤ 389 → (length ns ≡ 6 * slots → ⊥) → numbersRun l ns slots ≡ refused (refusal 17 0)
   refused-17 l ns slots a h k z = p .calling .numbers-refused l ns slots (refusal 17 0) .0 (p .calling .numbers-faults l .1 a .2 (length ns) slots h k z)
+
+  six-numbers :
+      (s d k a h w : ℕ) → s ≤ 65535 → d ≤ 65535 → k ≤ 65535 → a ≤ 65535 → h ≤ 65535 → w ≤ 65535
+      → numbersOf (rowsOf (s ∷ d ∷ k ∷ a ∷ h ∷ w ∷ [])) ≡ s ∷ d ∷ k ∷ a ∷ h ∷ w ∷ []
+  six-numbers s d k a h w hs hd hk ha hh hw = p .calling .numbers-whole (s ∷ d ∷ k ∷ a ∷ h ∷ w ∷ []) 1 short refl
+    where
+      short : (i : ℕ) → getD (s ∷ d ∷ k ∷ a ∷ h ∷ w ∷ []) i 0 < 65536
+      short zero = omega (arith, hs)
+      short (suc zero) = omega (arith, hd)
+      short (suc (suc zero)) = omega (arith, hk)
+      short (suc (suc (suc zero))) = omega (arith, ha)
+      short (suc (suc (suc (suc zero)))) = omega (arith, hh)
+      short (suc (suc (suc (suc (suc zero))))) = omega (arith, hw)
+      short (suc (suc (suc (suc (suc (suc i)))))) = omega arith
 
   outside-fits : (n : ℕ) → n ≤ 281474976710653 → length (outsideBehind n) < 281474976710656
   outside-fits n h = omega (arith, h, length-append (replicate n 10) (10 ∷ ascii "x"), length-replicate {A = ℕ} n 10, texts .outside-length)
@@ -146,21 +163,21 @@ module _ (p : Promises) where
         build-refusal-code = build-refusal-code;
         queries-run = λ l qs ys. c .numbers-run l qs ys .0;
         queries-codes = λ l qs ys e. c .numbers-run l qs ys .1 ∙ unless-accepted (map (rowCode l) qs) ys e;
-        four-numbers = λ s d k a. c .numbers-whole (s ∷ d ∷ k ∷ a ∷ []) 1 refl;
-        four-more = λ s d k a ns m e. c .numbers-whole (s ∷ d ∷ k ∷ a ∷ ns) (suc m) (omega (arith, e));
+        six-numbers = six-numbers;
+        all-numbers = λ ns m h e. c .numbers-whole ns m (λ i. let z = h i in omega (arith, z)) e;
         any-row = λ l ns ys i y a e k h. c .numbers-answered l ns ys i y (ap (λ n. numbersFault l n (length ys)) e ∙ c .numbers-faults l .1 a .3 (length ys) (omega (arith, h)) k) h;
-        second-row = λ l x y z w s d k a u v e. c .numbers-answered l (x ∷ y ∷ z ∷ w ∷ s ∷ d ∷ k ∷ a ∷ []) (u ∷ v ∷ []) 1 0 (c .numbers-faults l .1 e .3 2 (omega arith) (omega arith)) (omega arith);
+        second-row = λ l x₀ x₁ x₂ x₃ x₄ x₅ s d k a h w u v e. c .numbers-answered l (x₀ ∷ x₁ ∷ x₂ ∷ x₃ ∷ x₄ ∷ x₅ ∷ s ∷ d ∷ k ∷ a ∷ h ∷ w ∷ []) (u ∷ v ∷ []) 1 0 (c .numbers-faults l .1 e .3 2 (omega arith) (omega arith)) (omega arith);
         image-numbers = λ l ns slots f e. c .numbers-refused l ns slots f .0 (c .numbers-faults l .0 f (length ns) slots e);
-        numbers-3 = λ l ns slots e k. refused-16 l ns slots (c .numbers-faults l .1 e .0 (length ns) slots (omega (arith, k)));
-        numbers-5 = λ l ns e k. refused-17 l ns 1 e (omega (arith, k)) (omega (arith, k)) (λ z. absurd (omega (arith, z, k)));
-        numbers-4 = λ l ns e k. refused-17 l ns 2 e (omega (arith, k)) (omega (arith, k)) (λ z. absurd (omega (arith, z, k)));
-        numbers-259 = λ l ns e k. refused-17 l ns 64 e (omega (arith, k)) (omega (arith, k)) (λ z. absurd (omega (arith, z, k)));
-        numbers-260 = λ l ns slots e k. refused-16 l ns slots (c .numbers-faults l .1 e .1 (length ns) slots (omega (arith, k)));
-        numbers-256 = λ l ns f e k h. some-not-none
-            (sym (c .numbers-refused l ns 64 f .1 h) ∙ (let z : length ns ≡ 4 * 64 = omega (arith, k) in ap (λ n. numbersFault l n 64) z ∙ c .numbers-faults l .1 e .3 64 (omega arith) (omega arith)));
+        numbers-few = λ l ns slots e k. refused-16 l ns slots (c .numbers-faults l .1 e .0 (length ns) slots (omega (arith, k)));
+        numbers-7 = λ l ns e k. refused-17 l ns 1 e (omega (arith, k)) (omega (arith, k)) (λ z. absurd (omega (arith, z, k)));
+        numbers-6 = λ l ns e k. refused-17 l ns 2 e (omega (arith, k)) (omega (arith, k)) (λ z. absurd (omega (arith, z, k)));
+        numbers-389 = λ l ns e k. refused-17 l ns 64 e (omega (arith, k)) (omega (arith, k)) (λ z. absurd (omega (arith, z, k)));
+        numbers-390 = λ l ns slots e k. refused-16 l ns slots (c .numbers-faults l .1 e .1 (length ns) slots (omega (arith, k)));
+        numbers-384 = λ l ns f e k h. some-not-none
+            (sym (c .numbers-refused l ns 64 f .1 h) ∙ (let z : length ns ≡ 6 * 64 = omega (arith, k) in ap (λ n. numbersFault l n 64) z ∙ c .numbers-faults l .1 e .3 64 (omega arith) (omega arith)));
         numbers-other = λ l ns slots a h k z. refused-17 l ns slots a h k z;
         left-any = λ l ns ys f. c .numbers-left l ns ys .1 f;
-        left-5 = λ l ns y e k. c .numbers-left l ns (y ∷ []) .1 (refusal 17 0) (refused-17 l ns 1 e (omega (arith, k)) (omega (arith, k)) (λ z. absurd (omega (arith, z, k))));
+        left-7 = λ l ns y e k. c .numbers-left l ns (y ∷ []) .1 (refusal 17 0) (refused-17 l ns 1 e (omega (arith, k)) (omega (arith, k)) (λ z. absurd (omega (arith, z, k))));
         codes-many = λ l ns ys. c .numbers-left l ns ys .0;
         fit-code = c .parts-whole 1 0 0 (omega arith) (omega arith);
         row-code = λ n h. c .parts-whole 0 0 n (omega arith) (omega arith) ∙ omega arith;

@@ -1,18 +1,20 @@
 -- Facts of values that are written out, by computation. Assumes nothing.
-use Prim.Native.Nat.{ℕ}
+use Prim.Native.Nat.{ℕ, zero, suc, _+_, _-_, _<_}
 use native.Mathlib.Omega.{arith}
 use mathlib.Core.Path.{_≡_, refl, sym, ap, _∙_}
-use mathlib.Core.Bool.{true}
+use mathlib.Core.Bool.{Bool, true}
 use mathlib.Core.Option.{none, some}
-use mathlib.Core.List.{List, [], _∷_, _++_, flatten, map, List·Memᴰ·head, List·Memᴰ·tail}
-use lib.ListN.{length, getD, take, drop, replicate}
-use lib.Dec.{eqb}
+use mathlib.Core.List.{List, [], _∷_, _++_, flatten, map, List·Memᴰ, List·Memᴰ·head, List·Memᴰ·tail, Memᴰ·map}
+use lib.ListN.{length, getD, take, drop, replicate, length-append, List·getD-append}
+use lib.Seq.{getD-append-add, getD-set-other}
+use lib.Dec.{eqb, ltb}
+use borrow.Author.Tests.{le-leb, ltb-true, ltb-false}
 use Rattle.format.specs.declared.Section.the-variants.{Rules, Constraints}
 use Rattle.format.specs.Bytes.{Bytes, wordAt, words, putWord}
 use Rattle.format.specs.Format.{knownVersion, limitOf, countPlace, countOf, kindIn, lengthOk, firstRecord, shapeOk}
 use Rattle.format.specs.Format.{isType, isCondition, listOk}
 use Rattle.format.specs.Format.{badMember, badType, badGroup, badAllow, badTransition, badConstraint, badField}
-use Rattle.format.specs.Policy.{bodyOf, imageOf, recordAt, placeAfter, recordsAt, startOf, placeOf, endOf, policyOf}
+use Rattle.format.specs.Policy.{Policy, bodyOf, imageOf, recordAt, placeAfter, recordsAt, startOf, placeOf, endOf, policyOf}
 use Rattle.format.specs.Check.{readFields, readOf, readFault, sectionFault, countFault, headerFault, bodyFault, check, Accepted, imageIn, checkFront}
 use Rattle.format.specs.Claims.{typeFields}
 use Rattle.format.specs.Sample.{sample, empty}
@@ -22,22 +24,26 @@ use Rattle.format.proofs.Front.{image-in-of}
 use Rattle.extension.specs.Add.{sectionOf, withRecord, fieldFault, newNumber, ownFault, addFault, newImage, overwrite, bufferAfter}
 use Rattle.extension.proofs.Adds.{section-of}
 use Rattle.format.specs.Answers.{Outcome, refused, gives}
+use Rattle.decision.specs.declared.Query.{Query}
 use Rattle.decision.specs.declared.Nearest.the-variants.{Near}
 use Rattle.decision.specs.Sets.{anyOf, allOf, isIn, setOf, touches}
+use Rattle.decision.specs.Conditions.{switchOn, isOn}
 use Rattle.decision.specs.Reading.{live, ruleOf, rulesOf}
-use Rattle.decision.specs.Decide.{Decision, notPermitted, permitted, unknown, answer}
-use Rattle.decision.specs.Cases.{g0, allow, companion, withSpace, extended, ask, cases, given, expectedOf, MarkedCases}
+use Rattle.decision.specs.Decide.{Decision, notPermitted, permitted, unknown, answer, queryOf}
+use Rattle.decision.specs.Cases.{g0, allow, companion, withSpace, extended, ask, askOn, cases, given, expectedOf, MarkedCases}
 use Rattle.decision.specs.Clauses.{allowGroup}
 use Rattle.decision.specs.Steps.{off}
 use Rattle.decision.specs.Separation.{From, FromRecord, answerWas, separation, story, elsewhere, sharedCases, SharedCases, wasCases, givenWas, SharedWas}
-use Rattle.decision.specs.Rows.{queryAt}
+use Rattle.decision.specs.Switches.{upTo, withWord, settledRule, settled, onOf, onlyOn, allowIf, rinse, switchCases, SwitchCases}
+use Rattle.decision.specs.Rows.{queryAt, queryBytes}
+use Rattle.decision.proofs.Search.{by-test}
 use Rattle.format.specs.Refusals.{refusal, need, _orElse_, unlessRefused}
 use Rattle.decision.proofs.Cases.{Answers}
 use Rattle.runs.specs.Numbers.{rowsOf, numbersOf}
 use Rattle.runs.specs.Cases.{member, group, transition, offRule, noSource, runCases, numberCases}
 use Rattle.lines.specs.Output.{imageSize}
-use Rattle.lines.specs.Worked.{workedLines, asked, workedRuns}
-use Rattle.claims.specs.Terms.{query, threeQueries, twoAndPart, byBytes, cutSample, longSample, badSample, tooShort, separated, shared, oneLong}
+use Rattle.lines.specs.Worked.{workedLines, askedOn, asked, workedRuns}
+use Rattle.claims.specs.Terms.{query, threeQueries, twoAndPart, byBytes, cutSample, longSample, badSample, tooShort, separated, switched, shared, oneLong, allOn}
 
 pub empty-nine : length empty ≡ 9
 unfolding empty
@@ -110,22 +116,26 @@ pub record Inputs : Type 0 where
   pub short : flatten (drop 9 tooShort ∷ []) ≡ behind tooShort
   pub header : imageSize (take 8 sample) ≡ 9
   pub lines : length workedLines ≡ 10
-  pub runs : length workedRuns ≡ 16
+  pub runs : length workedRuns ≡ 23
 
 pub inputs : Inputs
-unfolding flatten wordAt words sample empty asked imageSize workedLines workedRuns
+unfolding flatten wordAt words sample empty askedOn asked imageSize workedLines workedRuns
 inputs = record { by-bytes = refl; in-two = refl; at-once = refl; none-asked = refl; short = refl; header = refl; lines = refl; runs = refl }
 
 -- rows of queries
 pub record QueryRows : Type 0 where
-  pub many : length threeQueries ≡ 24
-  pub part : length twoAndPart ≡ 23
+  pub many : length threeQueries ≡ 36
+  pub part : length twoAndPart ≡ 35
   pub first : queryAt twoAndPart 0 ≡ query 10 21 5 1
-  pub second : queryAt twoAndPart 8 ≡ query 12 20 9 9
+  pub second : queryAt twoAndPart 12 ≡ query 12 20 9 9
 
 pub query-rows : QueryRows
-unfolding wordAt asked
+unfolding wordAt askedOn asked
 query-rows = record { many = refl; part = refl; first = refl; second = refl }
+
+pub twelve-bytes : (q : Query) → length (queryBytes q) ≡ 12
+unfolding queryBytes putWord
+twelve-bytes q = refl
 
 -- the rows of runs: what each is answered, and their numbers
 pub record RowAnswers : Type 0 where
@@ -140,17 +150,17 @@ unfolding member group transition offRule noSource
 row-answers a = record { member-is = a .member; group-is = a .group; transition-is = a .transition; off-is = a .off; no-source-is = a .no-source }
 
 abbrev pub fitNumbers : List ℕ
-fitNumbers = 10 ∷ 21 ∷ 5 ∷ 1 ∷ 12 ∷ 20 ∷ 9 ∷ 9 ∷ []
+fitNumbers = 10 ∷ 21 ∷ 5 ∷ 1 ∷ 0 ∷ 0 ∷ 12 ∷ 20 ∷ 9 ∷ 9 ∷ 0 ∷ 0 ∷ []
 
 abbrev pub unfitNumbers : List ℕ
-unfitNumbers = 10 ∷ 21 ∷ 5 ∷ 1 ∷ 13 ∷ 21 ∷ 5 ∷ 1 ∷ []
+unfitNumbers = 10 ∷ 21 ∷ 5 ∷ 1 ∷ 0 ∷ 0 ∷ 13 ∷ 21 ∷ 5 ∷ 1 ∷ 0 ∷ 0 ∷ []
 
 pub record RunNumbers : Type 0 where
   pub fit : numbersOf (member ∷ transition ∷ []) ≡ fitNumbers
   pub unfit : numbersOf (member ∷ offRule ∷ []) ≡ unfitNumbers
   pub second : query 12 20 9 9 ≡ transition
-  pub cases : length runCases ≡ 27
-  pub number-cases : length numberCases ≡ 19
+  pub cases : length runCases ≡ 29
+  pub number-cases : length numberCases ≡ 21
 
 pub run-numbers : RunNumbers
 unfolding member transition offRule rowsOf numbersOf runCases numberCases
@@ -182,7 +192,7 @@ pub record SharedAnswers : Type 0 where
   pub outside : answer elsewhere shared ≡ gives (permitted 1)
 
 pub shared-answers : SharedCases → SharedAnswers
-unfolding sharedCases given expectedOf ask
+unfolding sharedCases given expectedOf ask askOn
 shared-answers e = record { many = refl; story-is = row 0; both-reached = row 5; off-shared = row 6; inside = row 10; outside = row 11 }
   where
     row : (n : ℕ) → getD (map given sharedCases) n (gives (permitted 0)) ≡ getD (map expectedOf sharedCases) n (gives (permitted 0))
@@ -194,25 +204,27 @@ pub record WasAnswers : Type 0 where
   pub same-source : answerWas (extended sample (allow 20 20 5 3)) shared ≡ gives (unknown 1 1)
 
 pub was-answers : SharedWas → WasAnswers
-unfolding wasCases givenWas expectedOf ask
+unfolding wasCases givenWas expectedOf ask askOn
 was-answers e = record { many = refl; story-was = row 0; same-source = row 2 }
   where
     row : (n : ℕ) → getD (map givenWas wasCases) n (gives (permitted 0)) ≡ getD (map expectedOf wasCases) n (gives (permitted 0))
     row n = ap (λ (xs : List (Outcome Decision)). getD xs n (gives (permitted 0))) e
 
 pub separated-is : MarkedCases → answer separated shared ≡ gives (unknown 1 1)
-unfolding cases given expectedOf ask
+unfolding cases given expectedOf ask askOn
 separated-is e = ap (λ (xs : List (Outcome Decision)). getD xs 5 (gives (permitted 0))) e
 
 -- the rules of the sample, with one more, and of the story
 pub record SharedRules : Type 0 where
-  pub sample-one : allOf oneLong (rulesOf (policyOf sample)) ≡ true
-  pub separated-one : allOf oneLong (rulesOf (policyOf separated)) ≡ true
-  pub one-more : rulesOf (policyOf separated) ≡ rulesOf (policyOf sample) ++ drop 4 (rulesOf (policyOf separated))
-  pub story-first : From (rulesOf (policyOf story)) (20 ∷ []) 20
-  pub story-second : From (rulesOf (policyOf story)) (30 ∷ []) 20
-  pub record-first : FromRecord (policyOf story) 20 20
-  pub record-second : FromRecord (policyOf story) 30 20
+  pub sample-one : (w : ℕ) → allOf oneLong (rulesOf (policyOf sample) w) ≡ true
+  pub separated-one : (w : ℕ) → allOf oneLong (rulesOf (policyOf separated) w) ≡ true
+  pub one-more : (w : ℕ) → rulesOf (policyOf separated) w ≡ rulesOf (policyOf sample) w ++ drop 4 (rulesOf (policyOf separated) w)
+  pub story-first : (w : ℕ) → From (rulesOf (policyOf story) w) (20 ∷ []) 20
+  pub story-second : (w : ℕ) → From (rulesOf (policyOf story) w) (30 ∷ []) 20
+  pub record-first : (w : ℕ) → FromRecord (policyOf story) w 20 20
+  pub record-second : (w : ℕ) → FromRecord (policyOf story) w 30 20
+  pub switched-first : FromRecord (policyOf switched) 32 20 10
+  pub switched-second : FromRecord (policyOf switched) 32 30 10
   pub sample-separates : (getD (getD (policyOf sample .constraints) 1 []) 10 0 ≡ 1) × (wordAt (getD (policyOf sample .constraints) 1 []) 6 ≡ 20) × (wordAt (getD (policyOf sample .constraints) 1 []) 8 ≡ 30)
   pub story-separates : getD (getD (policyOf story .constraints) 1 []) 10 0 ≡ 1
 
@@ -224,32 +236,129 @@ unfolding
     bodyOf imageOf recordAt placeAfter recordsAt startOf placeOf endOf policyOf
     readFields readOf readFault sectionFault countFault headerFault bodyFault check imageIn checkFront
     sample sectionOf withRecord fieldFault newNumber ownFault addFault newImage overwrite bufferAfter
-    withSpace extended allow allowGroup story
-    anyOf allOf isIn setOf touches live ruleOf rulesOf
+    withSpace extended allow allowIf allowGroup story
+    anyOf allOf isIn setOf touches switchOn isOn live ruleOf rulesOf
 shared-rules =
     record {
-      sample-one = refl;
-      separated-one = refl;
-      one-more = refl;
-      story-first = record {
-        rule = _;
-        one = List·Memᴰ·tail (List·Memᴰ·tail (List·Memᴰ·tail (List·Memᴰ·tail (List·Memᴰ·head refl))));
-        is-live = refl;
-        touching = refl;
-        has = refl;
-      };
-      story-second = record { rule = _; one = List·Memᴰ·tail (List·Memᴰ·head refl); is-live = refl; touching = refl; has = refl };
-      record-first = record {
-        bytes = _;
-        one = List·Memᴰ·tail (List·Memᴰ·tail (List·Memᴰ·tail (List·Memᴰ·tail (List·Memᴰ·head refl))));
-        kind = refl;
-        on = refl;
-        y = 20;
-        there = refl;
-        argued = refl;
-        has = refl;
-      };
-      record-second = record { bytes = _; one = List·Memᴰ·tail (List·Memᴰ·head refl); kind = refl; on = refl; y = 30; there = refl; argued = refl; has = refl };
+      sample-one = λ w. refl;
+      separated-one = λ w. refl;
+      one-more = λ w. refl;
+      story-first = λ w. record { rule = _; one = fifth; is-live = refl; touching = refl; has = refl };
+      story-second = λ w. record { rule = _; one = List·Memᴰ·tail (List·Memᴰ·head refl); is-live = refl; touching = refl; has = refl };
+      record-first = λ w. record { bytes = _; one = fifth; kind = refl; on = refl; y = 20; there = refl; argued = refl; has = refl };
+      record-second = λ w. record { bytes = _; one = List·Memᴰ·tail (List·Memᴰ·head refl); kind = refl; on = refl; y = 30; there = refl; argued = refl; has = refl };
+      switched-first = record { bytes = _; one = List·Memᴰ·head refl; kind = refl; on = refl; y = 20; there = refl; argued = refl; has = refl };
+      switched-second = record { bytes = _; one = fifth; kind = refl; on = refl; y = 30; there = refl; argued = refl; has = refl };
       sample-separates = (refl, refl, refl);
       story-separates = refl;
     }
+  where
+    fifth : {A : Type 0} {x₀ x₁ x₂ x₃ x₄ : A} {xs : List A} → List·Memᴰ x₄ (x₀ ∷ x₁ ∷ x₂ ∷ x₃ ∷ x₄ ∷ xs)
+    fifth = List·Memᴰ·tail (List·Memᴰ·tail (List·Memᴰ·tail (List·Memᴰ·tail (List·Memᴰ·head refl))))
+
+-- ---- request 6
+
+-- its table: how many rows, and some by themselves
+pub record SwitchAnswers : Type 0 where
+  pub many : length switchCases ≡ 25
+  pub switch-0-on : answer (rinse 2) (queryOf 13 21 5 1 1) ≡ gives (permitted 3)
+  pub switch-0-off : answer (rinse 2) (queryOf 13 21 5 1 2) ≡ gives (notPermitted (Near 1 0))
+  pub switch-31-on : answer (rinse 33) (queryOf 13 21 5 1 0x80000000) ≡ gives (permitted 3)
+  pub switch-31-off : answer (rinse 33) (queryOf 13 21 5 1 0x7FFFFFFF) ≡ gives (notPermitted (Near 1 0))
+  pub switched-on : answer switched (queryOf 20 30 5 2 32) ≡ gives (unknown 1 1)
+  pub switched-off : answer switched (queryOf 20 30 5 2 31) ≡ gives (permitted 1)
+  pub helped-off : answer (extended (extended sample companion) (allowIf 7 (allow 21 10 5 9))) (queryOf 10 21 5 1 31) ≡ gives (unknown 0 2)
+  pub helped-on : answer (extended (extended sample companion) (allowIf 7 (allow 21 10 5 9))) (queryOf 10 21 5 1 32) ≡ gives (permitted 0)
+  pub condition-34 : answer (rinse 34) (queryOf 10 21 5 1 0) ≡ refused (refusal 6 55)
+
+pub switch-answers : SwitchCases → SwitchAnswers
+unfolding switchCases given expectedOf askOn
+switch-answers e =
+    record {
+      many = refl;
+      switch-0-on = row 1;
+      switch-0-off = row 2;
+      switch-31-on = row 7;
+      switch-31-off = row 8;
+      switched-on = row 17;
+      switched-off = row 18;
+      helped-off = row 21;
+      helped-on = row 22;
+      condition-34 = row 23;
+    }
+  where
+    row : (n : ℕ) → getD (map given switchCases) n (gives (permitted 0)) ≡ getD (map expectedOf switchCases) n (gives (permitted 0))
+    row n = ap (λ (xs : List (Outcome Decision)). getD xs n (gives (permitted 0))) e
+
+pub word-is : (s d c a v w : ℕ) → withWord w (queryOf s d c a v) ≡ queryOf s d c a w
+unfolding withWord
+word-is s d c a v w = refl
+
+-- 0 to n - 1, in their order
+pub up-to-many : (n : ℕ) → length (upTo n) ≡ n
+unfolding upTo
+up-to-many zero = refl
+up-to-many (suc n) = length-append (upTo n) (n ∷ []) ∙ omega (arith, up-to-many n)
+
+pub up-to-at : (n i : ℕ) → i < n → getD (upTo n) i 0 ≡ i
+unfolding upTo
+up-to-at zero i h = absurd (omega arith)
+up-to-at (suc n) i h =
+    by-test (ltb i n)
+    (λ t. let k = ltb-true i n t in List·getD-append (upTo n) (n ∷ []) 0 i (omega (arith, k, up-to-many n)) ∙ up-to-at n i k)
+    (λ t. let k = ltb-false i n t in let e : i ≡ n = omega arith in
+    let l : n ≡ length (upTo n) + 0 = omega (arith, up-to-many n) in
+    ap (λ (j : ℕ). getD (upTo n ++ (n ∷ [])) j 0) (e ∙ l) ∙ getD-append-add (upTo n) (n ∷ []) 0 0 ∙ sym e)
+
+pub by-switch : (w k : ℕ) → isOn w (2 + k) ≡ switchOn w k
+unfolding isOn
+by-switch w k = let e : 2 + k - 2 ≡ k = omega arith in simp (le-leb 2 (2 + k) (omega arith)) (ap (switchOn w) e)
+
+-- the word with all switches on
+pub all-on : allOf (switchOn allOn) (upTo 32) ≡ true
+unfolding allOf switchOn upTo
+all-on = refl
+
+-- a rule whose byte 10 is 0 or 1; a transition has none, which counts as 0
+abbrev pub plain : List ℕ → Bool
+plain r = ltb (getD r 10 0) 2
+
+pub record SwitchRules : Type 0 where
+  pub sample-plain : allOf plain (policyOf sample .rules) ≡ true
+  pub settled-on : imageOf (settled 1 (policyOf (rinse 2))) ≡ rinse 1
+  pub settled-off : imageOf (settled 0 (policyOf (rinse 2))) ≡ sample
+  pub three : length (onlyOn 0 (policyOf (rinse 2)) .rules) ≡ 3
+  pub four : length (onlyOn 1 (policyOf (rinse 2)) .rules) ≡ 4
+  pub constraints : policyOf (rinse 2) .constraints ≡ policyOf sample .constraints
+  pub allow : getD (getD (policyOf (rinse 2) .rules) 3 []) 1 0 ≡ 2
+  pub condition : getD (getD (policyOf (rinse 2) .rules) 3 []) 10 0 ≡ 2
+
+pub switch-rules : SwitchRules
+unfolding
+    flatten wordAt words putWord countPlace countOf firstRecord bodyOf imageOf recordAt placeAfter recordsAt startOf placeOf endOf policyOf
+    sample allOf switchOn isOn ruleOf settledRule settled onOf onlyOn rinse
+switch-rules =
+    record {
+      sample-plain = refl;
+      settled-on = refl;
+      settled-off = refl;
+      three = refl;
+      four = refl;
+      constraints = refl;
+      allow = refl;
+      condition = refl;
+    }
+
+pub rinse-bytes : Bytes (rinse 2)
+unfolding sample rinse
+rinse-bytes = bytes-of (rinse 2) refl
+
+-- a settled rule is one of the settled policy's, of its kind
+module _ (p : Policy) (w : ℕ) (r : List ℕ) where
+  pub settled-in : List·Memᴰ r (p .rules) → List·Memᴰ (settledRule w r) (settled w p .rules)
+  unfolding settled
+  settled-in m = Memᴰ·map (settledRule w) m
+
+  pub settled-kind : getD (settledRule w r) 1 0 ≡ getD r 1 0
+  unfolding settledRule
+  settled-kind = getD-set-other r 10 1 _ 0 (λ e. omega arith)

@@ -20,13 +20,14 @@ use Rattle.format.proofs.Fields.{is-type}
 use Rattle.format.proofs.Accepted.{records-count}
 use Rattle.decision.specs.declared.Query.{Query}
 use Rattle.decision.specs.Sets.{setOf, within}
-use Rattle.decision.specs.Decide.{Decision, notPermitted, permitted, unknown, answer, Valid}
-use Rattle.decision.specs.Order.{height, Holds}
+use Rattle.decision.specs.Conditions.{switchOn}
+use Rattle.decision.specs.Decide.{Decision, notPermitted, permitted, unknown, answer, queryOf, Valid}
+use Rattle.decision.specs.Order.{height, Holds, Keeps, NoCompanion}
 use Rattle.decision.specs.Lowest.{Names}
 use Rattle.decision.specs.Tepla.{Dcs, compareDecisions, forget, evalPolicy}
 use Rattle.decision.specs.Growth.{reordered, DecidedAbove}
 use Rattle.decision.specs.Numbers.{decisionCode}
-use Rattle.decision.specs.Rows.{queryAt, rowsIn, answered, rowAt}
+use Rattle.decision.specs.Rows.{queryAt, rowsIn, answered, rowAt, queryBytes, QueryFits}
 use Rattle.decision.specs.Cases.{g0, allow, companion, withSpace, extended}
 use Rattle.decision.proofs.Implies.{within-refl}
 use Rattle.decision.proofs.Above.{height-permitted, height-unknown}
@@ -35,7 +36,7 @@ use Rattle.decision.proofs.Tepla.{forget-permitted, forget-unknown}
 use Rattle.decision.proofs.Cases.{Answers, marked-answers, cases-many}
 use Rattle.claims.specs.Promises.{Promises}
 use Rattle.claims.specs.Terms.{query, AtLeast, threeQueries, twoAndPart, DecidingMet, OrderingMet}
-use Rattle.claims.proofs.Cases.{space-image, companion-bytes, companion-space, companion-no-rule, rule-bytes, rule-space, query-rows}
+use Rattle.claims.proofs.Cases.{space-image, companion-bytes, companion-space, companion-no-rule, rule-bytes, rule-space, query-rows, twelve-bytes}
 use Rattle.claims.proofs.ReadingTerms.{companion-after}
 
 pub gives-one : {A : Type 0} {a b : A} → gives a ≡ gives b → a ≡ b
@@ -84,7 +85,7 @@ module _ (p : Promises) where
   two-rows = p .deciding .rows-whole twoAndPart 3 .0 (omega (arith, query-rows .part)) ∙ omega (arith, query-rows .part)
 
   slot :
-      (k : ℕ) (q : Query) (o : Outcome Decision) → k < 2 → queryAt twoAndPart (8 * k) ≡ q → answer sample q ≡ o
+      (k : ℕ) (q : Query) (o : Outcome Decision) → k < 2 → queryAt twoAndPart (12 * k) ≡ q → answer sample q ≡ o
       → getD (answered sample twoAndPart (7 ∷ 8 ∷ 9 ∷ [])) k 0 ≡ decisionCode o
   slot k q o h row given =
       p .deciding .rows-answered sample twoAndPart (7 ∷ 8 ∷ 9 ∷ []) k (omega (arith, two-rows))
@@ -100,9 +101,12 @@ module _ (p : Promises) where
   row-by-itself :
       (l b slots : List ℕ) (k : ℕ) → k < rowsIn b (length slots) → getD (answered l b slots) k 0 ≡ getD (answered l (rowAt b k) (0 ∷ [])) 0 0
   row-by-itself l b slots k h =
-      let whole : k < length b / 8 = omega arith in
-      let eight : length (rowAt b k) ≡ 8 = length-take-le 8 (drop (8 * k) b) (omega (arith, length-drop (8 * k) b)) in
-      p .deciding .row-alone l b (rowAt b k) slots (0 ∷ []) k 0 h (omega (arith, eight)) (sym (take-take 8 8 (drop (8 * k) b) (omega arith)))
+      let whole : k < length b / 12 = omega arith in
+      let twelve : length (rowAt b k) ≡ 12 = length-take-le 12 (drop (12 * k) b) (omega (arith, length-drop (12 * k) b)) in
+      p .deciding .row-alone l b (rowAt b k) slots (0 ∷ []) k 0 h (omega (arith, twelve)) (sym (take-take 12 12 (drop (12 * k) b) (omega arith)))
+
+  fits : (s d c a w : ℕ) → s ≤ 65535 → d ≤ 65535 → c ≤ 65535 → a ≤ 65535 → w ≤ 4294967295 → QueryFits (queryOf s d c a w)
+  fits s d c a w hs hd hc ha hw = record { source = omega arith; dest = omega arith; class = omega arith; action = omega arith; switches = omega arith }
 
   pub deciding-met : DecidingMet
   deciding-met =
@@ -122,6 +126,11 @@ module _ (p : Promises) where
         cases-all = cases-many;
         other-class = answers .transition;
         no-group-1 = answers .no-group-1;
+        any-query = λ s d c a w hs hd hc ha hw. (p .deciding .query-read .back (queryOf s d c a w) (fits s d c a w hs hd hc ha hw), twelve-bytes _);
+        word-last = ap (λ (q : Query). q .switches) (p .deciding .query-read .by-hand);
+        own-bytes = λ l s d c a w y hs hd hc ha hw.
+            p .deciding .rows-answered l (queryBytes (queryOf s d c a w)) (y ∷ []) 0 (omega (arith, twelve-bytes (queryOf s d c a w)))
+            ∙ ap (λ (q : Query). decisionCode (answer l q)) (p .deciding .query-read .back (queryOf s d c a w) (fits s d c a w hs hd hc ha hw));
         two-answered = two-answered;
         two-rows = two-rows;
         last-row = p .deciding .rows-whole threeQueries 3 .0 (omega (arith, query-rows .many)) ∙ omega (arith, query-rows .many);
@@ -147,23 +156,61 @@ module _ (p : Promises) where
         action = refl;
         source = within-refl _;
         dest = within-refl _;
-        companions = inr (λ r m. m);
+        switches = λ k m t. t;
+        companions = inr (record { rules = λ r m. m; words = refl });
       }) in
       omega (arith, height-unknown 0 2)
 
+  more-switches :
+      (l : List ℕ) (s d c a v w : ℕ) (d₁ d₂ : Decision) → answer l (queryOf s d c a v) ≡ gives d₁ → answer l (queryOf s d c a w) ≡ gives d₂
+      → ((k : ℕ) → k < 32 → switchOn v k ≡ true → switchOn w k ≡ true) → NoCompanion (policyOf l .constraints) → height d₁ ≤ height d₂
+  more-switches l s d c a v w d₁ d₂ e₁ e₂ on none =
+      p .ordering .order-rule l l (queryOf s d c a v) (queryOf s d c a w) d₁ d₂ e₁ e₂
+      (record {
+        policy = record { rules = λ r m. m; constraints = λ r m. m; groups = keeps-same _ };
+        class = refl;
+        action = refl;
+        source = within-refl _;
+        dest = within-refl _;
+        switches = on;
+        companions = inl none;
+      })
+
+  more-constraints :
+      (l₁ l₂ : List ℕ) (q : Query) (d₁ d₂ : Decision) (more : List (List ℕ)) → answer l₁ q ≡ gives d₁ → answer l₂ q ≡ gives d₂
+      → policyOf l₁ .groups ≡ policyOf l₂ .groups → policyOf l₁ .rules ≡ policyOf l₂ .rules
+      → policyOf l₂ .constraints ≡ policyOf l₁ .constraints ++ more → height d₁ ≤ height d₂
+  more-constraints l₁ l₂ q d₁ d₂ more e₁ e₂ g r c =
+      let same : (t : ℕ) → within (setOf (policyOf l₂ .groups) t) (setOf (policyOf l₁ .groups) t) ≡ true
+      = λ t. subst (λ (gs : List (List ℕ)). within (setOf gs t) (setOf (policyOf l₁ .groups) t) ≡ true) g (within-refl _) in
+      p .ordering .order-rule l₁ l₂ q q d₁ d₂ e₁ e₂
+      (record {
+        policy = record {
+          rules = λ x m. subst (List·Memᴰ x) r m;
+          constraints = λ x m. subst (List·Memᴰ x) (sym c) (Memᴰ·append-left more m);
+          groups = subst (Keeps (policyOf l₁ .groups)) g (keeps-same _);
+        };
+        class = refl;
+        action = refl;
+        source = same (q .source);
+        dest = same (q .dest);
+        switches = λ k m t. t;
+        companions = inr (record { rules = λ x m. subst (List·Memᴰ x) (sym r) m; words = refl });
+      })
+
   same-sets :
-      (l : List ℕ) (s s′ d d′ c a : ℕ) (d₁ d₂ : Decision) → answer l (query s d c a) ≡ gives d₁ → answer l (query s′ d′ c a) ≡ gives d₂
+      (l : List ℕ) (s s′ d d′ c a w : ℕ) (d₁ d₂ : Decision) → answer l (queryOf s d c a w) ≡ gives d₁ → answer l (queryOf s′ d′ c a w) ≡ gives d₂
       → setOf (policyOf l .groups) s ≡ setOf (policyOf l .groups) s′ → setOf (policyOf l .groups) d ≡ setOf (policyOf l .groups) d′
       → within (setOf (policyOf l .groups) s) (setOf (policyOf l .groups) s) ≡ true
       → within (setOf (policyOf l .groups) d) (setOf (policyOf l .groups) d) ≡ true
       → height d₁ ≡ height d₂
-  same-sets l s s′ d d′ c a d₁ d₂ e₁ e₂ es ed ws wd =
+  same-sets l s s′ d d′ c a w d₁ d₂ e₁ e₂ es ed ws wd =
       let gs : List (List ℕ) = policyOf l .groups in
       let up =
-      p .ordering .query-order l (query s d c a) (query s′ d′ c a) d₁ d₂ e₁ e₂ refl refl
+      p .ordering .query-order l (queryOf s d c a w) (queryOf s′ d′ c a w) d₁ d₂ e₁ e₂ refl refl refl
       (subst (λ (x : List ℕ). within x (setOf gs s) ≡ true) es ws) (subst (λ (x : List ℕ). within x (setOf gs d) ≡ true) ed wd) in
       let down =
-      p .ordering .query-order l (query s′ d′ c a) (query s d c a) d₂ d₁ e₂ e₁ refl refl
+      p .ordering .query-order l (queryOf s′ d′ c a w) (queryOf s d c a w) d₂ d₁ e₂ e₁ refl refl refl
       (subst (λ (x : List ℕ). within (setOf gs s) x ≡ true) es ws) (subst (λ (x : List ℕ). within (setOf gs d) x ≡ true) ed wd) in
       omega arith
 
@@ -222,13 +269,16 @@ module _ (p : Promises) where
         order-met = λ d e. at-one d (p .ordering .order-rule sample _ (query 10 g0 5 1) _ (permitted 0) d (answers .group) e (p .ordering .marked-order .extends));
         new-group-met = λ d e. at-one d (p .ordering .order-rule sample _ (query 10 g0 5 1) _ (permitted 0) d (answers .group) e (p .ordering .marked-order .new-group));
         unknown-stays = unknown-stays;
+        more-switches = more-switches;
+        more-constraints = more-constraints;
         same-sets = same-sets;
         rule-added = not-lower 21 (answers .member);
         group-not-lower = not-lower g0 (answers .group);
         not-lower-itself = λ l q d₁ d₂ e₁ e₂ n. p .ordering .non-decreasing l l q d₁ d₂ e₁ e₂ (record { rules = λ r m. m; constraints = λ r m. m; groups = keeps-same _ }) n;
-        member-met = λ d e. at-one d (p .ordering .member-order sample (query 10 g0 5 1) (query 10 21 5 1) (permitted 0) d (answers .group) e refl refl
+        member-met = λ d e. at-one d (p .ordering .member-order sample (query 10 g0 5 1) (query 10 21 5 1) (permitted 0) d (answers .group) e refl refl refl
             (omega arith) (omega arith) (p .ordering .marked-order .itself) (p .ordering .marked-order .member));
-        any-member = λ l s d m n c a d₁ d₂ e₁ e₂ hm hn im jn. p .ordering .member-order l (query s d c a) (query m n c a) d₁ d₂ e₁ e₂ refl refl (omega arith) (omega arith) im jn;
+        any-member = λ l s d m n c a w d₁ d₂ e₁ e₂ hm hn im jn.
+            p .ordering .member-order l (queryOf s d c a w) (queryOf m n c a w) d₁ d₂ e₁ e₂ refl refl refl (omega arith) (omega arith) im jn;
         added-keeps = λ b r by bytes e. p .ordering .added-grows b r by bytes e .groups;
         companion-added = companion-added;
         companion-lowest = λ d e. at-one d (subst (λ (x : Decision). height (permitted 0) ≤ height x) (gives-one (sym (companion-added .answered) ∙ e)) (companion-added .above));

@@ -9,5 +9,6 @@ pub mod TextTerms
 pub mod BuildingTerms
 pub mod ReachingTerms
 pub mod SeparatingTerms
+pub mod SwitchingTerms
 pub mod CallingTerms
 pub mod Terms

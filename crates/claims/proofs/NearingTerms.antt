@@ -1,5 +1,5 @@
 -- What meets the terms of the claims of the nearest rule, from the statement: no claim's own proof is cited. Assumes nothing.
-use Prim.Native.Nat.{_≤_}
+use Prim.Native.Nat.{ℕ, _/_, _%_, _≤_}
 use native.Mathlib.Omega.{arith}
 use mathlib.Core.Path.{_≡_, refl, sym, subst, ap, _∙_}
 use mathlib.Core.Logic.{inl}
@@ -14,16 +14,19 @@ use Rattle.format.specs.Sample.{sample, empty}
 use Rattle.format.proofs.Fields.{is-type}
 use Rattle.decision.specs.declared.Query.{Query}
 use Rattle.decision.specs.declared.Nearest.the-variants.{NoRules}
+use Rattle.decision.specs.Conditions.{isOn}
 use Rattle.decision.specs.Reading.{Rule, Request}
-use Rattle.decision.specs.Decide.{covers, steps, notPermitted}
+use Rattle.decision.specs.Decide.{covers, steps, notPermitted, queryOf}
 use Rattle.decision.specs.Cases.{companion, extended}
 use Rattle.decision.specs.Steps.{stepsAt, sourceIn, destIn}
 use Rattle.decision.specs.Before.{barely}
+use Rattle.decision.specs.Switches.{rinse}
 use Rattle.decision.proofs.Search.{member-at}
 use Rattle.decision.proofs.Cases.{Answers, marked-answers, sample-rules, steps-many, step-answers}
 use Rattle.decision.proofs.Before.{before-permits}
 use Rattle.claims.specs.Promises.{Promises}
 use Rattle.claims.specs.Terms.{query, NearingMet}
+use Rattle.claims.proofs.Cases.{switch-rules}
 
 module _ (p : Promises) where
   answers : Answers
@@ -42,7 +45,27 @@ module _ (p : Promises) where
       ≡ cond (sourceIn (policyOf sample) q (getD (policyOf sample .rules) 0 []))
       (cond (destIn (policyOf sample) q (getD (policyOf sample .rules) 0 []))
       (cond (eqb (wordAt (getD (policyOf sample .rules) 0 []) 6) (q .class)) (cond (eqb (wordAt (getD (policyOf sample .rules) 0 []) 8) (q .action)) 5 4) 3) 2) 1
-  rule-0 q = p .nearing .steps-of-record .on (policyOf sample) q (getD (policyOf sample .rules) 0 []) (sample-rules .first) (sample-rules .on)
+  rule-0 q =
+      p .nearing .steps-of-record .on (policyOf sample) q (getD (policyOf sample .rules) 0 []) (sample-rules .first)
+      (ap (isOn (q .switches)) (sample-rules .on) ∙ p .switching .condition-means .on (q .switches))
+
+  -- the sample's rule 3 by switch 0
+  module _ (s d c a w : ℕ) where
+    by-switch-0 : isOn w (getD (getD (policyOf (rinse 2) .rules) 3 []) 10 0) ≡ isOn w 2
+    by-switch-0 = ap (isOn w) (switch-rules .condition)
+
+    switch-none : w % 2 ≡ 0 → stepsAt (policyOf (rinse 2)) (queryOf s d c a w) 3 ≡ 0
+    switch-none e =
+        p .nearing .steps-of-record .off (policyOf (rinse 2)) (queryOf s d c a w) (getD (policyOf (rinse 2) .rules) 3 []) (switch-rules .allow)
+        (by-switch-0 ∙ p .switching .condition-means .switch-off w 0 (w / 2) (omega (arith, e)))
+
+    switch-one :
+        w % 2 ≡ 1 → sourceIn (policyOf (rinse 2)) (queryOf s d c a w) (getD (policyOf (rinse 2) .rules) 3 []) ≡ false
+        → stepsAt (policyOf (rinse 2)) (queryOf s d c a w) 3 ≡ 1
+    switch-one e f =
+        p .nearing .steps-of-record .on (policyOf (rinse 2)) (queryOf s d c a w) (getD (policyOf (rinse 2) .rules) 3 []) (switch-rules .allow)
+        (by-switch-0 ∙ p .switching .condition-means .switch-on w 0 (w / 2) (omega (arith, e)))
+        ∙ simp f
 
   pub nearing-met : NearingMet
   nearing-met =
@@ -57,7 +80,10 @@ module _ (p : Promises) where
         covered-five = λ a r e. eqb-true (steps a r) 5 (sym (n .covers-all a r .0) ∙ e);
         five-covers = λ a r e. n .covers-all a r .0 ∙ eq-eqb (steps a r) 5 e;
         uncovered-four = uncovered-four;
-        rule-3-none = λ q. n .steps-of-record .off (policyOf sample) q (getD (policyOf sample .rules) 3 []) (sample-rules .allow) (sample-rules .off);
+        rule-3-none = λ q. n .steps-of-record .off (policyOf sample) q (getD (policyOf sample .rules) 3 []) (sample-rules .allow)
+            (ap (isOn (q .switches)) (sample-rules .off) ∙ p .switching .condition-means .off (q .switches));
+        switch-none = switch-none;
+        switch-one = switch-one;
         rule-2-one = λ q e. n .steps-of-record .transition (policyOf sample) q (getD (policyOf sample .rules) 2 []) (sample-rules .transition) ∙ simp e;
         rule-2-two = λ q s d. n .steps-of-record .transition (policyOf sample) q (getD (policyOf sample .rules) 2 []) (sample-rules .transition) ∙ simp (s, d);
         rule-2-all = λ q s d. n .steps-of-record .transition (policyOf sample) q (getD (policyOf sample .rules) 2 []) (sample-rules .transition) ∙ simp (s, d);

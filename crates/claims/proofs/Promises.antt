@@ -17,6 +17,8 @@ use Rattle.decision.proofs.Separation as separation
 use Rattle.decision.proofs.SeparationBytes as separation-bytes
 use Rattle.decision.proofs.Was as was
 use Rattle.decision.proofs.Changes as changes
+use Rattle.decision.proofs.Switches as switches
+use Rattle.decision.proofs.Settled as settled
 use Rattle.decision.proofs.Tepla as tepla
 use Rattle.decision.proofs.Order as order
 use Rattle.decision.proofs.Growth as growth
@@ -79,6 +81,7 @@ promises =
         marked-cases = cases.marked-cases;
         marked-adds = cases.marked-adds;
         clause-cases = cases.clause-cases;
+        query-read = rows.query-read;
         rows-answered = rows.rows-answered;
         slots-stay = rows.slots-stay;
         rows-whole = rows.rows-whole;
@@ -151,6 +154,15 @@ promises =
         answers-change = changes.answers-change;
         shared-cases = cases.shared-cases;
         shared-was = cases.shared-was;
+      };
+      switching = record {
+        condition-means = switches.condition-means;
+        one-switch = cases.one-switch;
+        word-unread = switches.word-unread;
+        answers-settled = settled.answers-settled;
+        switches-add = switches.switches-add;
+        switch-order = switches.switch-order;
+        switch-cases = cases.switch-cases;
       };
       printing = record {
         decimal-fewest = numbers.decimal-fewest;

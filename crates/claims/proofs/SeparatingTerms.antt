@@ -23,9 +23,9 @@ use Rattle.decision.specs.Separation.{From, FromRecord, Wider, answerWas, OneTy
 use Rattle.decision.proofs.Search.{by-test, anyOf-none, allOf-elim}
 use Rattle.decision.proofs.Implies.{within-refl}
 use Rattle.decision.proofs.Above.{height-denied, height-permitted, height-unknown}
-use Rattle.decision.proofs.Separation.{wider-all}
+use Rattle.decision.proofs.Separation.{wider-on}
 use Rattle.claims.specs.Promises.{Promises}
-use Rattle.claims.specs.Terms.{separated, shared, oneLong, SameRule, SeparatingMet}
+use Rattle.claims.specs.Terms.{separated, switched, shared, oneLong, SameRule, SeparatingMet}
 use Rattle.claims.proofs.Cases.{SharedAnswers, shared-answers, WasAnswers, was-answers, separated-is, shared-rules}
 use Rattle.claims.proofs.DecidingTerms.{gives-one}
 
@@ -77,19 +77,27 @@ module _ (p : Promises) where
   none-shared rs c h =
       by-test (separationBroken rs c) (λ e. let s = p .separating .separation-means .only rs c e in absurd (h (s .0) (s .1) (s .2))) (λ e. e)
 
-  -- the sample's separation, read in the story
-  story-read : broken (rulesOf (policyOf story)) (constraintOf (policyOf story) (getD (policyOf sample .constraints) 1 [])) ≡ true
-  story-read =
+  -- the sample's separation, read in another policy
+  sample-read :
+      (o : Policy) (w x : ℕ) → FromRecord o w 20 x × FromRecord o w 30 x
+      → broken (rulesOf o w) (constraintOf o (getD (policyOf sample .constraints) 1 [])) ≡ true
+  sample-read o w x f =
       let e = shared-rules .sample-separates in
-      p .separating .separation-read .all (policyOf story) _ 20 (e .0)
-      (subst (λ (t : ℕ). FromRecord (policyOf story) t 20) (sym (e .1)) (shared-rules .record-first))
-      (subst (λ (t : ℕ). FromRecord (policyOf story) t 20) (sym (e .2)) (shared-rules .record-second))
+      p .separating .separation-read .all o w _ x (e .0)
+      (subst (λ (t : ℕ). FromRecord o w t x) (sym (e .1)) (f .0))
+      (subst (λ (t : ℕ). FromRecord o w t x) (sym (e .2)) (f .1))
+
+  story-records : (w : ℕ) → FromRecord (policyOf story) w 20 20 × FromRecord (policyOf story) w 30 20
+  story-records w = (shared-rules .record-first w, shared-rules .record-second w)
+
+  switched-records : FromRecord (policyOf switched) 32 20 10 × FromRecord (policyOf switched) 32 30 10
+  switched-records = (shared-rules .switched-first, shared-rules .switched-second)
 
   none-in-records :
-      (o : Policy) (r : List ℕ) → getD r 10 0 ≡ 1 → ((x : ℕ) → FromRecord o (wordAt r 6) x → FromRecord o (wordAt r 8) x → ⊥)
-      → broken (rulesOf o) (constraintOf o r) ≡ false
-  none-in-records o r e h =
-      by-test (broken (rulesOf o) (constraintOf o r)) (λ t. let f = p .separating .separation-read .only o r e t in absurd (h (f .0) (f .1) (f .2))) (λ t. t)
+      (o : Policy) (w : ℕ) (r : List ℕ) → getD r 10 0 ≡ 1 → ((x : ℕ) → FromRecord o w (wordAt r 6) x → FromRecord o w (wordAt r 8) x → ⊥)
+      → broken (rulesOf o w) (constraintOf o r) ≡ false
+  none-in-records o w r e h =
+      by-test (broken (rulesOf o w) (constraintOf o r)) (λ t. let f = p .separating .separation-read .only o w r e t in absurd (h (f .0) (f .1) (f .2))) (λ t. t)
 
   -- a rule in front that is replaced by a wider one, or is not live and goes
   wider-rule :
@@ -114,8 +122,8 @@ module _ (p : Promises) where
       wider z (List·Memᴰ·head e) k = false-not-true (sym o ∙ sym (ap live e) ∙ k)
       wider z (List·Memᴰ·tail m) k = (z, m, k, within-refl (z .source), within-refl (z .dest))
 
-  sample-one-type : OneType (rulesOf (policyOf sample))
-  sample-one-type = one-type _ (shared-rules .sample-one)
+  sample-one-type : (w : ℕ) → OneType (rulesOf (policyOf sample) w)
+  sample-one-type w = one-type _ (shared-rules .sample-one w)
 
   story-changed : answer story shared ≡ answerWas story shared → ⊥
   story-changed e =
@@ -182,25 +190,27 @@ module _ (p : Promises) where
         none-live = λ rs c e. none-shared rs c (λ x f g. no-live rs (f .rule) e (f .one) (f .is-live));
         story-first = shared-rules .story-first;
         story-second = shared-rules .story-second;
-        story-broken = λ c e f. s .separation-means .all _ c 20
-            (subst (λ (t : List ℕ). From (rulesOf (policyOf story)) t 20) (sym e) (shared-rules .story-first))
-            (subst (λ (t : List ℕ). From (rulesOf (policyOf story)) t 20) (sym f) (shared-rules .story-second));
-        two-records = λ o r x y z a b e ma mb ka na kb nb ya yr zb zr xa xb.
-            s .separation-read .all o r x e
+        story-broken = λ w c e f. s .separation-means .all _ c 20
+            (subst (λ (t : List ℕ). From (rulesOf (policyOf story) w) t 20) (sym e) (shared-rules .story-first w))
+            (subst (λ (t : List ℕ). From (rulesOf (policyOf story) w) t 20) (sym f) (shared-rules .story-second w));
+        two-records = λ o w r x y z a b e ma mb ka na kb nb ya yr zb zr xa xb.
+            s .separation-read .all o w r x e
             (record { bytes = a; one = ma; kind = ka; on = na; y = y; there = ya; argued = yr; has = xa })
             (record { bytes = b; one = mb; kind = kb; on = nb; y = z; there = zb; argued = zr; has = xb });
         none-in-records = none-in-records;
-        story-from-record = (shared-rules .record-first, shared-rules .record-second);
-        story-read = story-read;
-        none-on = λ o r e h. none-in-records o r e (λ x f g. h (f .bytes) (f .one) (f .on));
-        more-rules = λ rs more c e. s .separation-kept rs (rs ++ more) c (wider-all (λ a m. Memᴰ·append-left more m)) e;
-        sample-wider = wider-all (λ a m. subst (List·Memᴰ a) (sym (shared-rules .one-more)) (Memᴰ·append-left _ m));
+        story-from-record = story-records;
+        story-read = λ w. sample-read (policyOf story) w 20 (story-records w);
+        switched-from-record = switched-records;
+        switched-read = sample-read (policyOf switched) 32 10 switched-records;
+        none-on = λ o w r e h. none-in-records o w r e (λ x f g. h (f .bytes) (f .one) (f .on));
+        more-rules = λ rs more c e. s .separation-kept rs (rs ++ more) c (wider-on (λ a m o. Memᴰ·append-left more m)) e;
+        sample-wider = λ w. wider-on (λ a m o. subst (List·Memᴰ a) (sym (shared-rules .one-more w)) (Memᴰ·append-left _ m));
         wider-rule = wider-rule;
         off-rule = off-rule;
         sample-one-type = sample-one-type;
-        sample-separations = λ c. s .separation-stays _ c sample-one-type;
-        sample-stays = λ q. s .answers-stay sample q sample-one-type;
-        separated-stays = sym (s .answers-stay separated shared (one-type _ (shared-rules .separated-one))) ∙ separated-is (p .deciding .marked-cases);
+        sample-separations = λ w c. s .separation-stays _ c (sample-one-type w);
+        sample-stays = λ q. s .answers-stay sample q (sample-one-type (q .switches));
+        separated-stays = sym (s .answers-stay separated shared (one-type _ (shared-rules .separated-one 0))) ∙ separated-is (p .deciding .marked-cases);
         one-long-separations = λ rs c e. s .separation-stays rs c (one-type rs e);
         one-long-stays = λ l q e. s .answers-stay l q (one-type _ e);
         none-live-stays = λ l q e. s .answers-stay l q (λ a m k. absurd (no-live _ a e m k));

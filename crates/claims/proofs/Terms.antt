@@ -9,6 +9,7 @@ use Rattle.claims.proofs.NearingTerms.{nearing-met}
 use Rattle.claims.proofs.BuildingTerms.{building-met}
 use Rattle.claims.proofs.ReachingTerms.{reaching-met}
 use Rattle.claims.proofs.SeparatingTerms.{separating-met}
+use Rattle.claims.proofs.SwitchingTerms.{switching-met}
 use Rattle.claims.proofs.CallingTerms.{printing-met, calling-met}
 
 pub terms-met : Promises → TermsMet
@@ -23,6 +24,7 @@ terms-met p =
       building = building-met p;
       reaching = reaching-met p;
       separating = separating-met p;
+      switching = switching-met p;
       printing = printing-met p;
       calling = calling-met p;
     }

@@ -17,13 +17,14 @@ use Rattle.text.specs.Rows as rows
 use Rattle.text.specs.Build.{Made, rowFault, recordFault, onward, rowsFrom, built}
 use Rattle.text.specs.Claims.{withFirst, recordsIn, allAdded}
 use Rattle.text.specs.Cases.{workedRows, rowGives, rowStands, WorkedRows, outsideRows, rowNamed, WorkedOutside}
-use Rattle.text.specs.Cases.{fullGroups, fullFault, WorkedFull, oneTransition, workedTexts, textGives, textMakes, WorkedTexts}
+use Rattle.text.specs.Cases.{fullGroups, fullFault, WorkedFull, oneTransition, oneSwitched, workedTexts, textGives, textMakes, WorkedTexts}
 use Rattle.decision.specs.declared.Nearest.the-variants.{NoRules, Near}
 use Rattle.decision.specs.Decide.{notPermitted, unknown}
+use Rattle.decision.specs.Switches.{rinse}
 use Rattle.lines.specs.Lines.{line}
 use Rattle.lines.specs.Output.{printed}
 use Rattle.lines.specs.Compiled.{Written, compiled}
-use Rattle.lines.specs.Worked.{workedLines, lineOf, lineSaid, WorkedLines, workedRuns, runOf, runSaid, WorkedRuns}
+use Rattle.lines.specs.Worked.{workedLines, lineOf, lineSaid, WorkedLines, askedOn, asked, workedRuns, runOf, runSaid, WorkedRuns}
 use Rattle.lines.specs.Worked.{workedCompiled, textWritten, WorkedCompiled}
 use Rattle.lines.specs.Worked as printing
 use Rattle.mungaite.specs.Code.{buildCode}
@@ -54,11 +55,24 @@ module _ (e : WorkedRuns) where
 
   pub short-printed : printed tooShort ≡ ascii "R 3 0\n"
   unfolding workedRuns runOf runSaid
-  short-printed = run-row 12
+  short-printed = run-row 16
 
   pub three-printed : printed (sample ++ threeQueries) ≡ ascii threeSaid
   unfolding workedRuns runOf runSaid
-  three-printed = run-row 14
+  three-printed = run-row 18
+
+  pub eleven-left : printed (empty ++ replicate 11 0) ≡ ascii "R 15 0\n"
+  unfolding workedRuns runOf runSaid
+  eleven-left = run-row 13
+
+  pub switch-0-printed : printed (rinse 2 ++ (askedOn (0 ∷ 0 ∷ 0 ∷ 1 ∷ []) 13 21 5 1 ++ asked 13 21 5 1)) ≡ ascii "P 3\nN 1 0\n"
+  unfolding workedRuns runOf runSaid rinse
+  switch-0-printed = run-row 20
+
+  pub switch-31-printed :
+      printed (rinse 33 ++ (askedOn (128 ∷ 0 ∷ 0 ∷ 0 ∷ []) 13 21 5 1 ++ askedOn (0 ∷ 0 ∷ 0 ∷ 128 ∷ []) 13 21 5 1)) ≡ ascii "P 3\nN 1 0\n"
+  unfolding workedRuns runOf runSaid rinse
+  switch-31-printed = run-row 21
 
 module _ (e : WorkedCompiled) where
   compiled-row : (n : ℕ) (m : Written) → getD (map printing.textGives workedCompiled) n m ≡ getD (map textWritten workedCompiled) n m
@@ -85,9 +99,9 @@ pub record Texts : Type 0 where
   pub trans-length : length trans ≡ 13
   pub sample-length : length sampleBytes ≡ 122
   pub outside-length : length (ascii "x") ≡ 1
-  pub rows : length workedRows ≡ 13
-  pub outside : length outsideRows ≡ 66
-  pub texts : length workedTexts ≡ 23
+  pub rows : length workedRows ≡ 17
+  pub outside : length outsideRows ≡ 92
+  pub texts : length workedTexts ≡ 25
   pub compiled : length workedCompiled ≡ 7
 
 pub texts : Texts
@@ -175,8 +189,17 @@ module _ (e : WorkedRows) where
   unfolding workedRows rowGives rowStands
   list-row = stands-row 12
 
+  pub switch-0-row : rows.recordOfRow (ascii "allow 10 g0 5 1 s0") ≡ some (11 ∷ 2 ∷ 0 ∷ 10 ∷ 128 ∷ 0 ∷ 0 ∷ 5 ∷ 0 ∷ 1 ∷ 2 ∷ [])
+  unfolding workedRows rowGives rowStands
+  switch-0-row = stands-row 13
+
+  pub switch-31-row :
+      rows.recordOfRow (ascii "allow g32767 32767 65535 0 s31") ≡ some (11 ∷ 2 ∷ 255 ∷ 255 ∷ 127 ∷ 255 ∷ 255 ∷ 255 ∷ 0 ∷ 0 ∷ 33 ∷ [])
+  unfolding workedRows rowGives rowStands
+  switch-31-row = stands-row 16
+
 module _ (e : WorkedOutside) where
-  outside-row : (n : ℕ) → getD (map rowNamed outsideRows) n (some []) ≡ getD (replicate 66 none) n (some [])
+  outside-row : (n : ℕ) → getD (map rowNamed outsideRows) n (some []) ≡ getD (replicate 92 none) n (some [])
   outside-row n = ap (λ (xs : List (Option (List ℕ))). getD xs n (some [])) (e .rows)
 
   pub return-outside : rows.recordOfRow (ascii "group 1\r") ≡ none
@@ -190,6 +213,14 @@ module _ (e : WorkedOutside) where
   pub class-outside : rows.recordOfRow (ascii "allow 1 2 65536 4 on") ≡ none
   unfolding outsideRows rowNamed
   class-outside = outside-row 19
+
+  pub switch-32-outside : rows.recordOfRow (ascii "allow 1 2 3 4 s32") ≡ none
+  unfolding outsideRows rowNamed
+  switch-32-outside = outside-row 66
+
+  pub switch-01-outside : rows.recordOfRow (ascii "allow 1 2 3 4 s01") ≡ none
+  unfolding outsideRows rowNamed
+  switch-01-outside = outside-row 68
 
   letter-outside : rows.recordOfRow (ascii "x") ≡ none
   unfolding outsideRows rowNamed
@@ -245,3 +276,7 @@ module _ (e : WorkedTexts) where
   pub return-refused : built (ascii "group 1\r\n") (replicate 13 7) ≡ record { answer = refused (refusal 18 0); buffer = empty ++ replicate 4 7 }
   unfolding workedTexts textGives textMakes
   return-refused = text-row 18
+
+  pub switch-built : built (ascii "allow 12 20 5 1 s31") (replicate 20 7) ≡ record { answer = gives 20; buffer = oneSwitched }
+  unfolding workedTexts textGives textMakes
+  switch-built = text-row 23

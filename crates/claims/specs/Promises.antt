@@ -19,10 +19,11 @@ use Rattle.decision.specs.Steps.{StepsInOrder, StepsOfRecord, CoversAll, Denied
 use Rattle.decision.specs.Before.{DecisionsStay}
 use Rattle.decision.specs.Separation.{SeparationMeans, SeparationRead, SeparationKept, SeparationStays}
 use Rattle.decision.specs.Separation.{AnswersStay, AnswersRise, AnswersChange, SharedCases, SharedWas}
+use Rattle.decision.specs.Switches.{ConditionMeans, OneSwitch, WordUnread, AnswersSettled, SwitchesAdd, SwitchOrder, SwitchCases}
 use Rattle.decision.specs.Cases.{MarkedCases, MarkedAdds, MarkedOrder}
 use Rattle.decision.specs.Clauses.{ClauseCases, RefusalCases}
 use Rattle.decision.specs.Numbers.{DecideWhole, PartsWhole, PartsRead, DecideRead}
-use Rattle.decision.specs.Rows.{RowsAnswered, SlotsStay, RowsWhole, RowAlone}
+use Rattle.decision.specs.Rows.{QueryRead, RowsAnswered, SlotsStay, RowsWhole, RowAlone}
 use Rattle.runs.specs.Claims.{FitExactly, UnfitFirst, LastCounts, RunRefused, RunFaults, EachAnswered, SlotsLeft, OwnRow, OneRow, AnswerSaid}
 use Rattle.runs.specs.Claims.{NumbersRun, NumbersWhole, NumbersAnswered, NumbersRefused, NumbersLeft, NumbersFaults}
 use Rattle.runs.specs.Cases.{RunCases, NumberCases}
@@ -101,24 +102,26 @@ pub record Deciding : Type 0 where
   pub marked-adds : MarkedAdds
   -- clauses that no marked case meets, as a second table
   pub clause-cases : ClauseCases
+  -- a query is read back from its 12 bytes, the switch word last
+  pub query-read : QueryRead
   -- many queries at once: the slot of a row that is answered holds the number of the answer to it
   pub rows-answered : RowsAnswered
   -- every other slot is as it was
   pub slots-stay : SlotsStay
   -- every whole row is answered, as far as there are slots
   pub rows-whole : RowsWhole
-  -- and its number depends on its own 8 bytes alone
+  -- and its number depends on its own 12 bytes alone
   pub row-alone : RowAlone
 
 -- Demand 3: the order rule, what the papers say of it, and what meets its terms.
 pub record Ordering : Type 0 where
-  -- a policy and a query that extend others are never decided lower
+  -- a policy and a query that extend others are never decided lower; with switches, as request 6 reads it
   pub order-rule : OrderRule
-  -- on one policy, a query within another is decided no lower: the paper's order preservation
+  -- on one policy, under one word, a query within another is decided no lower: the paper's order preservation
   pub query-order : QueryOrder
   -- one query, a policy that grows: the paper's non-decreasing property
   pub non-decreasing : NonDecreasing
-  -- a query on a group is decided no higher than one on a member of it
+  -- under one word, a query on a group is decided no higher than one on a member of it
   pub member-order : MemberOrder
   -- every accepted add meets the rule's terms
   pub added-grows : AddedGrows
@@ -241,6 +244,23 @@ pub record Separating : Type 0 where
   pub shared-cases : SharedCases
   pub shared-was : SharedWas
 
+-- Request 6: conditions by the switches of a query's word.
+pub record Switching : Type 0 where
+  -- condition 0 is off and 1 on, whatever the word; 2 + k is on where the word divided by 2^k, rounded down, is odd
+  pub condition-means : ConditionMeans
+  -- of all 32 switches each turns on its own condition, and no other
+  pub one-switch : OneSwitch
+  -- a policy that names no switch answers alike under every word
+  pub word-unread : WordUnread
+  -- under a word a policy answers as the one whose conditions that word replaces by 0 and 1: refusals, rule, constraint and steps
+  pub answers-settled : AnswersSettled
+  -- turning switches on counts as adding rules: what is decided is decided as high by the rules that are on alone, and these grow
+  pub switches-add : SwitchesAdd
+  -- so no decision is lower, where there is no companion
+  pub switch-order : SwitchOrder
+  -- cases worked out from the request
+  pub switch-cases : SwitchCases
+
 -- The programs' output.
 pub record Printing : Type 0 where
   -- a number has the fewest digits that hold it, and they read back as that number
@@ -274,10 +294,10 @@ pub record Calling : Type 0 where
   pub add-read : AddRead
   pub run-read : RunRead
   pub build-read : BuildRead
-  -- a run over the numbers of rows is the run over the rows, and every list of whole rows is such numbers
+  -- a run over the numbers of rows is the run over the rows, and every list of whole rows of 16-bit numbers is such numbers
   pub numbers-run : NumbersRun
   pub numbers-whole : NumbersWhole
-  -- each slot holds the number of the answer to its four numbers
+  -- each slot holds the number of the answer to its six numbers
   pub numbers-answered : NumbersAnswered
   -- the refusals by the count of numbers, nothing else is refused, and a refused call leaves every slot
   pub numbers-faults : NumbersFaults
@@ -296,5 +316,6 @@ pub record Promises : Type 0 where
   pub building : Building
   pub reaching : Reaching
   pub separating : Separating
+  pub switching : Switching
   pub printing : Printing
   pub calling : Calling

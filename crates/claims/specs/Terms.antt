@@ -1,11 +1,11 @@
 -- What meets the claims' terms: for each claim that has terms, something that the engine does, and what the claim then says of it. The
 -- proof (proofs/Terms.antt, `terms-met : Promises → TermsMet`) takes the statement and cites no claim's proof, which tests/layers.sh
 -- tests: so a claim whose terms are made narrower, or that says less, no longer gives what is here.
---     query s d c a       a query
+--     query s d c a       a query without a switch on
 --     sampleAnd r         the sample with the record r added
 --     AtLeast n l q       a decision on l is at least so high: 1 is Permitted, 2 UnKnown
 --     threeQueries        document 01's first, third and fourth query, and what the program prints for them
---     twoAndPart          two of them, and 7 bytes
+--     twoAndPart          two of them, and 11 bytes
 --     byBytes b           reads that bring one byte each
 --     sampleBytes, trans  document 01's sample as text, and a row by itself
 --     left text b         what a text leaves of the buffer b
@@ -16,13 +16,15 @@
 --     oneLong a           the source of a rule is one basic type
 --     SameRule l q r      a query is answered Permitted by the rule r, or UnKnown by it and a constraint
 --     separated, shared   the sample with document 01's rule that breaks the separation, and the query that it is asked of
---     ReadingMet, AddingMet, DecidingMet, OrderingMet, RunningMet, NearingMet, BuildingMet, ReachingMet, SeparatingMet, PrintingMet,
---     CallingMet          by the parts of the statement
-use Prim.Native.Nat.{ℕ, suc, _+_, _*_, _/_, _%_, _<_, _≤_}
+--     switched            the sample with a rule 10 to 30 by switch 5; its separation is false where that rule is on
+--     allOn               the word that has all 32 switches on
+--     ReadingMet, AddingMet, DecidingMet, OrderingMet, RunningMet, NearingMet, BuildingMet, ReachingMet, SeparatingMet, SwitchingMet,
+--     PrintingMet, CallingMet   by the parts of the statement
+use Prim.Native.Nat.{ℕ, suc, _+_, _*_, _-_, _/_, _%_, _<_, _≤_, _^_}
 use Prim.Native.String.{String}
 use mathlib.Core.Path.{_≡_}
 use mathlib.Core.Logic.{_⊎_}
-use mathlib.Core.Bool.{Bool, true, false}
+use mathlib.Core.Bool.{Bool, true, false, not}
 use mathlib.Core.Option.{Option, none, some}
 use mathlib.Core.List.{List, [], _∷_, _++_, map, List·Memᴰ}
 use lib.ListN.{length, getD, take, drop, set, replicate}
@@ -47,21 +49,23 @@ use Rattle.text.specs.Words.{ascii, split}
 use Rattle.text.specs.Rows.{recordOfRow}
 use Rattle.text.specs.Build.{rowFault, rowsFrom, built}
 use Rattle.text.specs.Claims.{recordsIn, recordCount, complete, allAdded}
-use Rattle.text.specs.Cases.{workedRows, outsideRows, members, groupOf, fullGroups, oneTransition, sampleText, workedTexts}
+use Rattle.text.specs.Cases.{workedRows, outsideRows, members, groupOf, fullGroups, oneTransition, oneSwitched, sampleText, workedTexts}
 use Rattle.decision.specs.declared.Query.{Query}
 use Rattle.decision.specs.declared.Nearest.{Nearest}
 use Rattle.decision.specs.declared.Nearest.the-variants.{NoRules, Near}
 use Rattle.decision.specs.declared.Answer.{Answer}
 use Rattle.decision.specs.declared.Answer.the-variants as answers
 use Rattle.decision.specs.Sets.{anyOf, allOf, isIn, setOf, within, touches}
+use Rattle.decision.specs.Conditions.{switchOn, isOn}
 use Rattle.decision.specs.Reading.{Rule, Constraint, Request, asks, live, constraintOf, requestOf, rulesOf}
-use Rattle.decision.specs.Decide.{covers, steps, separationBroken, broken, firstAt, judge, decide, answer, answerOutcome}
+use Rattle.decision.specs.Decide.{covers, steps, separationBroken, broken, firstAt, judge, decide, answer, answerOutcome, queryOf}
 use Rattle.decision.specs.Decide.{Decision, notPermitted, permitted, unknown}
 use Rattle.decision.specs.Lowest.{Most, Nears}
 use Rattle.decision.specs.Steps.{stepsOf, stepsAt, sourceIn, destIn, off, stepCases}
 use Rattle.decision.specs.Before.{denied, allowed, stopped, answerBefore}
 use Rattle.decision.specs.Separation.{From, FromRecord, Wider, separationWas, answerWas, OneType, Raised, separation, story, elsewhere, sharedCases, wasCases}
-use Rattle.decision.specs.Order.{height, Keeps, NoCompanion}
+use Rattle.decision.specs.Order.{height, Holds, Keeps, Grows, NoCompanion}
+use Rattle.decision.specs.Switches.{NoSwitches, settledRule, settled, onlyOn, allowIf, rinse, switchCases}
 use Rattle.decision.specs.Growth.{reordered, DecidedAbove}
 use Rattle.decision.specs.Cases.{g0, allow, companion, oneMember, withSpace, extended, cases}
 use Rattle.decision.specs.Tepla.{Dcs, compareDecisions, permits, forget, evalPolicy}
@@ -75,14 +79,14 @@ use Rattle.lines.specs.Lines.{width, decimal, line}
 use Rattle.lines.specs.Output.{imageSize, printed, ran}
 use Rattle.lines.specs.Compiled.{compiled, reads, begun}
 use Rattle.lines.specs.Claims.{readFrom}
-use Rattle.lines.specs.Worked.{workedLines, asked, workedRuns, workedCompiled}
+use Rattle.lines.specs.Worked.{workedLines, askedOn, asked, workedRuns, workedCompiled}
 use Rattle.decision.specs.Numbers.{partsOf, decisionCode, hostDecision}
-use Rattle.decision.specs.Rows.{rowsIn, answered, rowAt}
+use Rattle.decision.specs.Rows.{queryAt, rowsIn, answered, rowAt, queryBytes}
 use Rattle.mungaite.specs.Code.{faultCode, recordCode, addCode, buildCode}
 use Rattle.mungaite.specs.Host.{hostChecked, hostFound, hostAdded, hostRun, hostBuilt}
 
 abbrev pub query : ℕ → ℕ → ℕ → ℕ → Query
-query s d c a = record { source = s; dest = d; class = c; action = a }
+query s d c a = queryOf s d c a 0
 
 abbrev pub sampleAnd : List ℕ → List ℕ
 sampleAnd r = extended sample r
@@ -94,7 +98,7 @@ abbrev pub threeQueries : List ℕ
 threeQueries = asked 10 21 5 1 ++ (asked 13 21 5 1 ++ asked 12 20 9 9)
 
 abbrev pub twoAndPart : List ℕ
-twoAndPart = asked 10 21 5 1 ++ (asked 12 20 9 9 ++ replicate 7 0)
+twoAndPart = asked 10 21 5 1 ++ (asked 12 20 9 9 ++ replicate 11 0)
 
 abbrev pub threeSaid : String
 threeSaid = "P 0\nN 1 0\nP 2\n"
@@ -190,7 +194,7 @@ pub record DecidingMet : Type 0 where
   -- LowestAnswered: of an UnKnown, no rule before the one named covers
   pub lowest-unknown :
       (l : List ℕ) (q : Query) (r c : ℕ) → answer l q ≡ gives (unknown r c)
-      → anyOf (covers (requestOf (policyOf l) q)) (take r (rulesOf (policyOf l))) ≡ false
+      → anyOf (covers (requestOf (policyOf l) q)) (take r (rulesOf (policyOf l) (q .switches))) ≡ false
   -- PublishedMeaning: where there is no constraint; PublishedOrder: UnKnown is above Permitted
   pub no-constraints : (p : Policy) (q : Query) → p .constraints ≡ [] → evalPolicy p q ≡ forget (decide p q)
   pub unknown-above : compareDecisions Dcs.UnKnown Dcs.Permitted ≡ false
@@ -201,9 +205,18 @@ pub record DecidingMet : Type 0 where
   pub cases-all : length cases ≡ 14
   pub other-class : answer sample (query 12 20 9 9) ≡ gives (permitted 2)
   pub no-group-1 : answer sample (query 32769 21 5 1) ≡ refused (refusal 8 0)
+  -- QueryRead: every query of 16-bit fields and a 32-bit word, the largest too, in 12 bytes; the word last, and its first byte highest;
+  -- and its own bytes are answered as the query is
+  pub any-query :
+      (s d c a w : ℕ) → s ≤ 65535 → d ≤ 65535 → c ≤ 65535 → a ≤ 65535 → w ≤ 4294967295
+      → (queryAt (queryBytes (queryOf s d c a w)) 0 ≡ queryOf s d c a w) × (length (queryBytes (queryOf s d c a w)) ≡ 12)
+  pub word-last : queryAt (0 ∷ 10 ∷ 128 ∷ 1 ∷ 0 ∷ 5 ∷ 1 ∷ 0 ∷ 128 ∷ 64 ∷ 32 ∷ 1 ∷ []) 0 .switches ≡ 0x80402001
+  pub own-bytes :
+      (l : List ℕ) (s d c a w y : ℕ) → s ≤ 65535 → d ≤ 65535 → c ≤ 65535 → a ≤ 65535 → w ≤ 4294967295
+      → getD (answered l (queryBytes (queryOf s d c a w)) (y ∷ [])) 0 0 ≡ decisionCode (answer l (queryOf s d c a w))
   -- RowsAnswered, SlotsStay: two rows in three slots, of which the third stays
   pub two-answered : answered sample twoAndPart (7 ∷ 8 ∷ 9 ∷ []) ≡ decisionCode (gives (permitted 0)) ∷ decisionCode (gives (permitted 2)) ∷ 9 ∷ []
-  -- RowsWhole: 7 bytes are no row; the last row is one; slots for two; no slot
+  -- RowsWhole: 11 bytes are no row; the last row is one; slots for two; no slot
   pub two-rows : rowsIn twoAndPart 3 ≡ 2
   pub last-row : rowsIn threeQueries 3 ≡ 3
   pub two-slots : rowsIn threeQueries 2 ≡ 2
@@ -213,13 +226,23 @@ pub record DecidingMet : Type 0 where
       (l b slots : List ℕ) (k : ℕ) → k < rowsIn b (length slots) → getD (answered l b slots) k 0 ≡ getD (answered l (rowAt b k) (0 ∷ [])) 0 0
 
 pub record OrderingMet : Type 0 where
-  -- OrderRule: a rule added, and a member of the group for the group; a new group for it; what is UnKnown with a companion stays so
-  pub order-met : AtLeast 1 (sampleAnd (allow 14 g0 7 7)) (query 10 21 5 1)
+  -- OrderRule: a rule added, and a member of the group for the group, under no switch and under switch 0; a new group for it; what is
+  -- UnKnown with a companion stays so
+  pub order-met : AtLeast 1 (sampleAnd (allow 14 g0 7 7)) (queryOf 10 21 5 1 1)
   pub new-group-met : AtLeast 1 (sampleAnd oneMember) (query 10 0x8001 5 1)
   pub unknown-stays : AtLeast 2 (sampleAnd companion) (query 10 21 5 1)
-  -- QueryOrder: types that stand for the same set are decided equally high
+  -- more switches on, of any word, where there is no companion; one word, whatever it is, the same rules and more constraints, companions
+  -- or not
+  pub more-switches :
+      (l : List ℕ) (s d c a v w : ℕ) (d₁ d₂ : Decision) → answer l (queryOf s d c a v) ≡ gives d₁ → answer l (queryOf s d c a w) ≡ gives d₂
+      → ((k : ℕ) → k < 32 → switchOn v k ≡ true → switchOn w k ≡ true) → NoCompanion (policyOf l .constraints) → height d₁ ≤ height d₂
+  pub more-constraints :
+      (l₁ l₂ : List ℕ) (q : Query) (d₁ d₂ : Decision) (more : List (List ℕ)) → answer l₁ q ≡ gives d₁ → answer l₂ q ≡ gives d₂
+      → policyOf l₁ .groups ≡ policyOf l₂ .groups → policyOf l₁ .rules ≡ policyOf l₂ .rules
+      → policyOf l₂ .constraints ≡ policyOf l₁ .constraints ++ more → height d₁ ≤ height d₂
+  -- QueryOrder: under one word, types that stand for the same set are decided equally high
   pub same-sets :
-      (l : List ℕ) (s s′ d d′ c a : ℕ) (d₁ d₂ : Decision) → answer l (query s d c a) ≡ gives d₁ → answer l (query s′ d′ c a) ≡ gives d₂
+      (l : List ℕ) (s s′ d d′ c a w : ℕ) (d₁ d₂ : Decision) → answer l (queryOf s d c a w) ≡ gives d₁ → answer l (queryOf s′ d′ c a w) ≡ gives d₂
       → setOf (policyOf l .groups) s ≡ setOf (policyOf l .groups) s′ → setOf (policyOf l .groups) d ≡ setOf (policyOf l .groups) d′
       → within (setOf (policyOf l .groups) s) (setOf (policyOf l .groups) s) ≡ true
       → within (setOf (policyOf l .groups) d) (setOf (policyOf l .groups) d) ≡ true
@@ -231,10 +254,10 @@ pub record OrderingMet : Type 0 where
   pub not-lower-itself :
       (l : List ℕ) (q : Query) (d₁ d₂ : Decision) → answer l q ≡ gives d₁ → answer l q ≡ gives d₂
       → NoCompanion (policyOf l .constraints) → height d₁ ≤ height d₂
-  -- MemberOrder: 21 for group 0; every basic type may be the member
+  -- MemberOrder: 21 for group 0; every basic type may be the member, under every word
   pub member-met : AtLeast 1 sample (query 10 21 5 1)
   pub any-member :
-      (l : List ℕ) (s d m n c a : ℕ) (d₁ d₂ : Decision) → answer l (query s d c a) ≡ gives d₁ → answer l (query m n c a) ≡ gives d₂
+      (l : List ℕ) (s d m n c a w : ℕ) (d₁ d₂ : Decision) → answer l (queryOf s d c a w) ≡ gives d₁ → answer l (queryOf m n c a w) ≡ gives d₂
       → m ≤ 1023 → n ≤ 1023 → isIn m (setOf (policyOf l .groups) s) ≡ true → isIn n (setOf (policyOf l .groups) d) ≡ true → height d₁ ≤ height d₂
   -- AddedGrows: groups too
   pub added-keeps :
@@ -347,7 +370,7 @@ pub record RunningMet : Type 0 where
       (runOutcome runs.Fit ≡ gives none) × ((n : ℕ) → runOutcome (runs.Unfit n) ≡ gives (some n))
       × ((f : Refusal) → runOutcome (runs.Refused f) ≡ refused f)
   -- RunCases, NumberCases: all of them
-  pub run-cases-all : (length runCases ≡ 27) × (length numberCases ≡ 19)
+  pub run-cases-all : (length runCases ≡ 29) × (length numberCases ≡ 21)
 
 pub record NearingMet : Type 0 where
   -- StepsInOrder: each step by itself, stopped there; and past the last
@@ -368,9 +391,14 @@ pub record NearingMet : Type 0 where
   pub covered-five : (a : Request) (r : Rule) → covers a r ≡ true → steps a r ≡ 5
   pub five-covers : (a : Request) (r : Rule) → steps a r ≡ 5 → covers a r ≡ true
   pub uncovered-four : (a : Request) (r : Rule) → covers a r ≡ false → steps a r ≤ 4
-  -- StepsOfRecord: the sample's rule 3, which is off, of every query; its transition, rule 2, and its rule 0, by each step that
-  -- fails
+  -- StepsOfRecord: the sample's rule 3, which is off, of every query; the same rule by switch 0, under an even word and under an odd one;
+  -- its transition, rule 2, and its rule 0, by each step that fails
   pub rule-3-none : (q : Query) → stepsAt (policyOf sample) q 3 ≡ 0
+  pub switch-none : (s d c a w : ℕ) → w % 2 ≡ 0 → stepsAt (policyOf (rinse 2)) (queryOf s d c a w) 3 ≡ 0
+  pub switch-one :
+      (s d c a w : ℕ) → w % 2 ≡ 1
+      → sourceIn (policyOf (rinse 2)) (queryOf s d c a w) (getD (policyOf (rinse 2) .rules) 3 []) ≡ false
+      → stepsAt (policyOf (rinse 2)) (queryOf s d c a w) 3 ≡ 1
   pub rule-2-one : (q : Query) → sourceIn (policyOf sample) q (getD (policyOf sample .rules) 2 []) ≡ false → stepsAt (policyOf sample) q 2 ≡ 1
   pub rule-2-two :
       (q : Query) → sourceIn (policyOf sample) q (getD (policyOf sample .rules) 2 []) ≡ true
@@ -522,14 +550,19 @@ pub record BuildingMet : Type 0 where
       (text b : List ℕ) (f : Refusal) → 55561 ≤ length b → built text b .answer ≡ refused f → (f .number ≡ 11 → ⊥) → (f .number ≡ 12 → ⊥)
       → (f .number ≡ 18 → ⊥) → ⊥
   -- WorkedRows, WorkedOutside, WorkedFull, WorkedTexts: all of them, and some by themselves
-  pub worked-all : (length workedRows ≡ 13) × (length outsideRows ≡ 66) × (length workedTexts ≡ 23)
+  pub worked-all : (length workedRows ≡ 17) × (length outsideRows ≡ 92) × (length workedTexts ≡ 25)
   pub off-row :
       recordOfRow (ascii "allow g32767 32767 65535 0 off") ≡ some (11 ∷ 2 ∷ 255 ∷ 255 ∷ 127 ∷ 255 ∷ 255 ∷ 255 ∷ 0 ∷ 0 ∷ 0 ∷ [])
+  pub switch-0-row : recordOfRow (ascii "allow 10 g0 5 1 s0") ≡ some (11 ∷ 2 ∷ 0 ∷ 10 ∷ 128 ∷ 0 ∷ 0 ∷ 5 ∷ 0 ∷ 1 ∷ 2 ∷ [])
+  pub switch-31-row :
+      recordOfRow (ascii "allow g32767 32767 65535 0 s31") ≡ some (11 ∷ 2 ∷ 255 ∷ 255 ∷ 127 ∷ 255 ∷ 255 ∷ 255 ∷ 0 ∷ 0 ∷ 33 ∷ [])
   pub list-row :
       recordOfRow (ascii "limit 1 2 3 4 2 g5 6") ≡ some (15 ∷ 4 ∷ 0 ∷ 1 ∷ 0 ∷ 2 ∷ 0 ∷ 3 ∷ 0 ∷ 4 ∷ 2 ∷ 128 ∷ 5 ∷ 0 ∷ 6 ∷ [])
   pub return-outside : recordOfRow (ascii "group 1\r") ≡ none
   pub zero-outside : recordOfRow (ascii "group 01") ≡ none
   pub class-outside : recordOfRow (ascii "allow 1 2 65536 4 on") ≡ none
+  pub switch-32-outside : recordOfRow (ascii "allow 1 2 3 4 s32") ≡ none
+  pub switch-01-outside : recordOfRow (ascii "allow 1 2 3 4 s01") ≡ none
   pub zero-byte : recordOfRow (ascii "group 1" ++ (0 ∷ [])) ≡ none
   pub high-byte : recordOfRow (ascii "group " ++ (177 ∷ [])) ≡ none
   pub members-outside : recordOfRow (ascii "group" ++ groupOf (members 65)) ≡ none
@@ -543,6 +576,7 @@ pub record BuildingMet : Type 0 where
   pub trans-short : built trans (replicate 16 7) ≡ record { answer = refused (refusal 13 0); buffer = empty ++ replicate 7 7 }
   pub outside-full :
       built (ascii "trans 12 20 5\nx") (replicate 17 7) ≡ record { answer = refused (refusal 18 14); buffer = oneTransition }
+  pub switch-built : built (ascii "allow 12 20 5 1 s31") (replicate 20 7) ≡ record { answer = gives 20; buffer = oneSwitched }
   pub return-refused : built (ascii "group 1\r\n") (replicate 13 7) ≡ record { answer = refused (refusal 18 0); buffer = empty ++ replicate 4 7 }
 
 -- the first k records of a section pass; and all that the header counts
@@ -598,6 +632,9 @@ pub record ReachingMet : Type 0 where
 abbrev pub separated : List ℕ
 separated = sampleAnd (allow 10 30 5 3)
 
+abbrev pub switched : List ℕ
+switched = sampleAnd (allowIf 7 (allow 10 30 5 3))
+
 abbrev pub shared : Query
 shared = query 20 30 5 2
 
@@ -619,46 +656,52 @@ pub record SeparatingMet : Type 0 where
   pub none-shared :
       (rs : List Rule) (c : Constraint) → ((x : ℕ) → From rs (c .first) x → From rs (c .second) x → ⊥) → separationBroken rs c ≡ false
   pub none-live : (rs : List Rule) (c : Constraint) → anyOf live rs ≡ false → separationBroken rs c ≡ false
-  -- the story: 20 is in the source of rule 4, which reaches 20, and in that of rule 1, which reaches 30
-  pub story-first : From (rulesOf (policyOf story)) (20 ∷ []) 20
-  pub story-second : From (rulesOf (policyOf story)) (30 ∷ []) 20
-  pub story-broken : (c : Constraint) → c .first ≡ 20 ∷ [] → c .second ≡ 30 ∷ [] → separationBroken (rulesOf (policyOf story)) c ≡ true
-  -- SeparationRead: any two records of rules, and no others; the story's, and the sample's own separation; no rule that is on
+  -- the story, under every word: 20 is in the source of rule 4, which reaches 20, and in that of rule 1, which reaches 30
+  pub story-first : (w : ℕ) → From (rulesOf (policyOf story) w) (20 ∷ []) 20
+  pub story-second : (w : ℕ) → From (rulesOf (policyOf story) w) (30 ∷ []) 20
+  pub story-broken :
+      (w : ℕ) (c : Constraint) → c .first ≡ 20 ∷ [] → c .second ≡ 30 ∷ [] → separationBroken (rulesOf (policyOf story) w) c ≡ true
+  -- SeparationRead: any two records of rules that are on under a word, and no others; the story's, and the sample's own separation; the
+  -- same separation by rule 0 and a rule of switch 5, under the word 32; no rule that is on
   pub two-records :
-      (p : Policy) (r : List ℕ) (x y z : ℕ) (a b : List ℕ) → getD r 10 0 ≡ 1 → List·Memᴰ a (p .rules) → List·Memᴰ b (p .rules)
-      → getD a 1 0 ≡ 2 → getD a 10 0 ≡ 1 → getD b 1 0 ≡ 2 → getD b 10 0 ≡ 1
+      (p : Policy) (w : ℕ) (r : List ℕ) (x y z : ℕ) (a b : List ℕ) → getD r 10 0 ≡ 1 → List·Memᴰ a (p .rules) → List·Memᴰ b (p .rules)
+      → getD a 1 0 ≡ 2 → isOn w (getD a 10 0) ≡ true → getD b 1 0 ≡ 2 → isOn w (getD b 10 0) ≡ true
       → isIn y (setOf (p .groups) (wordAt a 4)) ≡ true → isIn y (setOf (p .groups) (wordAt r 6)) ≡ true
       → isIn z (setOf (p .groups) (wordAt b 4)) ≡ true → isIn z (setOf (p .groups) (wordAt r 8)) ≡ true
       → isIn x (setOf (p .groups) (wordAt a 2)) ≡ true → isIn x (setOf (p .groups) (wordAt b 2)) ≡ true
-      → broken (rulesOf p) (constraintOf p r) ≡ true
+      → broken (rulesOf p w) (constraintOf p r) ≡ true
   pub none-in-records :
-      (p : Policy) (r : List ℕ) → getD r 10 0 ≡ 1 → ((x : ℕ) → FromRecord p (wordAt r 6) x → FromRecord p (wordAt r 8) x → ⊥)
-      → broken (rulesOf p) (constraintOf p r) ≡ false
-  pub story-from-record : FromRecord (policyOf story) 20 20 × FromRecord (policyOf story) 30 20
-  pub story-read : broken (rulesOf (policyOf story)) (constraintOf (policyOf story) (getD (policyOf sample .constraints) 1 [])) ≡ true
+      (p : Policy) (w : ℕ) (r : List ℕ) → getD r 10 0 ≡ 1 → ((x : ℕ) → FromRecord p w (wordAt r 6) x → FromRecord p w (wordAt r 8) x → ⊥)
+      → broken (rulesOf p w) (constraintOf p r) ≡ false
+  pub story-from-record : (w : ℕ) → FromRecord (policyOf story) w 20 20 × FromRecord (policyOf story) w 30 20
+  pub story-read :
+      (w : ℕ) → broken (rulesOf (policyOf story) w) (constraintOf (policyOf story) (getD (policyOf sample .constraints) 1 [])) ≡ true
+  pub switched-from-record : FromRecord (policyOf switched) 32 20 10 × FromRecord (policyOf switched) 32 30 10
+  pub switched-read : broken (rulesOf (policyOf switched) 32) (constraintOf (policyOf switched) (getD (policyOf sample .constraints) 1 [])) ≡ true
   pub none-on :
-      (p : Policy) (r : List ℕ) → getD r 10 0 ≡ 1 → ((b : List ℕ) → List·Memᴰ b (p .rules) → getD b 10 0 ≡ 1 → ⊥)
-      → broken (rulesOf p) (constraintOf p r) ≡ false
+      (p : Policy) (w : ℕ) (r : List ℕ) → getD r 10 0 ≡ 1 → ((b : List ℕ) → List·Memᴰ b (p .rules) → isOn w (getD b 10 0) ≡ true → ⊥)
+      → broken (rulesOf p w) (constraintOf p r) ≡ false
   -- SeparationKept: any rules more, the sample's too; a wider rule for any rule; without a rule that is not live
   pub more-rules : (rs more : List Rule) (c : Constraint) → separationBroken rs c ≡ true → separationBroken (rs ++ more) c ≡ true
-  pub sample-wider : Wider (rulesOf (policyOf sample)) (rulesOf (policyOf separated))
+  pub sample-wider : (w : ℕ) → Wider (rulesOf (policyOf sample) w) (rulesOf (policyOf separated) w)
   pub wider-rule :
       (rs : List Rule) (c : Constraint) (a b : Rule) → live b ≡ true → within (a .source) (b .source) ≡ true → within (a .dest) (b .dest) ≡ true
       → separationBroken (a ∷ rs) c ≡ true → separationBroken (b ∷ rs) c ≡ true
   pub off-rule : (rs : List Rule) (c : Constraint) (a : Rule) → live a ≡ false → separationBroken (a ∷ rs) c ≡ true → separationBroken rs c ≡ true
   -- SeparationStays, AnswersStay: the sample, with a rule more too; every policy without a live rule
-  pub sample-one-type : OneType (rulesOf (policyOf sample))
-  pub sample-separations : (c : Constraint) → separationBroken (rulesOf (policyOf sample)) c ≡ separationWas (rulesOf (policyOf sample)) c
+  pub sample-one-type : (w : ℕ) → OneType (rulesOf (policyOf sample) w)
+  pub sample-separations :
+      (w : ℕ) (c : Constraint) → separationBroken (rulesOf (policyOf sample) w) c ≡ separationWas (rulesOf (policyOf sample) w) c
   pub sample-stays : (q : Query) → answer sample q ≡ answerWas sample q
   pub separated-stays : answerWas separated shared ≡ gives (unknown 1 1)
   pub one-long-separations : (rs : List Rule) (c : Constraint) → allOf oneLong rs ≡ true → separationBroken rs c ≡ separationWas rs c
-  pub one-long-stays : (l : List ℕ) (q : Query) → allOf oneLong (rulesOf (policyOf l)) ≡ true → answer l q ≡ answerWas l q
-  pub none-live-stays : (l : List ℕ) (q : Query) → anyOf live (rulesOf (policyOf l)) ≡ false → answer l q ≡ answerWas l q
+  pub one-long-stays : (l : List ℕ) (q : Query) → allOf oneLong (rulesOf (policyOf l) (q .switches)) ≡ true → answer l q ≡ answerWas l q
+  pub none-live-stays : (l : List ℕ) (q : Query) → anyOf live (rulesOf (policyOf l) (q .switches)) ≡ false → answer l q ≡ answerWas l q
   -- and not every policy: the story was Permitted
   pub story-was : answerWas story shared ≡ gives (permitted 1)
   pub story-is : answer story shared ≡ gives (unknown 1 1)
   pub story-changed : answer story shared ≡ answerWas story shared → ⊥
-  pub story-not-one-type : OneType (rulesOf (policyOf story)) → ⊥
+  pub story-not-one-type : OneType (rulesOf (policyOf story) 0) → ⊥
   -- AnswersRise: the story; what was Permitted is not denied, what was UnKnown stays so, and nothing is refused that was not
   pub story-above : DecidedAbove story shared (permitted 1)
   pub permitted-above : (l : List ℕ) (q : Query) (r : ℕ) → answerWas l q ≡ gives (permitted r) → AtLeast 1 l q
@@ -685,6 +728,68 @@ pub record SeparatingMet : Type 0 where
   pub elsewhere-outside : answer elsewhere shared ≡ gives (permitted 1)
   pub same-source-was : answerWas (sampleAnd (allow 20 20 5 3)) shared ≡ gives (unknown 1 1)
 
+abbrev pub allOn : ℕ
+allOn = 4294967295
+
+pub record SwitchingMet : Type 0 where
+  -- ConditionMeans: 0 and 1 under every word; a switch's by the word divided by 2^k, rounded down, both ways; without a switch on
+  pub byte-0 : (w : ℕ) → isOn w 0 ≡ false
+  pub byte-1 : (w : ℕ) → isOn w 1 ≡ true
+  pub odd-on : (w k : ℕ) → w / 2 ^ k % 2 ≡ 1 → isOn w (2 + k) ≡ true
+  pub on-odd : (w k : ℕ) → isOn w (2 + k) ≡ true → w / 2 ^ k % 2 ≡ 1
+  pub none-on : (k : ℕ) → isOn 0 (2 + k) ≡ false
+  -- OneSwitch: each of the 32 switches, with each of the 32 conditions; switch 31
+  pub one-on : (k j : ℕ) → k < 32 → j < 32 → isOn (2 ^ k) (2 + j) ≡ eqb k j
+  pub one-off : (k j : ℕ) → k < 32 → j < 32 → isOn (allOn - 2 ^ k) (2 + j) ≡ not (eqb k j)
+  pub switch-31 : (isOn 0x80000000 33 ≡ true) × (isOn 0x7FFFFFFF 33 ≡ false)
+  -- WordUnread: every policy whose allow rules have conditions 0 and 1; the sample, which has a transition too
+  pub plain-unread :
+      (l : List ℕ) (s d c a v w : ℕ) → ((r : List ℕ) → List·Memᴰ r (policyOf l .rules) → getD r 1 0 ≡ 2 → getD r 10 0 ≤ 1)
+      → answer l (queryOf s d c a v) ≡ answer l (queryOf s d c a w)
+  pub sample-no-switches : NoSwitches (policyOf sample)
+  pub sample-unread : (s d c a v w : ℕ) → answer sample (queryOf s d c a v) ≡ answer sample (queryOf s d c a w)
+  -- AnswersSettled: every accepted image, in numbers; the sample with its rule 3 by switch 0: with the switch on it answers as the one
+  -- with that rule on, and with the switch off as the sample, under every word
+  pub any-settled :
+      (l : List ℕ) (s d c a v w : ℕ) → Bytes l → Accepted l
+      → answer (imageOf (settled v (policyOf l))) (queryOf s d c a w) ≡ answer l (queryOf s d c a v)
+  pub rinse-on : (s d c a w : ℕ) → answer (rinse 1) (queryOf s d c a w) ≡ answer (rinse 2) (queryOf s d c a 1)
+  pub rinse-off : (s d c a w : ℕ) → answer sample (queryOf s d c a w) ≡ answer (rinse 2) (queryOf s d c a 0)
+  pub settled-accepted : (l : List ℕ) (w : ℕ) → Bytes l → Accepted l → Accepted (imageOf (settled w (policyOf l)))
+  pub settled-plain : (p : Policy) (w : ℕ) (r : List ℕ) → List·Memᴰ r (p .rules) → getD r 1 0 ≡ 2 → getD (settledRule w r) 10 0 ≤ 1
+  -- SwitchesAdd: any switches more, from none and to all; rule 3 of the sample by switch 0 is one rule more; the decision by the rules
+  -- that are on, in numbers
+  pub rules-more :
+      (l : List ℕ) (v w : ℕ) → Accepted l → ((k : ℕ) → k < 32 → switchOn v k ≡ true → switchOn w k ≡ true)
+      → Holds (onlyOn v (policyOf l) .rules) (onlyOn w (policyOf l) .rules)
+  pub none-grows : (l : List ℕ) (w : ℕ) → Accepted l → Grows (onlyOn 0 (policyOf l)) (onlyOn w (policyOf l))
+  pub all-grows : (l : List ℕ) (v : ℕ) → Accepted l → Grows (onlyOn v (policyOf l)) (onlyOn allOn (policyOf l))
+  pub one-rule-more : (length (onlyOn 0 (policyOf (rinse 2)) .rules) ≡ 3) × (length (onlyOn 1 (policyOf (rinse 2)) .rules) ≡ 4)
+  pub as-high :
+      (p : Policy) (s d c a v w : ℕ) → height (decide (onlyOn v p) (queryOf s d c a w)) ≡ height (decide p (queryOf s d c a v))
+  -- SwitchOrder: from no switch on, to all on; what switch 0 lets through stays so, whatever else is on
+  pub from-none :
+      (l : List ℕ) (s d c a w : ℕ) (d₁ d₂ : Decision) → answer l (queryOf s d c a 0) ≡ gives d₁ → answer l (queryOf s d c a w) ≡ gives d₂
+      → NoCompanion (policyOf l .constraints) → height d₁ ≤ height d₂
+  pub to-all :
+      (l : List ℕ) (s d c a v : ℕ) (d₁ d₂ : Decision) → answer l (queryOf s d c a v) ≡ gives d₁ → answer l (queryOf s d c a allOn) ≡ gives d₂
+      → NoCompanion (policyOf l .constraints) → height d₁ ≤ height d₂
+  pub rinse-stays : (w : ℕ) → switchOn w 0 ≡ true → AtLeast 1 (rinse 2) (queryOf 13 21 5 1 w)
+  -- SwitchCases: all of them; a rule by switch 0 and by switch 31, on and off; a companion that a switch helps; condition 34
+  pub switch-cases-all : length switchCases ≡ 25
+  pub switch-0-on : answer (rinse 2) (queryOf 13 21 5 1 1) ≡ gives (permitted 3)
+  pub switch-0-off : answer (rinse 2) (queryOf 13 21 5 1 2) ≡ gives (notPermitted (Near 1 0))
+  pub switch-31-on : answer (rinse 33) (queryOf 13 21 5 1 0x80000000) ≡ gives (permitted 3)
+  pub switch-31-off : answer (rinse 33) (queryOf 13 21 5 1 0x7FFFFFFF) ≡ gives (notPermitted (Near 1 0))
+  pub switched-on : answer switched (queryOf 20 30 5 2 32) ≡ gives (unknown 1 1)
+  pub switched-off : answer switched (queryOf 20 30 5 2 31) ≡ gives (permitted 1)
+  pub helped-off : answer (extended (sampleAnd companion) (allowIf 7 (allow 21 10 5 9))) (queryOf 10 21 5 1 31) ≡ gives (unknown 0 2)
+  pub helped-on : answer (extended (sampleAnd companion) (allowIf 7 (allow 21 10 5 9))) (queryOf 10 21 5 1 32) ≡ gives (permitted 0)
+  pub condition-34 : answer (rinse 34) (queryOf 10 21 5 1 0) ≡ refused (refusal 6 55)
+  -- PublishedAnswer: under a word
+  pub published-on : evalPolicy (policyOf (rinse 2)) (queryOf 13 21 5 1 1) ≡ Dcs.Permitted
+  pub published-off : evalPolicy (policyOf switched) (queryOf 20 30 5 2 31) ≡ Dcs.Permitted
+
 pub record PrintingMet : Type 0 where
   -- DecimalFewest, DecimalRead: the largest usize
   pub largest-fewest : Fewest 10 1 18446744073709551615 (width 18446744073709551615)
@@ -699,11 +804,16 @@ pub record PrintingMet : Type 0 where
   pub header-first : imageSize (take 8 sample) ≡ 9
   -- WorkedLines, WorkedRuns: all of them, and some by themselves
   pub lines-all : length workedLines ≡ 10
-  pub runs-all : length workedRuns ≡ 16
+  pub runs-all : length workedRuns ≡ 23
   pub near-line : line (gives (notPermitted (Near 4 1023))) ≡ ascii "N 4 1023\n"
   pub no-rules-line : line (gives (notPermitted NoRules)) ≡ ascii "N -\n"
   pub unknown-line : line (gives (unknown 1023 255)) ≡ ascii "U 1023 255\n"
   pub three-printed : printed (sample ++ threeQueries) ≡ ascii threeSaid
+  pub eleven-left : printed (empty ++ replicate 11 0) ≡ ascii "R 15 0\n"
+  pub switch-0-printed :
+      printed (rinse 2 ++ (askedOn (0 ∷ 0 ∷ 0 ∷ 1 ∷ []) 13 21 5 1 ++ asked 13 21 5 1)) ≡ ascii "P 3\nN 1 0\n"
+  pub switch-31-printed :
+      printed (rinse 33 ++ (askedOn (128 ∷ 0 ∷ 0 ∷ 0 ∷ []) 13 21 5 1 ++ askedOn (0 ∷ 0 ∷ 0 ∷ 128 ∷ []) 13 21 5 1)) ≡ ascii "P 3\nN 1 0\n"
   -- AnyCompiled: byte by byte, in one read, in two with one between that brings nothing, in none; in a buffer of 9 bytes too
   pub compiled-by-bytes : (text b : List ℕ) → 9 ≤ length b → reads (begun b) (byBytes text) ≡ compiled text b
   pub compiled-at-once : (text b : List ℕ) → 9 ≤ length b → reads (begun b) (text ∷ []) ≡ compiled text b
@@ -756,9 +866,10 @@ pub record CallingMet : Type 0 where
   pub any-run-read :
       (l : List ℕ) → Bytes l → (ns ys : List ℕ) (o : Outcome (Option ℕ)) → numbersRun l ns (length ys) ≡ o → hostRun (runCode o) ≡ o
   pub row-fits : (l : List ℕ) → Bytes l → (ns : List ℕ) (slots n : ℕ) → numbersRun l ns slots ≡ gives (some n) → n ≤ 63
-  pub fit-read : hostRun (runCode (numbersRun sample (10 ∷ 21 ∷ 5 ∷ 1 ∷ 12 ∷ 20 ∷ 9 ∷ 9 ∷ []) 2)) ≡ gives none
-  pub unfit-read : hostRun (runCode (numbersRun sample (10 ∷ 21 ∷ 5 ∷ 1 ∷ 13 ∷ 21 ∷ 5 ∷ 1 ∷ []) 2)) ≡ gives (some 1)
-  pub slot-read : hostDecision (getD (codesAfter sample (10 ∷ 21 ∷ 5 ∷ 1 ∷ 12 ∷ 20 ∷ 9 ∷ 9 ∷ []) (7 ∷ 8 ∷ [])) 1 0) ≡ gives (permitted 2)
+  pub fit-read : hostRun (runCode (numbersRun sample (10 ∷ 21 ∷ 5 ∷ 1 ∷ 0 ∷ 0 ∷ 12 ∷ 20 ∷ 9 ∷ 9 ∷ 0 ∷ 0 ∷ []) 2)) ≡ gives none
+  pub unfit-read : hostRun (runCode (numbersRun sample (10 ∷ 21 ∷ 5 ∷ 1 ∷ 0 ∷ 0 ∷ 13 ∷ 21 ∷ 5 ∷ 1 ∷ 0 ∷ 0 ∷ []) 2)) ≡ gives (some 1)
+  pub slot-read :
+      hostDecision (getD (codesAfter sample (10 ∷ 21 ∷ 5 ∷ 1 ∷ 0 ∷ 0 ∷ 12 ∷ 20 ∷ 9 ∷ 9 ∷ 0 ∷ 0 ∷ []) (7 ∷ 8 ∷ [])) 1 0) ≡ gives (permitted 2)
   -- BuildWhole: the limits of what is answered; BuildRead: whatever a text builds; the sample's text; a row outside the form at every
   -- place, past 65,535 too
   pub built-fits : (text b : List ℕ) (n : ℕ) → length text ≤ 281474976710655 → built text b .answer ≡ gives n → (9 ≤ n) × (n ≤ 55561)
@@ -774,36 +885,39 @@ pub record CallingMet : Type 0 where
   -- and the numbers that include/mungaite.h gives
   pub length-code : (n : ℕ) → buildCode (gives n) ≡ n
   pub build-refusal-code : (f : Refusal) → f .place ≤ 281474976710655 → buildCode (refused f) ≡ f .number * 281474976710656 + f .place
-  -- NumbersRun, NumbersWhole: the numbers of queries, and four numbers that are one
+  -- NumbersRun, NumbersWhole: the numbers of queries, and six numbers that are one, each up to 65,535
   pub queries-run : (l : List ℕ) (qs : List Query) (ys : List ℕ) → numbersRun l (numbersOf qs) (length ys) ≡ runOf l qs (length ys)
   pub queries-codes :
       (l : List ℕ) (qs : List Query) (ys : List ℕ) → queriesFault l (length qs) (length ys) ≡ none
       → codesAfter l (numbersOf qs) ys ≡ map (rowCode l) qs
-  pub four-numbers : (s d c a : ℕ) → numbersOf (rowsOf (s ∷ d ∷ c ∷ a ∷ [])) ≡ s ∷ d ∷ c ∷ a ∷ []
-  pub four-more :
-      (s d c a : ℕ) (ns : List ℕ) (m : ℕ) → length ns ≡ 4 * m → numbersOf (rowsOf (s ∷ d ∷ c ∷ a ∷ ns)) ≡ s ∷ d ∷ c ∷ a ∷ ns
-  -- NumbersAnswered: any row's four numbers, and the second's
+  pub six-numbers :
+      (s d c a h w : ℕ) → s ≤ 65535 → d ≤ 65535 → c ≤ 65535 → a ≤ 65535 → h ≤ 65535 → w ≤ 65535
+      → numbersOf (rowsOf (s ∷ d ∷ c ∷ a ∷ h ∷ w ∷ [])) ≡ s ∷ d ∷ c ∷ a ∷ h ∷ w ∷ []
+  pub all-numbers : (ns : List ℕ) (m : ℕ) → ((i : ℕ) → getD ns i 0 ≤ 65535) → length ns ≡ 6 * m → numbersOf (rowsOf ns) ≡ ns
+  -- NumbersAnswered: any row's six numbers, the halves of its word last, and the second's
   pub any-row :
-      (l ns ys : List ℕ) (i y : ℕ) → Accepted l → length ns ≡ 4 * length ys → length ys ≤ 64 → i < length ys
+      (l ns ys : List ℕ) (i y : ℕ) → Accepted l → length ns ≡ 6 * length ys → length ys ≤ 64 → i < length ys
       → getD (codesAfter l ns ys) i y
-      ≡ decisionCode (answer l (query (getD ns (4 * i) 0) (getD ns (4 * i + 1) 0) (getD ns (4 * i + 2) 0) (getD ns (4 * i + 3) 0)))
+      ≡ decisionCode (answer l (queryOf (getD ns (6 * i) 0) (getD ns (6 * i + 1) 0) (getD ns (6 * i + 2) 0) (getD ns (6 * i + 3) 0)
+      (getD ns (6 * i + 4) 0 * 65536 + getD ns (6 * i + 5) 0)))
   pub second-row :
-      (l : List ℕ) (x y z w s d c a u v : ℕ) → Accepted l
-      → getD (codesAfter l (x ∷ y ∷ z ∷ w ∷ s ∷ d ∷ c ∷ a ∷ []) (u ∷ v ∷ [])) 1 0 ≡ decisionCode (answer l (query s d c a))
-  -- NumbersRefused, NumbersFaults, NumbersLeft: up to 3, 5, 259, 260 and more numbers, a slot too many, any other; 256; a refused image;
+      (l : List ℕ) (x₀ x₁ x₂ x₃ x₄ x₅ s d c a h w u v : ℕ) → Accepted l
+      → getD (codesAfter l (x₀ ∷ x₁ ∷ x₂ ∷ x₃ ∷ x₄ ∷ x₅ ∷ s ∷ d ∷ c ∷ a ∷ h ∷ w ∷ []) (u ∷ v ∷ [])) 1 0
+      ≡ decisionCode (answer l (queryOf s d c a (h * 65536 + w)))
+  -- NumbersRefused, NumbersFaults, NumbersLeft: up to 5, 7, 389, 390 and more numbers, a slot too many, any other; 384; a refused image;
   -- the slots after them
   pub image-numbers : (l ns : List ℕ) (slots : ℕ) (f : Refusal) → check l ≡ some f → numbersRun l ns slots ≡ refused f
-  pub numbers-3 : (l ns : List ℕ) (slots : ℕ) → Accepted l → length ns ≤ 3 → numbersRun l ns slots ≡ refused (refusal 16 0)
-  pub numbers-5 : (l ns : List ℕ) → Accepted l → length ns ≡ 5 → numbersRun l ns 1 ≡ refused (refusal 17 0)
-  pub numbers-4 : (l ns : List ℕ) → Accepted l → length ns ≡ 4 → numbersRun l ns 2 ≡ refused (refusal 17 0)
-  pub numbers-259 : (l ns : List ℕ) → Accepted l → length ns ≡ 259 → numbersRun l ns 64 ≡ refused (refusal 17 0)
-  pub numbers-260 : (l ns : List ℕ) (slots : ℕ) → Accepted l → 260 ≤ length ns → numbersRun l ns slots ≡ refused (refusal 16 0)
-  pub numbers-256 : (l ns : List ℕ) (f : Refusal) → Accepted l → length ns ≡ 256 → numbersRun l ns 64 ≡ refused f → ⊥
+  pub numbers-few : (l ns : List ℕ) (slots : ℕ) → Accepted l → length ns ≤ 5 → numbersRun l ns slots ≡ refused (refusal 16 0)
+  pub numbers-7 : (l ns : List ℕ) → Accepted l → length ns ≡ 7 → numbersRun l ns 1 ≡ refused (refusal 17 0)
+  pub numbers-6 : (l ns : List ℕ) → Accepted l → length ns ≡ 6 → numbersRun l ns 2 ≡ refused (refusal 17 0)
+  pub numbers-389 : (l ns : List ℕ) → Accepted l → length ns ≡ 389 → numbersRun l ns 64 ≡ refused (refusal 17 0)
+  pub numbers-390 : (l ns : List ℕ) (slots : ℕ) → Accepted l → 390 ≤ length ns → numbersRun l ns slots ≡ refused (refusal 16 0)
+  pub numbers-384 : (l ns : List ℕ) (f : Refusal) → Accepted l → length ns ≡ 384 → numbersRun l ns 64 ≡ refused f → ⊥
   pub numbers-other :
-      (l ns : List ℕ) (slots : ℕ) → Accepted l → 4 ≤ length ns → length ns ≤ 259 → (length ns ≡ 4 * slots → ⊥)
+      (l ns : List ℕ) (slots : ℕ) → Accepted l → 6 ≤ length ns → length ns ≤ 389 → (length ns ≡ 6 * slots → ⊥)
       → numbersRun l ns slots ≡ refused (refusal 17 0)
   pub left-any : (l ns ys : List ℕ) (f : Refusal) → numbersRun l ns (length ys) ≡ refused f → codesAfter l ns ys ≡ ys
-  pub left-5 : (l ns : List ℕ) (y : ℕ) → Accepted l → length ns ≡ 5 → codesAfter l ns (y ∷ []) ≡ y ∷ []
+  pub left-7 : (l ns : List ℕ) (y : ℕ) → Accepted l → length ns ≡ 7 → codesAfter l ns (y ∷ []) ≡ y ∷ []
   pub codes-many : (l ns ys : List ℕ) → length (codesAfter l ns ys) ≡ length ys
   -- the numbers that include/mungaite.h gives: MUNGAITE_FIT, and row 0, which is 0
   pub fit-code : runCode (gives none) ≡ 4294967296
@@ -819,5 +933,6 @@ pub record TermsMet : Type 0 where
   pub building : BuildingMet
   pub reaching : ReachingMet
   pub separating : SeparatingMet
+  pub switching : SwitchingMet
   pub printing : PrintingMet
   pub calling : CallingMet

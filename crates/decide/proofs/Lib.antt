@@ -8,6 +8,7 @@ pub mod HalfLaws
 pub mod WithinLaws
 pub mod MarkedLaws
 pub mod WalkLaws
+pub mod ConditionLaws
 pub mod RuleLaws
 pub mod CoverLaws
 pub mod NearerLaws
