@@ -8,7 +8,7 @@
 #include <stdio.h>
 #include <string.h>
 
-/* The sample sheet. */
+/* The sample sheet, and a rule for the cleaning hour: it is on while switch 0 is. */
 static const char sample[] =
     "group 20 21\n"
     "\n"
@@ -16,6 +16,7 @@ static const char sample[] =
     "allow 20 30 5 2 on\n"
     "trans 12 20 5\n"
     "allow 13 21 5 1 off\n"
+    "allow 15 30 5 4 s0\n"
     "\n"
     "limit 5 1 10 21 2 10\n"
     "limit 5 2 20 30 1\n";
@@ -24,17 +25,19 @@ static const char sample[] =
 static const char capital[] = "group 20 21\n\nallow 10 g0 5 1 on\nallow 20 30 5 2 On\ntrans 12 20 5\n";
 static const char undefined[] = "allow 10 g0 5 1 on\ngroup 20 21\n";
 static const char returns[] = "group 20 21\r\nallow 10 g0 5 1 on\r\n";
+static const char no_switch[] = "group 20 21\nallow 15 30 5 4 s32\n";
 
 static uint8_t buffer[MUNGAITE_LARGEST];
 
-static void ask(uint16_t source, uint16_t destination, uint16_t class_, uint16_t action, const uint8_t *image,
-                size_t length)
+static void ask(uint16_t source, uint16_t destination, uint16_t class_, uint16_t action, uint32_t switches,
+                const uint8_t *image, size_t length)
 {
-    uint64_t answer = mungaite_decide(source, destination, class_, action, image, length);
+    uint64_t answer = mungaite_decide(source, destination, class_, action, switches, image, length);
     unsigned third = MUNGAITE_THIRD(answer);
     unsigned fourth = MUNGAITE_FOURTH(answer);
 
-    printf("    %u, %u, %u, %u: ", (unsigned)source, (unsigned)destination, (unsigned)class_, (unsigned)action);
+    printf("    %u, %u, %u, %u", (unsigned)source, (unsigned)destination, (unsigned)class_, (unsigned)action);
+    printf("%s: ", switches & MUNGAITE_SWITCH(0) ? " in the cleaning hour" : "");
     switch (MUNGAITE_KIND(answer)) {
     case MUNGAITE_NOT_PERMITTED:
         printf("NotPermitted\n");
@@ -113,10 +116,12 @@ int main(void)
     size_t length = build(sample);
     uint64_t answer;
 
-    ask(10, MUNGAITE_GROUP(0), 5, 1, buffer, length);
-    ask(13, 21, 5, 1, buffer, length);
-    ask(12, 20, 9, 9, buffer, length);
-    ask(20, 30, 5, 2, buffer, length);
+    ask(10, MUNGAITE_GROUP(0), 5, 1, 0, buffer, length);
+    ask(13, 21, 5, 1, 0, buffer, length);
+    ask(12, 20, 9, 9, 0, buffer, length);
+    ask(20, 30, 5, 2, 0, buffer, length);
+    ask(15, 30, 5, 4, 0, buffer, length);
+    ask(15, 30, 5, 4, MUNGAITE_SWITCH(0), buffer, length);
 
     /* What was built can be added to: allow 10 to 30, class 5, action 3, on. */
     answer = mungaite_add(buffer, sizeof buffer, more, sizeof more);
@@ -126,14 +131,15 @@ int main(void)
     }
     length = (size_t)buffer[1] << 8 | buffer[2];
     printf("added rule %u, the image has %u bytes\n", (unsigned)MUNGAITE_FOURTH(answer), (unsigned)length);
-    ask(20, 30, 5, 2, buffer, length);
+    ask(20, 30, 5, 2, 0, buffer, length);
 
     length = build(capital);
     printf("the rows before make an image of %u bytes\n", (unsigned)length);
-    ask(10, 21, 5, 1, buffer, length);
-    ask(20, 30, 5, 2, buffer, length);
+    ask(10, 21, 5, 1, 0, buffer, length);
+    ask(20, 30, 5, 2, 0, buffer, length);
 
     build(undefined);
     build(returns);
+    build(no_switch);
     return 0;
 }

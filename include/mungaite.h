@@ -23,6 +23,11 @@
  * mungaite_run it says that row 0 is not Permitted, and mungaite_build never gives it. NotPermitted is many numbers:
  * look at a decision's MUNGAITE_KIND, and compare a run's answer with MUNGAITE_FIT.
  *
+ * An allow rule is off, on, or waits for one of 32 switches, numbered 0 to 31. Each query says by its switch word which
+ * switches are on: switch k where bit k is set, MUNGAITE_SWITCH(k). A rule that waits for switch k is on for queries
+ * that have it on and off for all others, where it is to cover the query and where a constraint asks about the rules. In
+ * a record the condition is the last byte, 0 off, 1 on, 2 to 33 for switches 0 to 31; a text says off, on, s0 to s31.
+ *
  * A pointer must be valid for the bytes, numbers or slots whose count is given with it. mungaite_add and mungaite_build
  * write to their buffers and mungaite_run to its answers; what they write must not overlap anything else that is lent,
  * and nothing else is written. A refused call writes nothing, but for mungaite_build's. The functions keep nothing
@@ -57,9 +62,9 @@ extern "C" {
 
 /* A rule is put to a query in these steps, in this order; each one's value is how many come before it. So the third
  * part of NotPermitted, the steps that passed before the first that failed, is the step that failed. The rule named is
- * the lowest of those that pass the most. A rule that is off passes no step. A transition always passes the first and
- * has no class and no action step, so it stops at its source or its destination. */
-#define MUNGAITE_STEP_CONDITION 0   /* the rule is on */
+ * the lowest of those that pass the most. A rule that is off, by itself or by its switch, passes no step. A transition
+ * always passes the first and has no class and no action step, so it stops at its source or its destination. */
+#define MUNGAITE_STEP_CONDITION 0   /* the rule is on, by itself or by its switch */
 #define MUNGAITE_STEP_SOURCE 1      /* the query's source is within the rule's */
 #define MUNGAITE_STEP_DESTINATION 2 /* the query's destination is within the rule's */
 #define MUNGAITE_STEP_CLASS 3       /* the query's class is the rule's */
@@ -72,8 +77,21 @@ extern "C" {
 #define MUNGAITE_FIT ((uint64_t)MUNGAITE_PERMITTED << 32)
 #define MUNGAITE_MOST_ROWS 64
 
+/* A row of mungaite_run as its six numbers, to be written in a list of them. */
+#define MUNGAITE_ROW_NUMBERS 6
+#define MUNGAITE_ROW(source, destination, class_, action, switches)                                                    \
+    (source), (destination), (class_), (action), (uint16_t)((uint32_t)(switches) >> 16), (uint16_t)(switches)
+
 /* The type field of group g. A basic type, 0 to 1023, is its own type field. */
 #define MUNGAITE_GROUP(g) ((uint16_t)(0x8000u + (g)))
+
+/* Switch k, 0 to 31, in a switch word: 0 is no switch, and several are put together with |. */
+#define MUNGAITE_SWITCH(k) ((uint32_t)1 << (k))
+
+/* The condition byte of an allow rule. */
+#define MUNGAITE_OFF ((uint8_t)0)
+#define MUNGAITE_ON ((uint8_t)1)
+#define MUNGAITE_ON_SWITCH(k) ((uint8_t)(2 + (k))) /* on while switch k is */
 
 /* The sections of an image. */
 #define MUNGAITE_GROUPS 0
@@ -87,17 +105,19 @@ extern "C" {
 /* Checks an image: 0 where it is accepted, else the refusal (1 to 7). */
 uint64_t mungaite_check(const uint8_t *image, size_t length);
 
-/* Checks the image and decides a query on it: the decision, or the refusal (1 to 9). Where it is NotPermitted and not
- * MUNGAITE_NO_RULES, mungaite_record finds the rule that came nearest. */
-uint64_t mungaite_decide(uint16_t source, uint16_t destination, uint16_t class_, uint16_t action,
+/* Checks the image and decides a query on it, while the switches of the word `switches` are on: the decision, or the
+ * refusal (1 to 9). Where it is NotPermitted and not MUNGAITE_NO_RULES, mungaite_record finds the rule that came
+ * nearest. */
+uint64_t mungaite_decide(uint16_t source, uint16_t destination, uint16_t class_, uint16_t action, uint32_t switches,
                          const uint8_t *image, size_t length);
 
-/* Checks the image once and decides 1 to 64 rows on it. A row is four numbers: source, destination, class, action;
- * `numbers` counts all of them, and `rows` the slots of the answers. Slot k gets what mungaite_decide gives for row k,
- * a refusal (8 or 9) included, and all rows are answered. The answer is MUNGAITE_FIT where every row is Permitted, else
- * the number of the first row that is NotPermitted, UnKnown or refused, counted from 0. The call itself is refused
- * where the image is (1 to 7), then where there is no whole row or more than 64 (16), then where `numbers` is not 4
- * times `rows` (17); no slot is written then, so each holds what it held before. */
+/* Checks the image once and decides 1 to 64 rows on it. A row is six numbers: source, destination, class, action, and
+ * the high and the low half of its switch word (MUNGAITE_ROW); `numbers` counts all of them, and `rows` the slots of
+ * the answers. Slot k gets what mungaite_decide gives for row k, a refusal (8 or 9) included, and all rows are
+ * answered. The answer is MUNGAITE_FIT where every row is Permitted, else the number of the first row that is
+ * NotPermitted, UnKnown or refused, counted from 0. The call itself is refused where the image is (1 to 7), then where
+ * there is no whole row or more than 64 (16), then where `numbers` is not 6 times `rows` (17); no slot is written then,
+ * so each holds what it held before. */
 uint64_t mungaite_run(const uint16_t *queries, size_t numbers, uint64_t *answers, size_t rows, const uint8_t *image,
                       size_t length);
 
@@ -116,7 +136,7 @@ uint64_t mungaite_add(uint8_t *buffer, size_t length, const uint8_t *record, siz
  * Each row of the text is a record, which is added to the empty policy as mungaite_add adds it:
  *
  *   group 20 21               members, 1 to 64
- *   allow 10 g0 5 1 on        source, destination, class, action, on or off
+ *   allow 10 g0 5 1 on        source, destination, class, action, condition
  *   trans 12 20 5             source, destination, class
  *   limit 5 1 10 21 2 10      class, action, first and second argument, predicate, list of 0 to 16 types
  *
@@ -127,7 +147,7 @@ uint64_t mungaite_add(uint8_t *buffer, size_t length, const uint8_t *record, siz
  *   class, action             0 to 65535                   any
  *   predicate                 0 to 255                     0 ban, 1 separation, 2 roster, 3 companion; a roster has a
  *                                                            list of 1 to 16 types, the others have none
- *   condition                 on, off
+ *   condition                 on, off, or s0 to s31        any
  *
  * One space separates words, and none stands at a row's ends. Numbers are decimal, without sign or leading zeros. A row
  * ends at a line feed or at the end of the text, where no NUL is wanted. An empty row is skipped. There are no

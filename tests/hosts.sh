@@ -17,15 +17,21 @@ done
 bin=$PWD/target/bin
 "${COMPILE:-$bin/compile}" < examples/sample.policy > "$folder/sample.image"
 head -c 80 crates/permit/stdin | cmp - "$folder/sample.image"
-answer=$({ cat "$folder/sample.image"; printf '\0\12\0\25\0\5\0\1'; } | "${PERMIT:-$bin/permit}")
+answer=$({ cat "$folder/sample.image"; printf '\0\12\0\25\0\5\0\1\0\0\0\0'; } | "${PERMIT:-$bin/permit}")
 [ "$answer" = "P 0" ]
 refused=$(sed '2s/on/On/' examples/sample.policy | "${COMPILE:-$bin/compile}" 2>&1)
 [ "$refused" = "R 18 12 2" ]
 
+# A rule that waits for switch 0: 15, 30, class 5, action 4 without it and with it.
+{ cat examples/sample.policy; echo 'allow 15 30 5 4 s0'; } | "${COMPILE:-$bin/compile}" > "$folder/cleaning.image"
+query='\0\17\0\36\0\5\0\4'
+answer=$({ cat "$folder/cleaning.image"; printf "$query"'\0\0\0\0'"$query"'\0\0\0\1'; } | "${PERMIT:-$bin/permit}")
+[ "$answer" = $'N 1 0\nP 4' ]
+
 # A new image takes the old one's place where `permit` decides a query on it (docs/INTERFACE.md): not one that was cut, nor
 # where nothing was written.
 decides() {
-    { cat "$1"; printf '\0\0\0\0\0\0\0\0'; } | "${PERMIT:-$bin/permit}" | grep -q '^[NPU]'
+    { cat "$1"; printf '\0\0\0\0\0\0\0\0\0\0\0\0'; } | "${PERMIT:-$bin/permit}" | grep -q '^[NPU]'
 }
 decides "$folder/sample.image"
 head -c 79 "$folder/sample.image" > "$folder/cut.image"

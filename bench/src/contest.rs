@@ -7,6 +7,7 @@ use mungaite::{Kind, Query};
 use std::hint::black_box;
 use std::process::exit;
 
+#[derive(Clone)]
 pub struct Case {
     pub name: String,
     pub image: Vec<u8>,

@@ -13,6 +13,7 @@ mod texts;
 use cases::constraints::held;
 use cases::search::{self, search};
 use cases::sizes::{self, limit, middle, sample};
+use cases::switched;
 use measure::Effort;
 use program::Program;
 use std::env;
@@ -54,14 +55,23 @@ fn main() {
     );
     table::print_decisions("Permitted queries: decide", &sizes::permitted(), effort);
     table::print_decisions("UnKnown queries: decide", &sizes::unknown(), effort);
+    table::print_decisions(
+        "Rules that wait for switches, all on but where it is said: decide",
+        &switched::decided(),
+        effort,
+    );
     records::print(&sizes, effort);
     rows::print(&sizes, effort);
-    rows::print_held(&held, effort);
+    rows::print_held("2.0 or less is wanted of those that ask the rules", &held, effort);
+    rows::print_held("rules that wait for switches, and words", &switched::rows(), effort);
     texts::print(&cases::texts::all(), effort);
     match Program::find() {
         Ok(permit) => {
             permit.growth(&limit(), runs);
-            permit.many(&[(sample(), 100_000), (middle(), 50_000), (limit(), 1_000)], 5 * runs);
+            let [middle_in_turn, limit_in_turn] = switched::mixes();
+            let in_turn = [(middle_in_turn, 50_000), (limit_in_turn, 1_000)];
+            let many = [(sample(), 100_000), (middle(), 50_000), (limit(), 1_000)];
+            permit.many(many.iter().chain(&in_turn), 5 * runs);
             permit.held(&held, 10 * runs);
         }
         Err(what) => println!("\nThe program permit is left out: {what}"),

@@ -10,9 +10,9 @@ pub fn check(image: &[u8]) -> u64 {
 }
 
 pub fn decide(image: &[u8], query: Query) -> u64 {
-    let Query { source, destination, class, action } = query;
+    let Query { source, destination, class, action, switches } = query;
     // SAFETY: the pointer and the length are those of one slice, only read.
-    unsafe { mungaite_decide(source, destination, class, action, image.as_ptr(), image.len()) }
+    unsafe { mungaite_decide(source, destination, class, action, switches, image.as_ptr(), image.len()) }
 }
 
 pub fn record(image: &[u8], section: Section, n: u16) -> u64 {
@@ -20,7 +20,7 @@ pub fn record(image: &[u8], section: Section, n: u16) -> u64 {
     unsafe { mungaite_record(section as u16, n, image.as_ptr(), image.len()) }
 }
 
-/// Rows of four numbers, and a slot for each.
+/// Rows of six numbers, and a slot for each.
 pub fn run(image: &[u8], numbers: &[u16], answers: &mut [u64]) -> u64 {
     let (count, rows) = (numbers.len(), answers.len());
     // SAFETY: each pointer and count are those of one slice, and the slice that is written overlaps no other.

@@ -33,7 +33,7 @@ impl Program {
 
     /// Many queries on one policy. The hand-written engine answers them from memory, with the policy unpacked once, and
     /// writes the same lines.
-    pub fn many(&self, cases: &[(Case, usize)], runs: usize) {
+    pub fn many<'a>(&self, cases: impl IntoIterator<Item = &'a (Case, usize)>, runs: usize) {
         println!("\nMany queries on one policy: the program permit, milliseconds\n");
         println!("{:40} {:>10} {:>12} {:>12} {:>6}", "policy", "queries", "permit", "hand-written", "ratio");
         for (case, count) in cases {

@@ -35,8 +35,8 @@ pub fn print(cases: &[Case], effort: Effort) {
 }
 
 /// A whole run beside one decision, where the constraints of a case apply to each row.
-pub fn print_held(cases: &[Case], effort: Effort) {
-    println!("\n256 constraints that apply and hold: 64 rows beside one decision; 2.0 or less is wanted of those that ask the rules\n");
+pub fn print_held(title: &str, cases: &[Case], effort: Effort) {
+    println!("\n256 constraints that apply and hold: 64 rows beside one decision; {title}\n");
     println!(
         "{:FIRST$} {:>12} {:>12} {:>7} {:>12} {:>6}",
         "policy", "one decision", "64 rows", "64 to 1", "hand-written", "ratio"
@@ -66,7 +66,9 @@ impl Rows<'_> {
     /// The rows of a case. Ends the program where the engines' answers to them differ.
     fn of(case: &Case) -> Rows<'_> {
         let queries: Vec<Query> = case.queries.iter().copied().cycle().take(MOST_ROWS).collect();
-        let numbers = |query: &Query| [query.source, query.destination, query.class, query.action];
+        let numbers = |&Query { source, destination, class, action, switches }: &Query| {
+            [source, destination, class, action, (switches >> 16) as u16, switches as u16]
+        };
         let rows = Rows { case, numbers: queries.iter().flat_map(numbers).collect(), queries };
         rows.compare();
         rows

@@ -1,7 +1,7 @@
 //! Decides some queries on a small policy, one by one and as a run, looks up the rule nearest to a denied one, adds a
-//! rule and asks again.
+//! rule and asks again, and adds one that waits for a switch.
 
-use mungaite::{add, decide, group, image, record, run, Decision, Query, Refusal, Section};
+use mungaite::{add, decide, group, image, record, run, Condition, Decision, Query, Refusal, Section};
 
 #[rustfmt::skip]
 const SAMPLE: [u8; 80] = [
@@ -18,37 +18,53 @@ const SAMPLE: [u8; 80] = [
 /// Allow group 0, which is 20 and 21, at 20: class 5, action 3, on. It shares 20 with rule 1, which lets 20 at 30.
 const RULE: [u8; 11] = [11, 2, 128, 0, 0, 20, 0, 5, 0, 3, 1];
 
-fn query(source: u16, destination: u16, class: u16, action: u16) -> Query {
-    Query { source, destination, class, action }
-}
+/// The switch of the cleaning hour. While it is on, allow 15 at 30: class 5, action 4.
+const CLEANING: u8 = 0;
+const WAITING: [u8; 11] = [11, 2, 0, 15, 0, 30, 0, 5, 0, 4, Condition::Switch(CLEANING).byte()];
 
 fn main() -> Result<(), Refusal> {
-    println!("10 to group 0: {}", decide(&SAMPLE, query(10, group(0), 5, 1))?);
-    println!("13 to 21: {}", decide(&SAMPLE, query(13, 21, 5, 1))?);
-    println!("20 to 30: {}", decide(&SAMPLE, query(20, 30, 5, 2))?);
-    print_denied(&SAMPLE, query(10, 21, 5, 2))?;
-    if let Err(refusal) = decide(&SAMPLE, query(1024, 21, 5, 1)) {
+    println!("10 to group 0: {}", decide(&SAMPLE, Query::new(10, group(0), 5, 1))?);
+    println!("13 to 21: {}", decide(&SAMPLE, Query::new(13, 21, 5, 1))?);
+    println!("20 to 30: {}", decide(&SAMPLE, Query::new(20, 30, 5, 2))?);
+    print_denied(&SAMPLE, Query::new(10, 21, 5, 2))?;
+    if let Err(refusal) = decide(&SAMPLE, Query::new(1024, 21, 5, 1)) {
         println!("1024 to 21: {refusal}");
     }
 
-    let rows = [query(10, group(0), 5, 1), query(12, 20, 9, 9), query(20, 30, 5, 2)];
+    let rows = [Query::new(10, group(0), 5, 1), Query::new(12, 20, 9, 9), Query::new(20, 30, 5, 2)];
     print_run(&SAMPLE, rows)?;
 
     let mut buffer = [0; 128];
     buffer[..SAMPLE.len()].copy_from_slice(&SAMPLE);
-    let number = add(&mut buffer, &RULE)?;
-    let grown = image(&buffer).expect("an image that was added to is whole");
-    println!("rule {number} is {:?}", record(grown, Section::Rules, number)?);
-    println!("20 to 30: {}", decide(grown, query(20, 30, 5, 2))?);
-    print_run(grown, rows)
+    let grown = print_added(&mut buffer, &RULE)?;
+    println!("20 to 30: {}", decide(grown, Query::new(20, 30, 5, 2))?);
+    print_run(grown, rows)?;
+
+    let grown = print_added(&mut buffer, &WAITING)?;
+    let query = Query::new(15, 30, 5, 4);
+    print_denied(grown, query)?;
+    print_run(grown, [query, query.with_switch(CLEANING)])
 }
 
-/// Asks a query and, where it is denied, gives the one rule to look at first.
+/// Adds a rule to the image that a buffer starts with, and gives the new image.
+fn print_added<'b>(buffer: &'b mut [u8], rule: &[u8]) -> Result<&'b [u8], Refusal> {
+    let number = add(buffer, rule)?;
+    let grown = image(buffer).expect("an image that was added to is whole");
+    println!("rule {number} is {:?}", record(grown, Section::Rules, number)?);
+    Ok(grown)
+}
+
+/// Asks a query and, where it is denied, gives the one rule to look at first, and the switch that would let it through.
 fn print_denied(image: &[u8], query: Query) -> Result<(), Refusal> {
     let decision = decide(image, query)?;
     println!("{} to {}, action {}: {decision}", query.source, query.destination, query.action);
-    if let Decision::NotPermitted { nearest: Some(nearest) } = decision {
-        println!("rule {} is {:?}", nearest.rule, record(image, Section::Rules, nearest.rule)?);
+    let Decision::NotPermitted { nearest: Some(nearest) } = decision else { return Ok(()) };
+    println!("rule {} is {:?}", nearest.rule, record(image, Section::Rules, nearest.rule)?);
+    let with_all = decide(image, Query { switches: u32::MAX, ..query })?;
+    if let Decision::Permitted { rule } | Decision::UnKnown { rule, .. } = with_all {
+        if let Some(condition) = Condition::of(record(image, Section::Rules, rule)?) {
+            println!("rule {rule} would cover it, and waits for {condition}");
+        }
     }
     Ok(())
 }

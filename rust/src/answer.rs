@@ -29,8 +29,8 @@ pub enum Decision {
 /// A decision without the numbers that come with it.
 ///
 /// Kinds are ordered NotPermitted, Permitted, UnKnown. That is the order in which a policy that grows may move an
-/// answer: more rules and constraints never lower it, unless a companion constraint finds its companion. Decisions
-/// themselves have no order, since the numbers named with them say nothing about it.
+/// answer: more rules and constraints and more switches on never lower it, unless a companion constraint finds its
+/// companion. Decisions themselves have no order, since the numbers named with them say nothing about it.
 ///
 /// ```
 /// use mungaite::{Decision, Kind};

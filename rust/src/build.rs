@@ -14,15 +14,16 @@ use std::{error, fmt};
 /// | row | what follows the first word |
 /// |---|---|
 /// | `group 20 21` | 1 to 64 members: basic types, 0 to 1023, rising |
-/// | `allow 10 g0 5 1 on` | source, destination, class, action, and `on` or `off` |
+/// | `allow 10 g0 5 1 on` | source, destination, class, action, and `on`, `off` or a switch, `s0` to `s31` |
 /// | `trans 12 20 5` | source, destination, class |
 /// | `limit 5 1 10 21 2 10` | class, action, two arguments, predicate, and a list of up to 16 types |
 ///
 /// Groups are numbered from 0 in the order of their rows. Where a type is wanted (source, destination, an argument, the
 /// list), it is a basic type, or `g` and the number of a group whose row stands before. A class and an action are 0 to
-/// 65535. Predicate 0 is a ban, 1 a separation, 2 a roster and 3 a companion; a roster has a list of at least one type,
-/// and the others have none. A policy has at most 256 groups, 1,024 rules (`allow` and `trans`) and 256 constraints
-/// (`limit`), and [`LARGEST`](crate::LARGEST) bytes hold every image.
+/// 65535. An `allow` row with a switch is on in the queries that have that switch on. Predicate 0 is a ban, 1 a
+/// separation, 2 a roster and 3 a companion; a roster has a list of at least one type, and the others have none. A
+/// policy has at most 256 groups, 1,024 rules (`allow` and `trans`) and 256 constraints (`limit`), and
+/// [`LARGEST`](crate::LARGEST) bytes hold every image.
 ///
 /// A refused row ends the building, and the buffer then starts with the image of the rows before it, which
 /// [`image`](crate::image) gives: what stood there is gone. Do not decide by it, since the limits of later rows are not

@@ -1,6 +1,6 @@
 //! Finds what is wrong with a row that the library refused.
 
-use crate::form::{Field, Form, MOST_BASIC, MOST_GROUP, MOST_PREDICATE};
+use crate::form::{is_digits, Field, Form, MOST_BASIC, MOST_GROUP, MOST_PREDICATE};
 use crate::shown::Word;
 use crate::wrong::{Gap, Wrong};
 use crate::{Cause, EMPTY};
@@ -80,15 +80,29 @@ fn stray_word(row: &[u8]) -> Option<Wrong<'_>> {
 /// Why a word cannot stand for a field at all.
 fn not_in_field(field: Field, word: &[u8]) -> Option<Wrong<'_>> {
     if field == Field::Condition {
-        return (word != b"on" && word != b"off").then_some(Wrong::Condition(Word(word)));
+        return not_a_condition(word);
     }
     let (is_group, digits) = split_group(word);
-    if !digits.iter().all(u8::is_ascii_digit) || digits.is_empty() {
-        return Some(Wrong::NoNumber(field, Word(word)));
-    }
     match digits {
+        _ if !is_digits(digits) => Some(Wrong::NoNumber(field, Word(word))),
         _ if is_group && field == Field::Member => Some(Wrong::GroupAsMember(Word(word))),
         _ if is_group && !field.is_type() => Some(Wrong::NoNumber(field, Word(word))),
+        _ => not_in_range(field, word, digits),
+    }
+}
+
+/// Why a word is neither on nor off nor a switch.
+fn not_a_condition(word: &[u8]) -> Option<Wrong<'_>> {
+    match word {
+        b"on" | b"off" => None,
+        [b's', digits @ ..] if is_digits(digits) => not_in_range(Field::Condition, word, digits),
+        _ => Some(Wrong::Condition(Word(word))),
+    }
+}
+
+/// Why the digits of a word are no number of its field.
+fn not_in_range<'t>(field: Field, word: &'t [u8], digits: &[u8]) -> Option<Wrong<'t>> {
+    match digits {
         [b'0', _, ..] => Some(Wrong::LeadingZero(field, Word(word))),
         _ => (value(digits) > field.most()).then_some(Wrong::Over(field, Word(word))),
     }

@@ -24,10 +24,18 @@ pub(crate) enum Field {
     List,
 }
 
-/// The highest basic type and the highest group that a row may name. The form has room for more.
+/// The highest basic type, group and predicate that a row may name. The form has room for more.
 pub(crate) const MOST_BASIC: u32 = 1023;
 pub(crate) const MOST_GROUP: u32 = 255;
 pub(crate) const MOST_PREDICATE: u32 = 3;
+
+/// The highest switch. The form has no room for more.
+pub(crate) const MOST_SWITCH: u32 = 31;
+
+/// Whether these are the digits of a number.
+pub(crate) fn is_digits(digits: &[u8]) -> bool {
+    !digits.is_empty() && digits.iter().all(u8::is_ascii_digit)
+}
 
 impl Form {
     pub const ALL: [Form; 4] = [Form::Group, Form::Allow, Form::Trans, Form::Limit];
@@ -82,11 +90,12 @@ impl Form {
 }
 
 impl Field {
-    /// The highest number that the form has for it. A condition is no number.
+    /// The highest number that the form has for it. A condition has one only where it is a switch.
     pub fn most(self) -> u32 {
         match self {
             Field::Class | Field::Action => 65535,
             Field::Predicate => 255,
+            Field::Condition => MOST_SWITCH,
             _ => 32767,
         }
     }

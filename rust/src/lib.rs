@@ -12,7 +12,7 @@
 //! let mut buffer = [0; mungaite::LARGEST];
 //! let image = build(text, &mut buffer).unwrap();
 //!
-//! let query = Query { source: 10, destination: group(0), class: 5, action: 1 };
+//! let query = Query::new(10, group(0), 5, 1);
 //! assert_eq!(decide(image, query), Ok(Decision::Permitted { rule: 0 }));
 //!
 //! let error = build(b"group 20 21\nallow 10 g1 5 1 on\n", &mut buffer).unwrap_err();
@@ -20,11 +20,23 @@
 //!                destination `g1` is not defined yet: one group row stands before this row, g0 (refusal 11)";
 //! assert_eq!(error.to_string(), message);
 //! ```
+//!
+//! A rule may wait for one of 32 switches: it is on in the queries that have that switch on, and off in all others.
+//!
+//! ```
+//! # use mungaite::{build, decide, Decision, Nearest, Query};
+//! # let mut buffer = [0; mungaite::LARGEST];
+//! let image = build(b"allow 15 21 5 1 s0\n", &mut buffer).unwrap();
+//! let query = Query::new(15, 21, 5, 1);
+//! assert_eq!(decide(image, query), Ok(Decision::NotPermitted { nearest: Some(Nearest { steps: 0, rule: 0 }) }));
+//! assert_eq!(decide(image, query.with_switch(0)), Ok(Decision::Permitted { rule: 0 }));
+//! ```
 
 #![warn(missing_docs)]
 
 mod answer;
 mod build;
+mod condition;
 mod diagnosis;
 mod form;
 mod nearest;
@@ -37,6 +49,7 @@ mod wrong;
 
 pub use answer::{Decision, Kind};
 pub use build::{build, BuildError};
+pub use condition::Condition;
 pub use nearest::{Nearest, Step};
 pub use query::{group, Query, Section};
 pub use refusal::{Cause, Refusal};
@@ -64,14 +77,16 @@ pub fn check(image: &[u8]) -> Result<(), Refusal> {
 /// ```
 /// use mungaite::{decide, Decision, Query, EMPTY};
 ///
-/// let query = Query { source: 0, destination: 0, class: 0, action: 0 };
+/// let query = Query::new(0, 0, 0, 0);
 /// assert_eq!(decide(&EMPTY, query), Ok(Decision::NotPermitted { nearest: None }));
 /// assert_eq!(decide(&EMPTY, Query { source: 1024, ..query }).unwrap_err().number, 8);
 /// ```
 pub fn decide(image: &[u8], query: Query) -> Result<Decision, Refusal> {
-    let Query { source, destination, class, action } = query;
+    let Query { source, destination, class, action, switches } = query;
     // SAFETY: the pointer and the length are those of one slice.
-    answer::decided(unsafe { raw::mungaite_decide(source, destination, class, action, image.as_ptr(), image.len()) })
+    answer::decided(unsafe {
+        raw::mungaite_decide(source, destination, class, action, switches, image.as_ptr(), image.len())
+    })
 }
 
 /// Record `n` of a section, counted from 0: its own bytes, a part of the image. The image is checked first.

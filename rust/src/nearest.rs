@@ -5,16 +5,16 @@ use std::fmt;
 /// The rule that came nearest to covering a query that no rule covers.
 ///
 /// A rule is put to a query in five steps: condition, source, destination, class, action. Of all rules the nearest is
-/// the one that passes the most steps before the first that fails, and the lowest of those. A rule that is off passes
-/// none. A transition always passes the first step and has no class and no action step, so it stops at its source or
-/// its destination.
+/// the one that passes the most steps before the first that fails, and the lowest of those. A rule that is off, by
+/// itself or by its switch, passes none: its [`Condition`](crate::Condition) tells which. A transition always passes the
+/// first step and has no class and no action step, so it stops at its source or its destination.
 ///
 /// ```
 /// use mungaite::{decide, Decision, Nearest, Query, Step};
 ///
 /// // Allow type 10 to type 21, class 5, action 1, on.
 /// let image = [1, 0, 20, 0, 0, 0, 1, 0, 0, 11, 2, 0, 10, 0, 21, 0, 5, 0, 1, 1];
-/// let denied = decide(&image, Query { source: 10, destination: 21, class: 5, action: 2 }).unwrap();
+/// let denied = decide(&image, Query::new(10, 21, 5, 2)).unwrap();
 /// let nearest = Nearest { steps: 4, rule: 0 };
 /// assert_eq!(denied, Decision::NotPermitted { nearest: Some(nearest) });
 /// assert_eq!(nearest.stopped_at(), Step::Action);
@@ -31,7 +31,7 @@ pub struct Nearest {
 /// The steps in which a rule is put to a query, in their order. Each one's value is how many come before it.
 #[derive(Clone, Copy, Debug, PartialEq, Eq, PartialOrd, Ord, Hash)]
 pub enum Step {
-    /// The rule is on.
+    /// The rule is on, by itself or by its switch.
     Condition = 0,
     /// The query's source is within the rule's.
     Source = 1,

@@ -8,18 +8,21 @@ extern "C" {
     /// 0 where the image is accepted, else the refusal.
     pub fn mungaite_check(image: *const u8, length: usize) -> u64;
 
-    /// The decision, or the refusal. Here 0 is NotPermitted, with no step and rule 0.
+    /// The decision while the switches of a word are on, or the refusal. Here 0 is NotPermitted, with no step and rule
+    /// 0.
     pub fn mungaite_decide(
         source: u16,
         destination: u16,
         class: u16,
         action: u16,
+        switches: u32,
         image: *const u8,
         length: usize,
     ) -> u64;
 
     /// 0, 1, 0, 0 where every row is Permitted; 0, 0, 0, row of the first that is not; or the refusal, and no slot is
-    /// written. A row is four numbers, and each row's answer is put in its slot.
+    /// written. A row is six numbers, the last two the high and the low half of its switch word, and each row's answer
+    /// is put in its slot.
     pub fn mungaite_run(
         queries: *const u16,
         numbers: usize,

@@ -31,13 +31,14 @@ impl fmt::Display for Run {
     }
 }
 
-/// Numbers in a row: source, destination, class and action.
-const ROW: usize = 4;
+/// Numbers in a row: source, destination, class, action, and the two halves of the switch word.
+const ROW: usize = 6;
 
 /// Enough for every run that is answered, and for one row too many: with more rows or slots a call is refused alike.
 const ROOM: usize = MOST_ROWS + 1;
 
-/// Decides 1 to 64 rows on an image, which is checked once, and says whether every row is Permitted.
+/// Decides 1 to 64 rows on an image, which is checked once, and says whether every row is Permitted. Each row has its
+/// own switches.
 ///
 /// Each row's answer, a refused row's too, is what [`decide`](crate::decide) gives for it, and every row is answered. A
 /// refused call leaves `answers` as it was: the image's causes come first, then a wrong number of rows, then `answers`
@@ -48,7 +49,7 @@ const ROOM: usize = MOST_ROWS + 1;
 ///
 /// // Allow type 10 to type 21, class 5, action 1, on.
 /// let image = [1, 0, 20, 0, 0, 0, 1, 0, 0, 11, 2, 0, 10, 0, 21, 0, 5, 0, 1, 1];
-/// let covered = Query { source: 10, destination: 21, class: 5, action: 1 };
+/// let covered = Query::new(10, 21, 5, 1);
 /// let queries = [covered, Query { source: 11, ..covered }, Query { source: 1024, ..covered }];
 ///
 /// let mut answers = [Ok(Decision::NotPermitted { nearest: None }); 3];
@@ -63,7 +64,7 @@ const ROOM: usize = MOST_ROWS + 1;
 pub fn run(image: &[u8], queries: &[Query], answers: &mut [Result<Decision, Refusal>]) -> Result<Run, Refusal> {
     let mut numbers = [0; ROW * ROOM];
     for (row, query) in numbers.chunks_exact_mut(ROW).zip(queries) {
-        row.copy_from_slice(&[query.source, query.destination, query.class, query.action]);
+        row.copy_from_slice(&query.numbers());
     }
     let mut slots = [0; ROOM];
     // SAFETY: the two lists have room for the counts given with them, the image's pointer and length are those of one

@@ -1,6 +1,6 @@
 //! What is wrong with a row, in words that whoever typed it can act on.
 
-use crate::form::{Field, Form, MOST_BASIC, MOST_GROUP, MOST_PREDICATE};
+use crate::form::{is_digits, Field, Form, MOST_BASIC, MOST_GROUP, MOST_PREDICATE, MOST_SWITCH};
 use crate::shown::Word;
 use crate::{EMPTY, LARGEST};
 use std::fmt;
@@ -100,7 +100,7 @@ fn first_word(f: &mut fmt::Formatter<'_>, word: Word<'_>) -> fmt::Result {
 fn word_count(f: &mut fmt::Formatter<'_>, form: Form, words: usize) -> fmt::Result {
     let takes = match form {
         Form::Group => "group takes 1 to 64 members",
-        Form::Allow => "allow takes source, destination, class, action and on or off: 5 words",
+        Form::Allow => "allow takes source, destination, class, action and on, off or a switch: 5 words",
         Form::Trans => "trans takes source, destination and class: 3 words",
         Form::Limit => "limit takes class, action, two arguments, predicate and up to 16 list types: 5 to 21 words",
     };
@@ -116,10 +116,12 @@ fn no_number(f: &mut fmt::Formatter<'_>, field: Field, word: Word<'_>) -> fmt::R
 }
 
 fn condition(f: &mut fmt::Formatter<'_>, word: Word<'_>) -> fmt::Result {
-    write!(f, "`{word}` is neither on nor off")?;
-    match word.0.eq_ignore_ascii_case(b"on") || word.0.eq_ignore_ascii_case(b"off") {
-        true => write!(f, ": write it in lower case"),
-        false => Ok(()),
+    match word.0 {
+        [b'S', digits @ ..] if is_digits(digits) => write!(f, "`{word}` is no switch: write it in lower case"),
+        _ if word.0.eq_ignore_ascii_case(b"on") || word.0.eq_ignore_ascii_case(b"off") => {
+            write!(f, "`{word}` is neither on nor off: write it in lower case")
+        }
+        _ => write!(f, "`{word}` is no condition: write on, off, or s0 to s{MOST_SWITCH} for a switch"),
     }
 }
 
@@ -128,6 +130,7 @@ fn over(f: &mut fmt::Formatter<'_>, field: Field, word: Word<'_>) -> fmt::Result
     match field {
         Field::Class | Field::Action => write!(f, "{field} `{word}` is over {}", field.most()),
         Field::Predicate => write!(f, "predicate `{word}` is over {MOST_PREDICATE}: {PREDICATES}"),
+        Field::Condition => write!(f, "there is no switch `{word}`: switches are s0 to s{MOST_SWITCH}"),
         _ if word.0.starts_with(b"g") => write!(f, "{field} `{word}` is over g{MOST_GROUP}, the highest group"),
         _ => write!(f, "{field} `{word}` is over {MOST_BASIC}, the highest basic type"),
     }

@@ -8,6 +8,11 @@ pub const SEPARATION: u8 = 1;
 pub const ROSTER: u8 = 2;
 pub const COMPANION: u8 = 3;
 
+/// The condition byte of a rule that waits for switch k, 0 to 31. One that is off has 0, and one that is on 1.
+pub const fn switch(k: u8) -> u8 {
+    2 + k
+}
+
 /// The records of a policy to be, right or wrong.
 #[derive(Clone, Default)]
 pub struct Draft {

@@ -34,9 +34,13 @@ pub fn of_build(said: Result<usize, TextRefusal>) -> u64 {
     }
 }
 
-/// The four numbers of each row.
+/// The six numbers of each row: the high and the low half of its switch word are last.
 pub fn of_rows(queries: &[Query]) -> Vec<u16> {
-    queries.iter().flat_map(|query| [query.source, query.destination, query.class, query.action]).collect()
+    let numbers = |query: &Query| {
+        let halves = [(query.switches / 65536) as u16, (query.switches % 65536) as u16];
+        [query.source, query.destination, query.class, query.action, halves[0], halves[1]]
+    };
+    queries.iter().flat_map(numbers).collect()
 }
 
 pub fn of_answer(answer: Answer) -> u64 {

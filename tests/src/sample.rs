@@ -29,13 +29,19 @@ limit 5 2 20 30 1
 /// The type field of group 0.
 pub const G0: u16 = 32768;
 
+/// A query with no switch on.
 pub const fn query(source: u16, destination: u16, class: u16, action: u16) -> Query {
-    Query { source, destination, class, action }
+    Query::new(source, destination, class, action)
 }
 
-/// The sample sheet's queries, two that a query's own causes refuse, one that is denied for its action alone, and one
-/// that a transition stops at its destination.
-pub const QUERIES: [Query; 9] = [
+/// The query under another switch word.
+pub const fn under(switches: u32, query: Query) -> Query {
+    Query { switches, ..query }
+}
+
+/// The sample sheet's queries, two that a query's own causes refuse, one that is denied for its action alone, one that
+/// a transition stops at its destination, and two with every other switch on.
+pub const QUERIES: [Query; 11] = [
     query(10, 21, 5, 1),
     query(10, G0, 5, 1),
     query(13, 21, 5, 1),
@@ -45,4 +51,6 @@ pub const QUERIES: [Query; 9] = [
     query(10, 32769, 5, 1),
     query(10, 21, 5, 2),
     query(12, 21, 5, 1),
+    under(0x5555_5555, query(10, 21, 5, 1)),
+    under(0xAAAA_AAAA, query(13, 21, 5, 1)),
 ];

@@ -15,8 +15,12 @@ pub fn row_of(record: &[u8]) -> String {
     let words: Vec<String> = match record[1] {
         1 => (2..record.len()).step_by(2).map(type_word).collect(),
         2 => {
-            let condition = if record[10] == 1 { "on" } else { "off" };
-            vec![type_word(2), type_word(4), number(6).to_string(), number(8).to_string(), condition.to_string()]
+            let condition = match record[10] {
+                0 => "off".to_string(),
+                1 => "on".to_string(),
+                switch => format!("s{}", switch - 2),
+            };
+            vec![type_word(2), type_word(4), number(6).to_string(), number(8).to_string(), condition]
         }
         3 => vec![type_word(2), type_word(4), number(6).to_string()],
         _ => {

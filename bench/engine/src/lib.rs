@@ -26,6 +26,7 @@ mod rules;
 mod run;
 mod set;
 mod sets;
+mod switches;
 mod types;
 
 pub use add::add;

@@ -1,7 +1,7 @@
 //! The rule that came nearest to covering a query that none covers.
 
 use crate::predicate::Pair;
-use crate::rules::Rule;
+use crate::rules::{Asked, Rule};
 use mungaite::Nearest;
 
 /// A type of the query, which other types may hold.
@@ -17,7 +17,7 @@ pub trait Inside {
 #[inline(never)]
 pub fn nearest(
     rules: impl Iterator<Item = Rule>,
-    asked: u32,
+    asked: Asked,
     source: &mut impl Inside,
     destination: &mut impl Inside,
 ) -> Option<Nearest> {
@@ -43,7 +43,7 @@ pub fn nearest(
 }
 
 /// How many steps a rule passes that does not cover the query.
-fn steps(rule: &Rule, asked: u32, source: &mut impl Inside, destination: &mut impl Inside) -> u8 {
+fn steps(rule: &Rule, asked: Asked, source: &mut impl Inside, destination: &mut impl Inside) -> u8 {
     let (from, to) = rule.types();
     match rule.most_steps(asked) {
         0 => 0,

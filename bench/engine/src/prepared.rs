@@ -6,16 +6,17 @@ use crate::format::{check_query, group_of};
 use crate::groups::Groups;
 use crate::nearest::{nearest, Inside};
 use crate::predicate::{holds, Pair};
-use crate::rules::{key, live, Rule, Rules};
+use crate::rules::{live, Asked, Rule, Rules};
 use crate::run::{answer_rows, check_counts};
 use crate::set::Set;
-use crate::sets::{Memo, Sets};
+use crate::sets::Sets;
+use crate::switches::{On, Verdicts};
 use mungaite::{Decision, Query, Refusal, Run};
 
 pub struct Prepared<'a> {
     groups: Expanded,
     rules: Vec<Rule>,
-    live: Vec<Pair>,
+    live: Live,
     constraints: Vec<Constraint<'a>>,
 }
 
@@ -27,22 +28,25 @@ impl<'a> Prepared<'a> {
         let constraints = Constraints { rest: rules.clone().skip() };
         Prepared {
             groups: Expanded::new(&groups),
-            live: live(rules.clone()).collect(),
+            live: Live::of(rules.clone()),
             rules: rules.collect(),
             constraints: constraints.collect(),
         }
     }
 
     pub fn decide(&self, query: Query) -> Result<Decision, Refusal> {
-        self.decide_by(query, |_, constraint| self.holds(constraint))
+        self.decide_by(query, |_, constraint, on| self.holds(constraint, on))
     }
 
-    /// As `run` of an image, without the check. What a constraint's predicate says is found once.
+    /// As `run` of an image, without the check. What a predicate says of the same live rules is found once.
     pub fn run(&self, queries: &[Query], answers: &mut [Result<Decision, Refusal>]) -> Result<Run, Refusal> {
         check_counts(queries.len(), answers.len())?;
-        let mut held = Memo::NEW;
+        let mut verdicts = Verdicts::NEW;
         Ok(answer_rows(queries, answers, |query| {
-            self.decide_by(query, |number, constraint| held.ask(number, || self.holds(constraint)))
+            self.decide_by(query, |number, constraint, on| {
+                let held = verdicts.under(on, || self.rules.iter().copied());
+                held.ask(number, || self.holds(constraint, on))
+            })
         }))
     }
 
@@ -51,33 +55,60 @@ impl<'a> Prepared<'a> {
     fn decide_by(
         &self,
         query: Query,
-        mut holds: impl FnMut(usize, &Constraint<'_>) -> bool,
+        mut holds: impl FnMut(usize, &Constraint<'_>, On) -> bool,
     ) -> Result<Decision, Refusal> {
         check_query(query, self.groups.0.len() as u16)?;
-        let key = key(query.class, query.action);
+        let asked = Asked::by(query);
         let types = (query.source, query.destination);
-        let covers = |rule: &Rule| rule.may_cover(key) && self.within(types, rule.types());
+        let covers = |rule: &Rule| rule.may_cover(asked) && self.within(types, rule.types());
         let Some(rule) = self.rules.iter().position(covers) else {
             let (mut source, mut destination) = (self.groups.inner(types.0), self.groups.inner(types.1));
-            let nearest = nearest(self.rules.iter().copied(), key, &mut source, &mut destination);
+            let nearest = nearest(self.rules.iter().copied(), asked, &mut source, &mut destination);
             return Ok(Decision::NotPermitted { nearest });
         };
         let broken = self.constraints.iter().enumerate().find(|&(number, constraint)| {
-            constraint.key == key
+            constraint.key == asked.key
                 && self.within(types, (constraint.first, constraint.second))
-                && !holds(number, constraint)
+                && !holds(number, constraint, asked.on)
         });
         Ok(covered(rule, broken.map(|(number, _)| number)))
     }
 
     #[inline]
-    fn holds(&self, constraint: &Constraint<'_>) -> bool {
+    fn holds(&self, constraint: &Constraint<'_>, on: On) -> bool {
         let include = |group, set: &mut Set| self.groups.mark_group(group, set);
-        holds(constraint, &self.groups, self.live.iter().copied(), include)
+        match &self.live {
+            Live::Always(pairs) => holds(constraint, &self.groups, pairs.iter().copied(), include),
+            Live::Waiting(rules) => {
+                let live = rules.iter().filter(|(condition, _)| on.has(*condition)).map(|(_, pair)| *pair);
+                holds(constraint, &self.groups, live, include)
+            }
+        }
     }
 
     fn within(&self, inner: Pair, outer: Pair) -> bool {
         self.groups.within(inner.0, outer.0) && self.groups.within(inner.1, outer.1)
+    }
+}
+
+/// The live rules: the same under every word, or by their conditions.
+enum Live {
+    Always(Vec<Pair>),
+    Waiting(Vec<(u8, Pair)>),
+}
+
+impl Live {
+    fn of(rules: Rules<'_>) -> Live {
+        if !On::named(rules.clone()).has_switch() {
+            return Live::Always(live(rules, On::by(0)).collect());
+        }
+        let waiting = rules.filter_map(|rule| match rule {
+            Rule::Allow { source, destination, condition: condition @ 1.., .. } => {
+                Some((condition, (source, destination)))
+            }
+            _ => None,
+        });
+        Live::Waiting(waiting.collect())
     }
 }
 

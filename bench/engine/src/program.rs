@@ -6,7 +6,10 @@ use crate::prepared::Prepared;
 use mungaite::{Decision, Nearest, Query, Refusal};
 use std::fmt::Write;
 
-/// The whole output for an input: an image, which is checked and unpacked once, and queries of eight bytes.
+/// The bytes of a query: source, destination, class and action, two each, and the switch word.
+const QUERY: usize = 12;
+
+/// The whole output for an input: an image, which is checked and unpacked once, and queries.
 pub fn permit(input: &[u8]) -> String {
     let mut output = String::new();
     let length = match check_front(input) {
@@ -18,15 +21,25 @@ pub fn permit(input: &[u8]) -> String {
     };
     let (image, queries) = input.split_at(length);
     let policy = Prepared::new(image);
-    for bytes in queries.chunks(8) {
-        let answer = if bytes.len() == 8 { policy.decide(query(bytes)) } else { Err(refusal(15, 0)) };
-        put_line(&mut output, answer);
+    let (queries, left) = queries.as_chunks();
+    for bytes in queries {
+        put_line(&mut output, policy.decide(query(bytes)));
+    }
+    if !left.is_empty() {
+        put_line(&mut output, Err(refusal(15, 0)));
     }
     output
 }
 
-fn query(bytes: &[u8]) -> Query {
-    Query { source: number(bytes, 0), destination: number(bytes, 2), class: number(bytes, 4), action: number(bytes, 6) }
+fn query(bytes: &[u8; QUERY]) -> Query {
+    let [.., w3, w2, w1, w0] = *bytes;
+    Query {
+        source: number(bytes, 0),
+        destination: number(bytes, 2),
+        class: number(bytes, 4),
+        action: number(bytes, 6),
+        switches: u32::from_be_bytes([w3, w2, w1, w0]),
+    }
 }
 
 fn put_line(output: &mut String, answer: Result<Decision, Refusal>) {

@@ -8,6 +8,9 @@ pub const ALLOW: u8 = 2;
 pub const TRANSITION: u8 = 3;
 pub const CONSTRAINT: u8 = 4;
 
+/// The condition of the last switch.
+const MOST_CONDITION: u8 = 33;
+
 pub const BAN: u8 = 0;
 pub const SEPARATION: u8 = 1;
 pub const ROSTER: u8 = 2;
@@ -34,7 +37,7 @@ pub fn bad_field(record: &[u8], groups: u16) -> Option<usize> {
     let (kind, fields) = (record[1], &record[2..]);
     match kind {
         GROUP => Some(2 + 2 * bad_member(pairs(fields))?),
-        ALLOW => types(2, &fields[..4]).or((record[10] > 1).then_some(10)),
+        ALLOW => types(2, &fields[..4]).or((record[10] > MOST_CONDITION).then_some(10)),
         TRANSITION => types(2, &fields[..4]),
         _ => types(6, &record[6..10])
             .or((!list_suits(record[10], &record[11..])).then_some(10))

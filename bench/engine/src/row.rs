@@ -2,12 +2,14 @@
 
 use crate::format::{CONSTRAINTS, FIRST_GROUP, GROUPS, RULES};
 use crate::record::{ALLOW, CONSTRAINT, GROUP, TRANSITION};
+use crate::switches::FIRST_SWITCH;
 
 /// The most that the form has for each kind of number.
 const MOST_BASIC: u32 = 32767;
 const MOST_GROUP: u32 = 32767;
 const MOST_CLASS: u32 = 65535;
 const MOST_PREDICATE: u32 = 255;
+const MOST_SWITCH: u32 = 31;
 
 /// The longest records: a group of 64 members, a constraint with a list of 16 types.
 const LONGEST_GROUP: usize = 130;
@@ -138,6 +140,7 @@ impl<'t> Words<'t> {
         let (condition, rest) = match self.rest {
             [b' ', b'o', b'n', rest @ ..] => (1, rest),
             [b' ', b'o', b'f', b'f', rest @ ..] => (0, rest),
+            [b' ', b's', digits @ ..] => return Some(FIRST_SWITCH + self.digits(digits, MOST_SWITCH)? as u8),
             _ => return None,
         };
         self.rest = rest;

@@ -3,30 +3,46 @@
 use crate::format::{count, RULES};
 use crate::groups::Groups;
 use crate::record::{ALLOW, TRANSITION};
+use crate::switches::On;
+use mungaite::Query;
 
 #[derive(Clone, Copy)]
 pub enum Rule {
-    Allow { source: u16, destination: u16, key: u32, on: bool },
+    Allow { source: u16, destination: u16, key: u32, condition: u8 },
     Transition { source: u16, destination: u16 },
+}
+
+/// What a query asks of a rule, but for its types.
+#[derive(Clone, Copy)]
+pub struct Asked {
+    pub key: u32,
+    pub on: On,
+}
+
+impl Asked {
+    #[inline]
+    pub fn by(query: Query) -> Asked {
+        Asked { key: key(query.class, query.action), on: On::by(query.switches) }
+    }
 }
 
 impl Rule {
     /// What can be told without sets: an allow rule is on and of the query's class and action.
     #[inline]
-    pub fn may_cover(&self, asked: u32) -> bool {
+    pub fn may_cover(&self, asked: Asked) -> bool {
         match *self {
-            Rule::Allow { key, on, .. } => on && key == asked,
+            Rule::Allow { key, condition, .. } => key == asked.key && asked.on.has(condition),
             Rule::Transition { .. } => true,
         }
     }
 
     /// The most steps that it may pass if it does not cover the query, as far as can be told without sets.
     #[inline]
-    pub fn most_steps(&self, asked: u32) -> u8 {
+    pub fn most_steps(&self, asked: Asked) -> u8 {
         match *self {
-            Rule::Allow { on: false, .. } => 0,
-            Rule::Allow { key, .. } if class(key) != class(asked) => 3,
-            Rule::Allow { key, .. } if key != asked => 4,
+            Rule::Allow { condition, .. } if !asked.on.has(condition) => 0,
+            Rule::Allow { key, .. } if class(key) != class(asked.key) => 3,
+            Rule::Allow { key, .. } if key != asked.key => 4,
             Rule::Allow { .. } | Rule::Transition { .. } => 2,
         }
     }
@@ -65,13 +81,13 @@ impl Iterator for Rules<'_> {
     fn next(&mut self) -> Option<Rule> {
         self.left = self.left.checked_sub(1)?;
         match *self.rest {
-            [_, ALLOW, s1, s0, d1, d0, c1, c0, a1, a0, on, ref rest @ ..] => {
+            [_, ALLOW, s1, s0, d1, d0, c1, c0, a1, a0, condition, ref rest @ ..] => {
                 self.rest = rest;
                 Some(Rule::Allow {
                     source: u16::from_be_bytes([s1, s0]),
                     destination: u16::from_be_bytes([d1, d0]),
                     key: u32::from_be_bytes([c1, c0, a1, a0]),
-                    on: on == 1,
+                    condition,
                 })
             }
             [_, TRANSITION, s1, s0, d1, d0, _, _, ref rest @ ..] => {
@@ -100,9 +116,9 @@ impl<'a> Rules<'a> {
 
 /// Source and destination of the live rules: allow rules that are on.
 #[inline]
-pub fn live(rules: Rules<'_>) -> impl Iterator<Item = (u16, u16)> + '_ {
-    rules.filter_map(|rule| match rule {
-        Rule::Allow { source, destination, on: true, .. } => Some((source, destination)),
+pub fn live(rules: Rules<'_>, on: On) -> impl Iterator<Item = (u16, u16)> + '_ {
+    rules.filter_map(move |rule| match rule {
+        Rule::Allow { source, destination, condition, .. } if on.has(condition) => Some((source, destination)),
         _ => None,
     })
 }

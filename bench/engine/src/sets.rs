@@ -63,6 +63,11 @@ pub struct Memo {
 impl Memo {
     pub const NEW: Memo = Memo { known: [0; 4], yes: [0; 4] };
 
+    /// Whether nothing was found before.
+    pub fn is_empty(&self) -> bool {
+        self.known == [0; 4]
+    }
+
     /// Whether a no was found before.
     #[inline]
     pub fn says_no(&self, number: usize) -> bool {

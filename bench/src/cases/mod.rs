@@ -5,4 +5,5 @@ pub mod constraints;
 mod mix;
 pub mod search;
 pub mod sizes;
+pub mod switched;
 pub mod texts;

@@ -80,7 +80,7 @@ fn a_wrong_first_word_is_named() {
 
 #[test]
 fn words_too_few_or_too_many_are_counted() {
-    let allow = "allow takes source, destination, class, action and on or off: 5 words";
+    let allow = "allow takes source, destination, class, action and on, off or a switch: 5 words";
     let trans = "trans takes source, destination and class: 3 words";
     let limit = "limit takes class, action, two arguments, predicate and up to 16 list types: 5 to 21 words";
     let group = "group takes 1 to 64 members";
@@ -127,10 +127,18 @@ fn a_wrong_condition_is_named() {
     let cases = [
         ("allow 10 20 5 1 On", "`On` is neither on nor off: write it in lower case (refusal 18)"),
         ("allow 10 20 5 1 OFF", "`OFF` is neither on nor off: write it in lower case (refusal 18)"),
-        ("allow 10 20 5 1 1", "`1` is neither on nor off (refusal 18)"),
+        ("allow 10 20 5 1 s32", "there is no switch `s32`: switches are s0 to s31 (refusal 18)"),
+        ("allow 10 20 5 1 s4294967296", "there is no switch `s4294967296`: switches are s0 to s31 (refusal 18)"),
+        ("allow 10 20 5 1 s00", "condition `s00` has a leading zero (refusal 18)"),
+        ("allow 10 20 5 1 s031", "condition `s031` has a leading zero (refusal 18)"),
+        ("allow 10 20 5 1 S1", "`S1` is no switch: write it in lower case (refusal 18)"),
     ];
     for (row, message) in cases {
         assert_eq!(said(row), message);
+    }
+    for word in ["1", "s", "S", "s-1", "s+1", "s1x", "1s", "ss1", "x7", "only"] {
+        let message = format!("`{word}` is no condition: write on, off, or s0 to s31 for a switch (refusal 18)");
+        assert_eq!(said(&format!("allow 10 20 5 1 {word}")), message);
     }
 }
 

@@ -3,11 +3,11 @@
 use super::*;
 use crate::EMPTY;
 
-/// The forms, and what their words are: members, types, numbers, a predicate, on or off.
+/// The forms, and what their words are: members, types, numbers, a predicate, a condition.
 const FORMS: [(&str, &str); 4] = [("group", "mm"), ("allow", "ttnno"), ("trans", "ttn"), ("limit", "nnttp")];
 
 /// Words that are wrong nearly everywhere.
-const ODD: [&str; 19] = [
+const ODD: [&str; 23] = [
     "g32768",
     "65536",
     "32768",
@@ -18,6 +18,10 @@ const ODD: [&str; 19] = [
     "G0",
     "g",
     "On",
+    "s",
+    "S0",
+    "s01",
+    "s32",
     "",
     " ",
     "\t",
@@ -66,7 +70,7 @@ impl Texts {
             'm' => self.pick(&["0", "1", "2", "3", "20", "1023", "1024", "32767"]),
             't' => self.pick(&["0", "1", "20", "1023", "g0", "g1", "g2", "g255", "g256", "g32767", "1024"]),
             'p' => self.pick(&["0", "1", "2", "2", "3", "4", "255"]),
-            'o' => self.pick(&["on", "off"]),
+            'o' => self.pick(&["on", "off", "s0", "s9", "s10", "s31"]),
             _ => self.pick(&["0", "5", "1024", "65535"]),
         }
     }

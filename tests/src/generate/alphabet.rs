@@ -1,6 +1,6 @@
-//! The few types, classes and actions that a case is made of.
+//! The few types, classes, actions and switches that a case is made of.
 
-use crate::draft::{allow, constraint, group, transition};
+use crate::draft::{allow, constraint, group, switch, transition};
 use crate::random::Random;
 
 const BASICS: [u16; 13] = [0, 1, 10, 20, 21, 30, 255, 256, 257, 511, 512, 1022, 1023];
@@ -11,20 +11,24 @@ pub struct Alphabet {
     basics: Vec<u16>,
     classes: Vec<u16>,
     actions: Vec<u16>,
+    switches: Vec<u8>,
     most_members: usize,
 }
 
 impl Alphabet {
-    /// Most often a few of each. Sometimes all the listed basic types, or many of any kind and large groups of them.
+    /// Most often a few of each. Sometimes all the listed basic types, or many of any kind and large groups of them; in
+    /// one of three cases no switch.
     pub fn new(random: &mut Random) -> Alphabet {
         let classes = some_letters(random, &CLASSES, 2);
         let actions = some_letters(random, &ACTIONS, 2);
+        let all: Vec<u8> = (0..32).collect();
+        let switches = if random.percent(33) { Vec::new() } else { some_letters(random, &all, 3) };
         let (basics, most_members) = match random.of(0..=9) {
             0 => (any_basics(random), 64),
             1 | 2 => (BASICS.to_vec(), 6),
             _ => (some_letters(random, &BASICS, 6), 4),
         };
-        Alphabet { basics, classes, actions, most_members }
+        Alphabet { basics, classes, actions, switches, most_members }
     }
 
     pub fn class(&self, random: &mut Random) -> u16 {
@@ -33,6 +37,34 @@ impl Alphabet {
 
     pub fn action(&self, random: &mut Random) -> u16 {
         random.pick(&self.actions)
+    }
+
+    /// A rule's condition: off in one of five cases, and in two a switch, where there are any.
+    pub fn condition(&self, random: &mut Random) -> u8 {
+        match random.of(0..=4) {
+            0 => 0,
+            1 | 2 => self.switch(random),
+            _ => 1,
+        }
+    }
+
+    /// The condition of one of its switches; on where it has none.
+    pub fn switch(&self, random: &mut Random) -> u8 {
+        if self.switches.is_empty() {
+            1
+        } else {
+            switch(random.pick(&self.switches))
+        }
+    }
+
+    /// A switch word: each of its switches on or off, and the others all off, all on, or any of them on.
+    pub fn word(&self, random: &mut Random) -> u32 {
+        let others = match random.of(0..=2) {
+            0 => 0,
+            1 => u32::MAX,
+            _ => random.next() as u32,
+        };
+        self.switches.iter().fold(others, |word, k| if random.percent(50) { word | 1 << k } else { word & !(1 << k) })
     }
 
     /// Three basic types: its own, where it has as many.
@@ -60,15 +92,15 @@ impl Alphabet {
         group(&members)
     }
 
-    /// A rule: a transition in one of seven cases, off in one of five of the others.
+    /// A rule: a transition in one of seven cases.
     pub fn rule(&self, random: &mut Random, groups: usize) -> Vec<u8> {
         let source = self.type_field(random, groups);
         let destination = self.type_field(random, groups);
         if random.percent(14) {
             transition(source, destination, self.class(random))
         } else {
-            let on = u8::from(!random.percent(20));
-            allow(source, destination, self.class(random), self.action(random), on)
+            let (class, action) = (self.class(random), self.action(random));
+            allow(source, destination, class, action, self.condition(random))
         }
     }
 
@@ -84,7 +116,7 @@ impl Alphabet {
     }
 }
 
-fn some_letters(random: &mut Random, letters: &[u16], most: usize) -> Vec<u16> {
+fn some_letters<T: Copy>(random: &mut Random, letters: &[T], most: usize) -> Vec<T> {
     let mut letters = letters.to_vec();
     random.shuffle(&mut letters);
     letters.truncate(random.of(1..=most));

@@ -3,9 +3,10 @@
 use super::alphabet::Alphabet;
 use super::damage::{damage_image, damage_record};
 use super::policy::policy;
-use super::query::query;
+use super::query::{concerned_query, query};
 use crate::draft::Draft;
 use crate::random::Random;
+use crate::sample::under;
 use mungaite::{Query, Section};
 
 /// An accepted policy.
@@ -61,18 +62,42 @@ pub fn run_case(seed: u64) -> (Vec<u8>, Vec<Query>, usize) {
         3 => random.of(1..=64),
         _ => random.of(1..=6),
     };
-    let mut queries: Vec<Query> = (0..count).map(|_| query(random, &alphabet, &draft)).collect();
-    if count > 0 && random.percent(if count < 60 { 40 } else { 80 }) {
-        // one query again and again, so that long runs are fit, or not by one row
-        let (first, last) = (queries[0], queries[count - 1]);
-        queries.fill(first);
-        queries[random.of(0..=count - 1)] = if random.percent(50) { last } else { first };
-    }
+    let queries = rows(random, &alphabet, &draft, count);
     let slots = match random.of(0..=9) {
         0 => random.pick(&[0, 1, 64, 65, count.saturating_sub(1), count + 1]),
         _ => count,
     };
     (image(random, &draft, 10), queries, slots)
+}
+
+/// So many queries, in half of the cases under two words alone: each another, or one again and again, under its word or
+/// under others.
+fn rows(random: &mut Random, alphabet: &Alphabet, draft: &Draft, count: usize) -> Vec<Query> {
+    let mut queries: Vec<Query> = (0..count).map(|_| query(random, alphabet, draft)).collect();
+    let Some((&first, &last)) = queries.first().zip(queries.last()) else {
+        return queries;
+    };
+    let words = [first.switches, if random.percent(50) { last.switches } else { !first.switches }];
+    if random.percent(50) {
+        queries.iter_mut().for_each(|query| query.switches = random.pick(&words));
+    }
+    match random.of(0..=9) {
+        // what a row gets changes with its word, and comes back with it
+        0..=2 => {
+            let in_turn = random.percent(50);
+            let asked = if draft.constraints.is_empty() { first } else { concerned_query(random, draft) };
+            for (row, query) in queries.iter_mut().enumerate() {
+                *query = under(if in_turn { words[row % 2] } else { query.switches }, asked);
+            }
+        }
+        // long runs are fit, or not by one row
+        again if again < 6 || count >= 60 => {
+            queries.fill(first);
+            queries[random.of(0..=count - 1)] = if random.percent(50) { last } else { first };
+        }
+        _ => {}
+    }
+    queries
 }
 
 /// A buffer that starts with an image, and a record to add.
@@ -109,11 +134,10 @@ pub fn permit_case(seed: u64) -> Vec<u8> {
     let alphabet = Alphabet::new(random);
     let draft = policy(random, &alphabet);
     let mut input = image(random, &draft, 30);
-    for _ in 0..random.of(0..=20) {
-        input.extend(query(random, &alphabet, &draft).to_bytes());
-    }
+    let count = random.of(0..=20);
+    input.extend(rows(random, &alphabet, &draft, count).into_iter().flat_map(Query::to_bytes));
     if random.percent(30) {
-        let left = random.of(1..=7);
+        let left = random.of(1..=11);
         input.extend(random.bytes(left));
     }
     input

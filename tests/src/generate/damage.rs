@@ -99,7 +99,7 @@ fn break_field(random: &mut Random, record: &mut [u8], groups: usize) {
             let before = if at > 2 && at <= last { number(record, at - 2) } else { 1024 };
             set(record, at, random.pick(&[before, before, before.saturating_sub(1), 1024, 32768]));
         }
-        Some(2) if random.percent(30) => set_byte(record, 10, random.pick(&[2, 3, 128, 255])),
+        Some(2) if random.percent(30) => set_byte(record, 10, random.pick(&[33, 34, 34, 35, 66, 128, 255])),
         Some(2 | 3) => set(record, random.pick(&[2, 4]), bad_type(random, groups)),
         Some(4) if random.percent(40) => set_byte(record, 10, random.pick(&[0, 1, 2, 3, 4, 255])),
         Some(4) => set(record, random.pick(&[6, 8, 11, last]), bad_type(random, groups)),

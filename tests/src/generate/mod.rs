@@ -1,6 +1,6 @@
 //! Inputs from a seed.
 //!
-//! - `alphabet`: the few types, classes and actions that a case is made of, so that its records meet
+//! - `alphabet`: the few types, classes, actions and switches that a case is made of, so that its records meet
 //! - `policy`: random policies
 //! - `query`: random queries on them
 //! - `damage`: images and records with something wrong
@@ -18,5 +18,5 @@ mod query;
 mod text;
 
 pub use cases::{add_case, check_case, decide_case, draft_case, permit_case, policy_case, record_case, run_case};
-pub use pairs::{pair_case, HeldPair};
+pub use pairs::{pair_case, pair_without, HeldPair, Term};
 pub use text::{build_case, compile_case};

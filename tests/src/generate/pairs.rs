@@ -3,7 +3,7 @@
 use super::alphabet::Alphabet;
 use super::policy::policy;
 use super::query::{members, valid_query};
-use crate::draft::Draft;
+use crate::draft::{Draft, COMPANION};
 use crate::random::Random;
 use mungaite::Query;
 
@@ -14,18 +14,48 @@ pub struct HeldPair {
     pub second_query: Query,
 }
 
+/// A term about the words that a pair can be made without.
+#[derive(Clone, Copy, Debug, PartialEq, Eq)]
+pub enum Term {
+    /// Every switch of the first query is on in the second.
+    SwitchesKept,
+    /// Where the first policy has a companion constraint, the words are equal.
+    EqualWords,
+}
+
 pub fn pair_case(seed: u64) -> HeldPair {
+    pair(seed, None)
+}
+
+/// A pair that meets all terms but one.
+pub fn pair_without(term: Term, seed: u64) -> HeldPair {
+    pair(seed, Some(term))
+}
+
+fn pair(seed: u64, without: Option<Term>) -> HeldPair {
     let random = &mut Random::new(seed);
     let alphabet = Alphabet::new(random);
     let first = policy(random, &alphabet);
     let second = holder(random, &alphabet, &first);
     let first_query = valid_query(random, &alphabet, &first);
+    let word = first_query.switches;
+    let switches = match without {
+        None | Some(Term::SwitchesKept) if has_companion(&first) => word,
+        Some(Term::SwitchesKept) => alphabet.word(random),
+        _ if random.percent(30) => word,
+        _ => word | alphabet.word(random),
+    };
     let second_query = Query {
         source: type_within(random, &second, &members(&first, first_query.source)),
         destination: type_within(random, &second, &members(&first, first_query.destination)),
+        switches,
         ..first_query
     };
     HeldPair { first: first.image(), first_query, second: second.image(), second_query }
+}
+
+fn has_companion(draft: &Draft) -> bool {
+    draft.constraints.iter().any(|constraint| constraint[10] == COMPANION)
 }
 
 /// A policy that holds another's groups under their old numbers, and its rules and constraints at any number. If the
@@ -37,7 +67,7 @@ fn holder(random: &mut Random, alphabet: &Alphabet, held: &Draft) -> Draft {
     }
     holder.groups.truncate(256);
     let groups = holder.groups.len();
-    let companion = held.constraints.iter().any(|constraint| constraint[10] == 3);
+    let companion = has_companion(held);
     for _ in 0..random.of(0..=3) {
         if !companion {
             holder.rules.push(alphabet.rule(random, groups));

@@ -5,10 +5,10 @@ use crate::draft::Draft;
 use crate::random::Random;
 use mungaite::Query;
 
-/// A query, most often one that a rule covers or a constraint concerns; in one of sixteen cases no valid one.
+/// A query, most often one that a rule covers or a constraint concerns; in one of twelve cases no valid one.
 pub fn query(random: &mut Random, alphabet: &Alphabet, draft: &Draft) -> Query {
     let mut query = valid_query(random, alphabet, draft);
-    if random.percent(6) {
+    if random.percent(8) {
         let bad = bad_type(random, draft.groups.len());
         match random.of(0..=2) {
             0 => query.source = bad,
@@ -27,6 +27,7 @@ pub fn valid_query(random: &mut Random, alphabet: &Alphabet, draft: &Draft) -> Q
         destination: alphabet.type_field(random, groups),
         class: alphabet.class(random),
         action: alphabet.action(random),
+        switches: alphabet.word(random),
     };
     if !draft.rules.is_empty() && random.percent(40) {
         let rule = &draft.rules[random.of(0..=draft.rules.len() - 1)];
@@ -35,9 +36,7 @@ pub fn valid_query(random: &mut Random, alphabet: &Alphabet, draft: &Draft) -> Q
             query.action = field(rule, 8);
         }
     } else if !draft.constraints.is_empty() && random.percent(50) {
-        let constraint = &draft.constraints[random.of(0..=draft.constraints.len() - 1)];
-        (query.class, query.action) = (field(constraint, 2), field(constraint, 4));
-        (query.source, query.destination) = (field(constraint, 6), field(constraint, 8));
+        query = Query { switches: query.switches, ..concerned_query(random, draft) };
     }
     if random.percent(30) {
         query.source = part(random, draft, query.source);
@@ -46,6 +45,14 @@ pub fn valid_query(random: &mut Random, alphabet: &Alphabet, draft: &Draft) -> Q
         query.destination = part(random, draft, query.destination);
     }
     query
+}
+
+/// The query of a constraint's class, action and arguments, in half of the cases the first one's. There must be one.
+pub fn concerned_query(random: &mut Random, draft: &Draft) -> Query {
+    let last = draft.constraints.len() - 1;
+    let constraint = &draft.constraints[if random.percent(50) { 0 } else { random.of(0..=last) }];
+    let [class, action, first, second] = [2, 4, 6, 8].map(|at| field(constraint, at));
+    Query::new(first, second, class, action)
 }
 
 /// A type field that no policy with so many groups has.

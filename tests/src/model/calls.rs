@@ -1,11 +1,11 @@
-//! The engine's calls and the programs, with the causes 8, 9, 14 and 15.
+//! The engine's calls, with the causes 8, 9 and 14.
 
 use super::bytes::{count_place, number};
 use super::decide::Verdict;
 use super::policy::Policy;
 use super::{refusal, Model, Slip};
 use crate::subject::{Answer, Subject, TextRefusal};
-use mungaite::{Decision, Nearest, Query, Refusal, Run, Section};
+use mungaite::{Query, Refusal, Run, Section};
 use std::ops::Range;
 
 impl Subject for Model {
@@ -51,29 +51,7 @@ impl Subject for Model {
     }
 
     fn permit(&self, input: &[u8]) -> String {
-        let leading = if self.slips(Slip::ImageToInputEnd) { Ok(input) } else { self.leading_image(input) };
-        let accepted = leading.and_then(|image| self.read(image).map(|_| image));
-        let image = match accepted {
-            Ok(image) => image,
-            Err(refusal) => return self.line(Err(refusal)),
-        };
-        let mut output = String::new();
-        let left = (input.len() - image.len()) % 8;
-        if self.slips(Slip::LeftoverAlone) && left > 0 {
-            return self.line(Err(refusal(15, 0)));
-        }
-        for bytes in input[image.len()..].chunks(8) {
-            let answer = match bytes.len() {
-                8 => self.decide(image, query(bytes)),
-                _ if self.slips(Slip::LeftoverIgnored) => break,
-                _ => Err(refusal(15, 0)),
-            };
-            output.push_str(&self.line(answer));
-            if answer.is_err() && self.slips(Slip::StopsAtRefusedQuery) {
-                break;
-            }
-        }
-        output
+        self.printed(input)
     }
 
     fn build(&self, text: &[u8], buffer: &mut [u8]) -> Result<usize, TextRefusal> {
@@ -119,29 +97,4 @@ impl Model {
     fn misses(self, image: &[u8], section: Section, n: u16) -> bool {
         image.len() >= 9 && number(image, count_place(section)) <= n
     }
-
-    /// The program's line for an answer.
-    fn line(self, answer: Answer) -> String {
-        match answer {
-            Ok(Decision::NotPermitted { .. }) if self.slips(Slip::DenialAlone) => "N\n".to_string(),
-            Ok(Decision::NotPermitted { nearest: Some(Nearest { steps, rule }) }) => match self.slip {
-                Some(Slip::RuleBeforeSteps) => format!("N {rule} {steps}\n"),
-                _ => format!("N {steps} {rule}\n"),
-            },
-            Ok(Decision::NotPermitted { nearest: None }) => match self.slip {
-                Some(Slip::NoRulesAsNumbers) => "N 0 65535\n".to_string(),
-                _ => "N -\n".to_string(),
-            },
-            Ok(Decision::Permitted { rule }) => format!("P {rule}\n"),
-            Ok(Decision::UnKnown { rule, constraint }) if self.slips(Slip::ConstraintBeforeRule) => {
-                format!("U {constraint} {rule}\n")
-            }
-            Ok(Decision::UnKnown { rule, constraint }) => format!("U {rule} {constraint}\n"),
-            Err(Refusal { number, place }) => format!("R {number} {place}\n"),
-        }
-    }
-}
-
-fn query(bytes: &[u8]) -> Query {
-    Query { source: number(bytes, 0), destination: number(bytes, 2), class: number(bytes, 4), action: number(bytes, 6) }
 }

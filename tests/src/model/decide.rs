@@ -1,6 +1,7 @@
 //! "How a draw is decided": cover, and the decision.
 
 use super::policy::{touches, within, Constraint, Policy, Request, Rule, Set};
+use super::slip::Reader;
 use super::{Model, Slip};
 use mungaite::Decision;
 
@@ -93,7 +94,7 @@ impl Model {
         }
         let rest = match &rule.allow {
             Some(allow) => {
-                (allow.on || self.slips(Slip::OffRuleCovers))
+                (self.is_on(Reader::Cover, allow, query) || self.slips(Slip::OffRuleCovers))
                     && (rule.class == query.class || self.slips(Slip::ClassNotCompared))
                     && (allow.action == query.action || self.slips(Slip::ActionNotCompared))
             }
@@ -103,7 +104,7 @@ impl Model {
         source && destination && rest
     }
 
-    fn applies(self, constraint: &Constraint, query: &Request) -> bool {
+    pub fn applies(self, constraint: &Constraint, query: &Request) -> bool {
         (constraint.class == query.class || self.slips(Slip::ConstraintOfAnyClass))
             && (constraint.action == query.action || self.slips(Slip::ConstraintOfAnyAction))
     }

@@ -58,8 +58,16 @@ impl Model {
         tests
     }
 
+    /// Off, on, or one of 32 switches.
     fn condition(self, record: &[u8]) -> Test {
-        Test { at: 10, asks: Asks::Byte, holds: record[10] <= 1 || self.slips(Slip::ConditionAny) }
+        let most = match self.slip {
+            Some(Slip::ConditionAny) => 255,
+            Some(Slip::ConditionOver) => 34,
+            Some(Slip::ConditionUnder) => 32,
+            Some(Slip::SwitchesRefused) => 1,
+            _ => 33,
+        };
+        Test { at: 10, asks: Asks::Byte, holds: record[10] <= most }
     }
 
     fn constraint_fields(self, record: &[u8], groups: u16) -> Vec<Test> {

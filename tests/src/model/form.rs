@@ -94,6 +94,12 @@ impl Model {
         match (asks, word) {
             (Word::Condition, b"on") => Some(vec![u8::from(!self.slips_in_text(TextSlip::OnIsZero))]),
             (Word::Condition, b"off") => Some(vec![u8::from(self.slips_in_text(TextSlip::OffIsOne))]),
+            (Word::Condition, _) if self.slips_in_text(TextSlip::SwitchesUnknown) => None,
+            (Word::Condition, [b's', number @ ..]) => self.switch(number),
+            (Word::Condition, [b'S', number @ ..]) if self.slips_in_text(TextSlip::SwitchUpperCasePasses) => {
+                self.switch(number)
+            }
+            (Word::Condition, _) if self.slips_in_text(TextSlip::SwitchWithoutS) => self.switch(word),
             (Word::Condition, _) => None,
             (Word::Predicate, _) => {
                 let greatest = self.greatest(255, TextSlip::PredicateOver, TextSlip::PredicateUnder);
@@ -114,6 +120,17 @@ impl Model {
                 self.number(word, self.greatest(32767, TextSlip::BasicOver, TextSlip::BasicUnder)).map(in_two)
             }
         }
+    }
+
+    /// The condition of a switch, given its number.
+    fn switch(self, number: &[u8]) -> Option<Vec<u8>> {
+        let first = match self.text_slip {
+            Some(TextSlip::SwitchOneLower) => 1,
+            Some(TextSlip::SwitchOneHigher) => 3,
+            _ => 2,
+        };
+        let greatest = self.greatest(31, TextSlip::SwitchOver, TextSlip::SwitchUnder);
+        self.number(self.switch_digits(number), greatest).map(|number| vec![first + number as u8])
     }
 
     fn greatest(self, greatest: u64, over: TextSlip, under: TextSlip) -> u64 {

@@ -33,7 +33,7 @@ impl Model {
     pub fn misplaced(self, row: &[u8], record: &[u8], refused: Refusal) -> Refused {
         let place = usize::from(refused.place);
         match (refused.number, self.text_slip) {
-            (11, Some(slip)) if slip == taken_for_form(record, place) => (18, 0),
+            (11, slip @ Some(_)) if slip == taken_for_form(record, place) => (18, 0),
             (11, Some(TextSlip::FieldNamed)) => (11, word_place(row, place.div_ceil(2))),
             (11, Some(TextSlip::RecordPlaceKept)) => (11, place),
             (number, _) => (number, 0),
@@ -50,6 +50,19 @@ impl Model {
             (12, Some(TextSlip::FullAtZero)) | (13, Some(TextSlip::ShortAtZero)) => TextRefusal { place: 0, ..refused },
             (_, Some(TextSlip::PlaceNarrow)) => TextRefusal { place: refused.place % 65536, ..refused },
             _ => refused,
+        }
+    }
+
+    /// What is taken for the digits of a switch: all that stands behind its s.
+    pub fn switch_digits(self, number: &[u8]) -> &[u8] {
+        let front = |passes: fn(&u8) -> bool| number.iter().take_while(|byte| passes(byte)).count();
+        match self.text_slip {
+            Some(TextSlip::SwitchWithoutNumber) if number.is_empty() => b"0",
+            Some(TextSlip::SwitchLeadingZeroPasses) => {
+                &number[front(|byte| *byte == b'0').min(number.len().saturating_sub(1))..]
+            }
+            Some(TextSlip::SwitchTailPasses) => &number[..front(u8::is_ascii_digit)],
+            _ => number,
         }
     }
 
@@ -75,13 +88,15 @@ fn word_place(row: &[u8], word: usize) -> usize {
     row.split(|&byte| byte == b' ').take(word).map(|word| word.len() + 1).sum()
 }
 
-/// The mistake that takes a record's field that breaks its rule for one outside the form.
-fn taken_for_form(record: &[u8], place: usize) -> TextSlip {
-    match (record[1], place) {
+/// The mistake that takes a record's field that breaks its rule for one outside the form. No row within the form has a
+/// bad condition.
+fn taken_for_form(record: &[u8], place: usize) -> Option<TextSlip> {
+    Some(match (record[1], place) {
+        (2, 10) => return None,
         (4, 10) if record[10] > 3 => TextSlip::PredicateIsForm,
         (4, 10) => TextSlip::ListIsForm,
         (1, _) if number(record, place) < 1024 => TextSlip::RisingIsForm,
         _ if number(record, place) < 32768 => TextSlip::TypeIsForm,
         _ => TextSlip::GroupIsForm,
-    }
+    })
 }

@@ -1,10 +1,11 @@
-//! A model of document 01, with requests [1] to [5] of document 02, written without a look at the engine's code: sets
+//! A model of document 01, with requests [1] to [6] of document 02, written without a look at the engine's code: sets
 //! of numbers, plain structs, nothing made fast.
 //!
 //! - `bytes`: numbers in bytes; an image as three lists of records
 //! - `check`: which images are accepted, and the first cause where one is not
 //! - `fields`: the rules of a record's fields
 //! - `policy`: an accepted image with every type as its set
+//! - `condition`: which rules are on
 //! - `predicate`: the four predicates
 //! - `decide`: cover, and the decision
 //! - `nearest`: how near a denied query came
@@ -12,26 +13,30 @@
 //! - `adding`: one more record in a buffer
 //! - `text`: a policy from a text
 //! - `form`: a row of a text, and its record
-//! - `calls`: the engine's calls and the programs
-//! - `slip`, `text_slip`: mistakes that the model can be told to make; `mistaken_text`: what some of them do
+//! - `calls`: the engine's calls
+//! - `program`: what the program `permit` prints
+//! - `slip`, `text_slip`: mistakes that the model can be told to make; `mistaken_rows`, `mistaken_text`: what some do
 
 mod adding;
 mod bytes;
 mod calls;
 mod check;
+mod condition;
 mod decide;
 mod fields;
 mod form;
+mod mistaken_rows;
 mod mistaken_text;
 mod nearest;
 mod policy;
 mod predicate;
+mod program;
 mod rows;
 mod slip;
 mod text;
 mod text_slip;
 
-pub use slip::Slip;
+pub use slip::{Predicate, Reader, Slip};
 pub use text_slip::TextSlip;
 
 use mungaite::Refusal;

@@ -1,6 +1,7 @@
 //! Request [2] of document 02: how near a query came that no rule covers.
 
 use super::policy::{touches, within, Policy, Request, Rule, Set};
+use super::slip::Reader;
 use super::{Model, Slip};
 use mungaite::Nearest;
 
@@ -11,7 +12,7 @@ impl Model {
             return self.slips(Slip::NoRulesAreRuleZero).then_some(Nearest { steps: 0, rule: 0 });
         }
         let steps = |n: &usize| self.steps(&policy.rules[*n], query);
-        let mut rules: Vec<usize> = (0..policy.rules.len()).filter(|&n| self.compared(policy, n)).collect();
+        let mut rules: Vec<usize> = (0..policy.rules.len()).filter(|&n| self.compared(policy, query, n)).collect();
         if self.slips(Slip::FirstStepEnds) {
             rules.truncate(rules.iter().position(|n| steps(n) > 0).map_or(rules.len(), |first| first + 1));
         }
@@ -28,12 +29,12 @@ impl Model {
     }
 
     /// Whether a rule is compared with the others: every rule is.
-    fn compared(self, policy: &Policy, n: usize) -> bool {
+    fn compared(self, policy: &Policy, query: &Request, n: usize) -> bool {
         let allow = &policy.rules[n].allow;
         match self.slip {
             Some(Slip::StepsForgotten) => false,
             Some(Slip::LastRuleNotNear) => n + 1 < policy.rules.len(),
-            Some(Slip::OffRulesLeftOut) => allow.as_ref().is_none_or(|allow| allow.on),
+            Some(Slip::OffRulesLeftOut) => allow.as_ref().is_none_or(|allow| self.is_on(Reader::Steps, allow, query)),
             Some(Slip::TransitionsLeftOut) => allow.is_some(),
             _ => true,
         }
@@ -67,7 +68,10 @@ impl Model {
         let destination = inside(&query.destination, &rule.destination);
         let class = rule.class == query.class;
         let mut passes = match &rule.allow {
-            Some(allow) => vec![allow.on, source, destination, class, allow.action == query.action],
+            Some(allow) => {
+                let on = self.is_on(Reader::Steps, allow, query);
+                vec![on, source, destination, class, allow.action == query.action]
+            }
             None => vec![true, source, destination],
         };
         match (self.slip, rule.allow.is_some()) {

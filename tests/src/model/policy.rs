@@ -35,7 +35,7 @@ pub struct Rule {
 
 pub struct Allow {
     pub action: u16,
-    pub on: bool,
+    pub condition: u8,
 }
 
 pub struct Constraint {
@@ -55,6 +55,7 @@ pub struct Request {
     pub destination: Set,
     pub class: u16,
     pub action: u16,
+    pub switches: u32,
 }
 
 impl Model {
@@ -90,7 +91,7 @@ impl Policy {
             source: self.set(number(record, 2)),
             destination: self.set(number(record, 4)),
             class: number(record, 6),
-            allow: (record[1] == 2).then(|| Allow { action: number(record, 8), on: record[10] == 1 }),
+            allow: (record[1] == 2).then(|| Allow { action: number(record, 8), condition: record[10] }),
             source_field: number(record, 2),
             destination_field: number(record, 4),
         }
@@ -114,6 +115,7 @@ impl Policy {
             destination: self.set(query.destination),
             class: query.class,
             action: query.action,
+            switches: query.switches,
         }
     }
 }

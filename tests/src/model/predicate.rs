@@ -1,7 +1,7 @@
 //! The four predicates.
 
 use super::policy::{touches, within, Constraint, Policy, Request, Rule, Set};
-use super::slip::Predicate;
+use super::slip::{Predicate, Reader};
 use super::{Model, Slip};
 use std::ptr;
 
@@ -24,14 +24,9 @@ impl Asked<'_> {
 impl Model {
     /// Whether a constraint's predicate is true.
     pub fn holds(self, constraint: &Constraint, policy: &Policy, query: &Request) -> bool {
-        let predicate = match constraint.predicate {
-            0 => {
-                let concerns = self.concerns(constraint, query) || self.slips(Slip::BanWithoutGate);
-                return !concerns || self.slips(Slip::BanHolds);
-            }
-            1 => Predicate::Separation,
-            2 => Predicate::Roster,
-            _ => Predicate::Companion,
+        let Some(predicate) = Predicate::of(constraint.predicate) else {
+            let concerns = self.concerns(constraint, query) || self.slips(Slip::BanWithoutGate);
+            return !concerns || self.slips(Slip::BanHolds);
         };
         if !self.concerns(constraint, query) && !self.slips(Slip::NoGate(predicate)) {
             return true;
@@ -85,7 +80,7 @@ impl Model {
         let Some(allow) = &rule.allow else {
             return self.slips(Slip::TransitionLive(predicate));
         };
-        (allow.on || self.slips(Slip::OffRuleLive(predicate)))
+        (self.is_on(Reader::of(predicate), allow, query) || self.slips(Slip::OffRuleLive(predicate)))
             && (rule.class == query.class || !self.slips(Slip::PredicateOfOneClass(predicate)))
             && (allow.action == query.action || !self.slips(Slip::PredicateOfOneAction(predicate)))
     }

@@ -1,10 +1,8 @@
 //! Many queries at once, with the causes 16 and 17: request [1] of document 02.
 
-use super::policy::{Request, Set};
 use super::{refusal, Model, Slip};
 use crate::subject::{Answer, Subject};
-use mungaite::{Decision, Nearest, Query, Refusal, Run};
-use std::collections::BTreeMap;
+use mungaite::{Decision, Query, Refusal, Run};
 
 impl Model {
     /// Each row's answer in its slot, and whether every row is Permitted.
@@ -17,13 +15,7 @@ impl Model {
             }
             return Err(refused);
         }
-        let answered: Vec<Answer> = match self.slip {
-            Some(Slip::SourceKept) => self.with_types_kept(image, queries, |request| &mut request.source),
-            Some(Slip::DestinationKept) => self.with_types_kept(image, queries, |request| &mut request.destination),
-            Some(Slip::FailureKept) => self.with_failure_kept(image, queries),
-            Some(Slip::NearestKept) => self.with_nearest_kept(image, queries),
-            _ => queries.iter().map(|&query| self.decide(image, query)).collect(),
-        };
+        let answered = self.each_row(image, queries);
         if let (true, Some(Err(refused))) = (self.slips(Slip::RefusedRowRefuses), answered.iter().find(|a| a.is_err()))
         {
             return Err(*refused);
@@ -38,44 +30,6 @@ impl Model {
             None => Run::Fit,
             Some(row) => Run::Unfit { row: row + usize::from(self.slips(Slip::RowsFromOne)) },
         })
-    }
-
-    fn with_types_kept(self, image: &[u8], queries: &[Query], side: fn(&mut Request) -> &mut Set) -> Vec<Answer> {
-        let mut kept = Set::new();
-        let answer = |&query: &Query| {
-            let policy = self.accepted(image, query)?;
-            let mut request = policy.request(query);
-            kept.append(side(&mut request));
-            *side(&mut request) = kept.clone();
-            Ok(self.judge(&policy, &request))
-        };
-        queries.iter().map(answer).collect()
-    }
-
-    fn with_failure_kept(self, image: &[u8], queries: &[Query]) -> Vec<Answer> {
-        let mut failed = BTreeMap::new();
-        let answer = |&query: &Query| match (self.decide(image, query), failed.get(&(query.class, query.action))) {
-            (Ok(Decision::Permitted { rule }), Some(&constraint)) => Ok(Decision::UnKnown { rule, constraint }),
-            (Ok(Decision::UnKnown { rule, constraint }), None) => {
-                failed.insert((query.class, query.action), constraint);
-                Ok(Decision::UnKnown { rule, constraint })
-            }
-            (answer, _) => answer,
-        };
-        queries.iter().map(answer).collect()
-    }
-
-    fn with_nearest_kept(self, image: &[u8], queries: &[Query]) -> Vec<Answer> {
-        let mut kept: Option<Nearest> = None;
-        let answer = |&query: &Query| match self.decide(image, query) {
-            Ok(Decision::NotPermitted { nearest }) => {
-                let steps = |nearest: Option<Nearest>| nearest.map_or(0, |nearest| nearest.steps);
-                kept = if steps(kept) > steps(nearest) { kept } else { nearest };
-                Ok(Decision::NotPermitted { nearest: kept })
-            }
-            other => other,
-        };
-        queries.iter().map(answer).collect()
     }
 
     /// The image's causes, then 16, then 17.

@@ -12,6 +12,41 @@ pub enum Predicate {
 
 impl Predicate {
     const ALL: [Predicate; 3] = [Predicate::Separation, Predicate::Roster, Predicate::Companion];
+
+    /// The predicate of a number; a ban, 0, looks at no rule.
+    pub fn of(number: u8) -> Option<Predicate> {
+        match number {
+            1 => Some(Predicate::Separation),
+            2 => Some(Predicate::Roster),
+            3 => Some(Predicate::Companion),
+            _ => None,
+        }
+    }
+}
+
+/// Who asks whether a rule is on.
+#[derive(Clone, Copy, Debug, PartialEq, Eq)]
+pub enum Reader {
+    /// All of the others.
+    Each,
+    Cover,
+    Steps,
+    Separation,
+    Roster,
+    Companion,
+}
+
+impl Reader {
+    const ALL: [Reader; 6] =
+        [Reader::Each, Reader::Cover, Reader::Steps, Reader::Separation, Reader::Roster, Reader::Companion];
+
+    pub fn of(predicate: Predicate) -> Reader {
+        match predicate {
+            Predicate::Separation => Reader::Separation,
+            Predicate::Roster => Reader::Roster,
+            Predicate::Companion => Reader::Companion,
+        }
+    }
 }
 
 /// The mistakes, each with what the mistaken model does. One with a kind in brackets is a mistake for each of that
@@ -116,6 +151,19 @@ slips! { Slip
     CompanionByTwoRules => "the companion is found in two rules, one by its source, one by its destination",
     CompanionBySource => "the companion's destination is not looked at",
     CompanionByDestination => "the companion's source is not looked at",
+    // Switches.
+    SwitchAbove => "a condition names the switch above its own",
+    SwitchBelow => "a condition names the switch below its own",
+    SwitchesReversed => "switches are counted from the word's highest bit",
+    SwitchAtZero => "a switch rule is on where the word is 0",
+    SwitchInverted => "a switch rule is on where its switch is off",
+    AnySwitch => "a switch rule is on where any switch is",
+    NotOdd => "a switch is on where the word divided by its power of 2 is not 0",
+    LowHalfOnly => "only the low half of a word counts",
+    OffWraps => "condition 0 goes by switch 30, as if switch numbers wrapped around",
+    OnWraps => "condition 1 goes by switch 31, as if switch numbers wrapped around",
+    SwitchOn(Reader) => "a switch rule is on whatever the word, for all who ask or for one of them",
+    SwitchOff(Reader) => "a switch rule is off whatever the word, for all who ask or for one of them",
     // How near a denied query came.
     HighestNearest => "of the rules with the most steps the highest is named",
     RuleZeroNearest => "rule 0 is named, whichever rule has the most steps",
@@ -175,6 +223,9 @@ slips! { Slip
     RuleDestinationFirst => "a rule's bad destination comes before its bad source",
     ConditionFirst => "a bad condition comes before bad types",
     ConditionAny => "any condition passes",
+    ConditionOver => "condition 34 passes",
+    ConditionUnder => "condition 33 is refused",
+    SwitchesRefused => "conditions above 1 are refused",
     SecondArgumentFirst => "a bad second argument comes before a bad first",
     PredicateFirst => "a bad predicate byte comes before bad arguments",
     PredicateLast => "a bad predicate byte comes after bad listed types",
@@ -230,11 +281,21 @@ slips! { Slip
     ListBeforeRowCount => "a list of another length comes before a wrong number of rows",
     RefusedRunWrites => "a refused run writes an answer",
     ImageRefusalInSlots => "a refused image's refusal goes to each slot of a run",
+    // The words of rows.
+    HalvesSwapped => "the halves of a row's word are swapped",
+    FirstWordKept => "every row of a run goes by the first row's word",
+    VerdictKept(Predicate) => "a run keeps what a predicate said though the word changes",
+    VerdictKeptBack(Predicate) => "a run keeps what a predicate said under another word when the first comes back",
     // The program.
     ImageToInputEnd => "the program takes the whole input for the image",
     StopsAtRefusedQuery => "the program stops at a refused query",
-    LeftoverIgnored => "the program ignores 1 to 7 bytes left",
-    LeftoverAlone => "the program answers no query where 1 to 7 bytes are left",
+    LeftoverIgnored => "the program ignores 1 to 11 bytes left",
+    LeftoverAlone => "the program answers no query where 1 to 11 bytes are left",
+    ShortWordPasses => "the program takes 8 to 11 bytes left for a query, its word filled up with 0",
+    QueriesOf8 => "the program's queries have 8 bytes and no word",
+    WordFirst => "the word comes first in a query of the program",
+    WordLittleEndian => "the word of a query of the program has its lowest byte first",
+    ProgramVerdictKept(Predicate) => "the program keeps what a predicate said though the word changes",
     ConstraintBeforeRule => "the program prints the constraint before the rule",
     DenialAlone => "the program prints N alone",
     RuleBeforeSteps => "the program prints the rule before the steps",

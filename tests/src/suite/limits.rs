@@ -1,9 +1,9 @@
 //! Policies at each limit and one over it.
 
 use crate::compare::{Outcome, Pair};
-use crate::draft::{allow, constraint, group, transition, Draft};
+use crate::draft::{allow, constraint, group, switch, transition, Draft};
 use crate::runner::{Cases, Count};
-use crate::sample::query;
+use crate::sample::{query, under};
 use mungaite::{Query, Section, LARGEST};
 
 pub const TESTS: &[Cases] = &[
@@ -51,6 +51,7 @@ fn policy(case: u64) -> Draft {
             1 if !largest => transition(type_of(n), n % 1024, n),
             2 => allow(type_of(n), type_of(n + 1), n % 7, 1, 0),
             3 => allow(n % 1024, type_of(n * 3), n % 7, 1, 1),
+            4 => allow(type_of(n), type_of(n + 1), n % 7, 1, switch((n % 32) as u8)),
             _ => allow(type_of(n), type_of(n + 1), n % 7, 1, 1),
         });
     }
@@ -68,12 +69,12 @@ pub fn largest() -> Draft {
     policy(CASES - 1)
 }
 
-/// Queries that rules of every size of number cover.
+/// Queries that rules of every size of number cover, with every other switch on.
 fn queries(draft: &Draft) -> [Query; 8] {
     let count = draft.rules.len();
     [0, 1, 2, count / 3, count / 2, count - 3, count - 2, count - 1].map(|n| {
         let field = |at: usize| u16::from_be_bytes([draft.rules[n][at], draft.rules[n][at + 1]]);
-        query(field(2), field(4), field(6), 1)
+        under(0xAAAA_AAAA, query(field(2), field(4), field(6), 1))
     })
 }
 

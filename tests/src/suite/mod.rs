@@ -8,6 +8,7 @@ mod random;
 mod reached;
 mod reached_separation;
 mod reached_steps;
+mod reached_switches;
 mod reached_text;
 mod round_trip;
 mod rows;
@@ -16,6 +17,7 @@ mod streams;
 mod streams_compile;
 mod streams_failing;
 mod sweep;
+mod switches;
 mod tally;
 mod text_rows;
 mod texts;
@@ -31,8 +33,8 @@ fn differential() -> Vec<Cases> {
 
 /// The tests of any engine.
 fn of_any() -> Vec<Cases> {
-    let on_images =
-        [&differential(), rows::TESTS, steps::TESTS, round_trip::TESTS, order::TESTS, sweep::PROGRAM].concat();
+    let properties = [rows::TESTS, steps::TESTS, switches::TESTS, round_trip::TESTS, order::TESTS].concat();
+    let on_images = [differential(), properties, sweep::PROGRAM.to_vec()].concat();
     [worked::TESTS, worked::TEXTS, &on_images, texts::TESTS, text_rows::TESTS].concat()
 }
 

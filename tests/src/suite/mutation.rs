@@ -1,15 +1,17 @@
 //! The tests have teeth: a worked row notices each mistake that the model can make, and so do the generated inputs.
 
-use super::{differential, order, round_trip, rows, steps, worked};
+use super::{differential, order, round_trip, rows, steps, switches, worked};
 use crate::compare::Pair;
-use crate::model::{Model, Slip};
+use crate::model::{Model, Predicate, Reader, Slip};
 use crate::runner::{run_case, Cases, Finding, Run, Whole, PANIC};
 
 /// Mistakes that the tests of the engine's answers alone must notice, with the mistaken model in the engine's place.
-const PROPERTIES: [(Cases, Slip); 22] = [
+const PROPERTIES: [(Cases, Slip); 44] = [
     (order::PAIRS, Slip::LastRuleSkipped),
     (order::PAIRS, Slip::CoverByTouch),
     (order::PAIRS, Slip::SeparationOfTwoRules),
+    (order::PAIRS, Slip::SwitchAtZero),
+    (order::PAIRS, Slip::SwitchInverted),
     (rows::ALONE, Slip::LastRowSkipped),
     (rows::ALONE, Slip::RefusedRowFits),
     (rows::AMONG_OTHERS, Slip::StopsAtUnfitRow),
@@ -18,6 +20,10 @@ const PROPERTIES: [(Cases, Slip); 22] = [
     (rows::AMONG_OTHERS, Slip::DestinationKept),
     (rows::AMONG_OTHERS, Slip::FailureKept),
     (rows::AMONG_OTHERS, Slip::NearestKept),
+    (rows::AMONG_OTHERS, Slip::FirstWordKept),
+    (rows::AMONG_OTHERS, Slip::VerdictKept(Predicate::Separation)),
+    (rows::AMONG_OTHERS, Slip::VerdictKeptBack(Predicate::Roster)),
+    (rows::ALONE, Slip::HalvesSwapped),
     (steps::ONE_BY_ONE, Slip::HighestNearest),
     (steps::ONE_BY_ONE, Slip::FirstStepEnds),
     (steps::ONE_BY_ONE, Slip::LastRuleNotNear),
@@ -25,13 +31,30 @@ const PROPERTIES: [(Cases, Slip); 22] = [
     (steps::ONE_BY_ONE, Slip::OffRulesLeftOut),
     (steps::ONE_BY_ONE, Slip::FewestSteps),
     (steps::FORGOTTEN, Slip::OffRuleCovers),
+    (switches::NONE, Slip::OffWraps),
+    (switches::NONE, Slip::OnWraps),
+    (switches::REPLACED, Slip::SwitchAbove),
+    (switches::REPLACED, Slip::SwitchBelow),
+    (switches::REPLACED, Slip::SwitchOn(Reader::Each)),
+    (switches::REPLACED, Slip::SwitchOff(Reader::Steps)),
+    (switches::REPLACED, Slip::SwitchOn(Reader::Separation)),
+    (switches::REPLACED, Slip::SwitchOff(Reader::Roster)),
+    (switches::REPLACED, Slip::SwitchOff(Reader::Companion)),
+    (switches::REPLACED_ROWS, Slip::VerdictKept(Predicate::Separation)),
+    (switches::REPLACED_ROWS, Slip::VerdictKept(Predicate::Roster)),
+    (switches::REPLACED_ROWS, Slip::VerdictKept(Predicate::Companion)),
+    (switches::REPLACED_ROWS, Slip::VerdictKeptBack(Predicate::Companion)),
+    (switches::REPLACED_ROWS, Slip::FirstWordKept),
+    (switches::TURNED_ON, Slip::SwitchAtZero),
+    (switches::TURNED_ON, Slip::SwitchInverted),
     (round_trip::MIXED, Slip::AddedAtImageEnd),
     (round_trip::RANDOM, Slip::RestCleared),
     (round_trip::RANDOM, Slip::RecordPastEnd),
     (round_trip::RANDOM, Slip::LimitReached(mungaite::Section::Rules)),
 ];
 
-/// Two tests for each mistake, and one for each of the table's rows.
+/// Two tests for each mistake, one for each of the table's rows, and one for each term that the order rule's pairs are
+/// made without.
 pub fn tests() -> Vec<Whole> {
     let worked_out = Slip::all().into_iter().map(|slip| Whole {
         name: format!("mutation/worked/{}", slip.name()),
@@ -45,7 +68,11 @@ pub fn tests() -> Vec<Whole> {
         name: format!("mutation/{}/{}", test.name, slip.name()),
         run: Box::new(move |run| alone(run, test, Model::with(slip), slip.says())),
     });
-    worked_out.chain(compared).chain(alone).collect()
+    let without = order::WITHOUT.into_iter().map(|(pairs, says)| Whole {
+        name: format!("mutation/{}", pairs.name),
+        run: Box::new(move |run| noticed(run, &[pairs], &run.pair(Model::RIGHT), says)),
+    });
+    worked_out.chain(compared).chain(alone).chain(without).collect()
 }
 
 /// The worked tables, with the mistaken model in the engine's place.

@@ -3,7 +3,7 @@
 use super::order::{decisions, PAIRS};
 use super::random::{ADD, CHECK, DECIDE, RECORD, RUN};
 use super::tally::Tally;
-use super::{reached_separation, reached_steps, reached_text};
+use super::{reached_separation, reached_steps, reached_switches, reached_text};
 use crate::compare::unanswered;
 use crate::generate::{add_case, check_case, decide_case, pair_case, record_case, run_case};
 use crate::model::Model;
@@ -23,6 +23,10 @@ pub fn tests() -> Vec<Whole> {
         test("reached/predicates", predicates),
         test("reached/separations", reached_separation::sources),
         test("reached/order", order),
+        test("reached/switches", reached_switches::covering),
+        test("reached/switch-predicates", reached_switches::predicates),
+        test("reached/switch-rows", reached_switches::rows),
+        test("reached/order-words", reached_switches::order),
         test("reached/build", reached_text::places),
         test("reached/build-kinds", reached_text::kinds),
         test("reached/build-ends", reached_text::ends),

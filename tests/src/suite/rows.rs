@@ -4,6 +4,7 @@ use crate::compare::{equal, hex, unanswered, Outcome, Pair};
 use crate::generate::run_case;
 use crate::random::Random;
 use crate::runner::{Cases, Count};
+use crate::sample::query;
 use crate::subject::{Answer, Subject};
 use mungaite::{Decision, Query, Run};
 
@@ -29,7 +30,7 @@ fn among_others(pair: &Pair, seed: u64) -> Outcome {
     let first = answers(pair.engine, &image, &queries)?;
     let mut order: Vec<usize> = (0..queries.len()).collect();
     random.shuffle(&mut order);
-    let others = [Query { source: 1024, destination: 0, class: 0, action: 0 }, queries[0], queries[queries.len() - 1]];
+    let others = [query(1024, 0, 0, 0), queries[0], queries[queries.len() - 1]];
     let moved: Vec<Option<usize>> = order.into_iter().map(|row| (!random.percent(30)).then_some(row)).collect();
     queries = moved.iter().map(|row| row.map_or_else(|| random.pick(&others), |row| queries[row])).collect();
     let second = answers(pair.engine, &image, &queries)?;
@@ -53,7 +54,7 @@ fn rows(engine: &dyn Subject, seed: u64) -> (Vec<u8>, Vec<Query>) {
 
 /// The answers of a run that is not refused. It is fit where all of them are Permitted; else it names the first that is
 /// not.
-fn answers(engine: &dyn Subject, image: &[u8], queries: &[Query]) -> Result<Vec<Answer>, String> {
+pub fn answers(engine: &dyn Subject, image: &[u8], queries: &[Query]) -> Result<Vec<Answer>, String> {
     let mut answers = unanswered(queries.len());
     let said = engine.run(image, queries, &mut answers);
     let unfit = answers.iter().position(|answer| !matches!(answer, Ok(Decision::Permitted { .. })));

@@ -19,11 +19,11 @@ use std::time::{Duration, Instant};
 const PAUSE: Duration = Duration::from_millis(2);
 
 pub const TESTS: &[Cases] = &[
-    Cases { name: "program/waiting-host", count: Count::Listed(8), run: waiting_host },
-    Cases { name: "streams/late-input", count: Count::Listed(9), run: late_input },
-    Cases { name: "streams/late-end", count: Count::Listed(8), run: late_end },
+    Cases { name: "program/waiting-host", count: Count::Listed(12), run: waiting_host },
+    Cases { name: "streams/late-input", count: Count::Listed(13), run: late_input },
+    Cases { name: "streams/late-end", count: Count::Listed(12), run: late_end },
     Cases { name: "streams/late-output", count: Count::Listed(1), run: late_output },
-    Cases { name: "streams/broken-input", count: Count::Listed(9), run: broken_input },
+    Cases { name: "streams/broken-input", count: Count::Listed(13), run: broken_input },
     Cases { name: "streams/no-input", count: Count::Listed(1), run: no_input },
     Cases { name: "streams/full-output", count: Count::Listed(3), run: full_output },
     Cases { name: "streams/closed-output", count: Count::Listed(1), run: closed_output },
@@ -41,12 +41,12 @@ fn waiting_host(_: &Pair, case: u64) -> Outcome {
     child.ends("", "")
 }
 
-/// Case n: an input on which no read waits, where all is late: the image after 9 n of its bytes, and each query after
+/// Case n: an input on which no read waits, where all is late: the image after 6 n of its bytes, and each query after
 /// n.
 fn late_input(_: &Pair, case: u64) -> Outcome {
     let (mut input, child) = with_late_input()?;
     sleep(LATE);
-    in_two(&mut input, &SAMPLE, 9 * case as usize, LATE)?;
+    in_two(&mut input, &SAMPLE, 6 * case as usize, LATE)?;
     answers(&mut input, &child, case as usize, LATE)?;
     drop(input);
     child.ends("", "")
@@ -84,7 +84,7 @@ fn late_output(_: &Pair, _: u64) -> Outcome {
     }
 }
 
-/// Case n: an input that breaks after two queries and n bytes of a third; with 8, in the middle of the image. Nothing
+/// Case n: an input that breaks after two queries and n bytes of a third; with 12, in the middle of the image. Nothing
 /// is written for what is left, since the input has not ended.
 fn broken_input(_: &Pair, case: u64) -> Outcome {
     let (mut ours, theirs) = pair()?;
@@ -93,12 +93,12 @@ fn broken_input(_: &Pair, case: u64) -> Outcome {
     let child = Watched::new(permit(OwnedFd::from(theirs), Stdio::piped())?);
     let queries = [QUERIES[0].to_bytes(), QUERIES[2].to_bytes(), QUERIES[3].to_bytes()].concat();
     let written = match case {
-        8 => {
+        12 => {
             send(&mut ours, &SAMPLE[..40])?;
             ""
         }
         left => {
-            send(&mut ours, &[&SAMPLE[..], &queries[..16 + left as usize]].concat())?;
+            send(&mut ours, &[&SAMPLE[..], &queries[..24 + left as usize]].concat())?;
             "P 0\nN 1 0\n"
         }
     };
@@ -118,7 +118,7 @@ fn full_output(_: &Pair, case: u64) -> Outcome {
     let query = QUERIES[0].to_bytes();
     let input = match case {
         0 => [&SAMPLE[..], &query].concat(),
-        1 => [&SAMPLE[..], &query[..7]].concat(),
+        1 => [&SAMPLE[..], &query[..11]].concat(),
         _ => SAMPLE[..79].to_vec(),
     };
     let full = File::options().write(true).open("/dev/full").map_err(|error| error.to_string())?;

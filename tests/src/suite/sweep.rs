@@ -11,7 +11,7 @@ const LENGTH: u64 = SAMPLE.len() as u64;
 pub const TESTS: &[Cases] = &[
     Cases { name: "sample/changes", count: Count::Listed(256 * LENGTH), run: change },
     Cases { name: "sample/cuts", count: Count::Listed(LENGTH), run: cut },
-    Cases { name: "sample/permit-cuts", count: Count::Listed(LENGTH + 24), run: permit_cut },
+    Cases { name: "sample/permit-cuts", count: Count::Listed(LENGTH + 36), run: permit_cut },
 ];
 
 /// A process for each change: left out where mistaken models are searched for.

@@ -14,6 +14,8 @@ type Row = (&'static str, fn() -> Vec<u8>, &'static [u8], Result<u16, Refusal>, 
 #[rustfmt::skip]
 pub const ROWS: &[Row] = &[
     ("a rule", || room(14), ALLOW_10_30, Ok(4), || grown(5, 5, 56, ALLOW_10_30, 3)),
+    ("a rule of switch 0", || room(14), SWITCH_0, Ok(4), || grown(5, 5, 56, SWITCH_0, 3)),
+    ("a rule of switch 31", || room(11), SWITCH_31, Ok(4), || grown(5, 5, 56, SWITCH_31, 0)),
     ("a group", || room(6), &[6, 1, 0, 1, 0, 2], Ok(1), || grown(3, 2, 15, &[6, 1, 0, 1, 0, 2], 0)),
     ("a transition", || room(8), &[8, 3, 0, 1, 0, 2, 0, 3], Ok(4), || grown(5, 5, 56, &[8, 3, 0, 1, 0, 2, 0, 3], 0)),
     ("a ban", || room(12), BAN, Ok(2), || grown(7, 3, 80, BAN, 1)),
@@ -42,8 +44,11 @@ pub const ROWS: &[Row] = &[
     ("source g1", || room(20), &[11, 2, 128, 1, 0, 30, 0, 5, 0, 3, 1], no(11, 2), || room(20)),
     ("destination g1", || room(20), &[11, 2, 0, 10, 128, 1, 0, 5, 0, 3, 1], no(11, 4), || room(20)),
     ("allow source and destination bad", || room(20), &[11, 2, 4, 0, 4, 0, 0, 5, 0, 3, 1], no(11, 2), || room(20)),
-    ("allow source and condition bad", || room(20), &[11, 2, 4, 0, 0, 30, 0, 5, 0, 3, 2], no(11, 2), || room(20)),
-    ("allow destination and condition bad", || room(20), &[11, 2, 0, 10, 4, 0, 0, 5, 0, 3, 2], no(11, 4), || room(20)),
+    ("allow source and condition bad", || room(20), &[11, 2, 4, 0, 0, 30, 0, 5, 0, 3, 34], no(11, 2), || room(20)),
+    ("allow destination and condition bad", || room(20), &[11, 2, 0, 10, 4, 0, 0, 5, 0, 3, 34], no(11, 4), || room(20)),
+    ("condition 34", || room(20), &[11, 2, 0, 10, 0, 30, 0, 5, 0, 3, 34], no(11, 10), || room(20)),
+    ("condition 35", || room(20), &[11, 2, 0, 10, 0, 30, 0, 5, 0, 3, 35], no(11, 10), || room(20)),
+    ("condition 255", || room(20), &[11, 2, 0, 10, 0, 30, 0, 5, 0, 3, 255], no(11, 10), || room(20)),
     ("transition source and destination bad", || room(20), &[8, 3, 4, 0, 4, 0, 0, 5], no(11, 2), || room(20)),
     ("transition destination bad", || room(20), &[8, 3, 0, 10, 4, 0, 0, 5], no(11, 4), || room(20)),
     ("both arguments bad", || room(20), &[11, 4, 0, 5, 0, 1, 4, 0, 4, 0, 0], no(11, 6), || room(20)),
@@ -61,8 +66,8 @@ pub const ROWS: &[Row] = &[
     ("members 2000, 5", || room(20), &[6, 1, 7, 208, 0, 5], no(11, 2), || room(20)),
     ("a group among the members", || room(20), &[6, 1, 0, 5, 128, 0], no(11, 4), || room(20)),
     // A full section, then a short buffer.
-    ("condition 2, no room", || room(0), &[11, 2, 0, 10, 0, 30, 0, 5, 0, 3, 2], no(11, 10), || room(0)),
-    ("condition 2, a full section", full, &[11, 2, 0, 10, 0, 30, 0, 5, 0, 3, 2], no(11, 10), full),
+    ("condition 34, no room", || room(0), &[11, 2, 0, 10, 0, 30, 0, 5, 0, 3, 34], no(11, 10), || room(0)),
+    ("condition 34, a full section", full, &[11, 2, 0, 10, 0, 30, 0, 5, 0, 3, 34], no(11, 10), full),
     ("one byte too few", || room(10), ALLOW_10_30, no(13, 0), || room(10)),
     ("no room", || room(0), ALLOW_10_30, no(13, 0), || room(0)),
     ("a full section, no room", full, ALLOW_10_30, no(12, 0), full),
@@ -92,6 +97,10 @@ const BAD_MEMBER: &[u8] = &[1, 0, 13, 0, 1, 0, 0, 0, 0, 4, 1, 4, 0, 9];
 
 /// Allow 1 to 2, class 3, action 4, on.
 const RULE: &[u8] = &[11, 2, 0, 1, 0, 2, 0, 3, 0, 4, 1];
+
+/// Allow 10 to 30, class 5, action 3, while switch 0 is on; and while switch 31 is.
+const SWITCH_0: &[u8] = &[11, 2, 0, 10, 0, 30, 0, 5, 0, 3, 2];
+const SWITCH_31: &[u8] = &[11, 2, 0, 10, 0, 30, 0, 5, 0, 3, 33];
 
 const BAN: &[u8] = &[11, 4, 0, 5, 0, 1, 0, 10, 0, 21, 0];
 

@@ -24,6 +24,13 @@ pub const ROWS: &[Row] = &[
     ("64 members", MEMBERS_64, &[&GROUP_OF_64], &[], &[]),
     ("allow, on", "allow 10 30 5 3 on\n", &[], &[&[11, 2, 0, 10, 0, 30, 0, 5, 0, 3, 1]], &[]),
     ("allow, off", "allow 10 30 5 3 off\n", &[], &[&[11, 2, 0, 10, 0, 30, 0, 5, 0, 3, 0]], &[]),
+    ("allow, switch 0", "allow 10 30 5 3 s0\n", &[], &[&[11, 2, 0, 10, 0, 30, 0, 5, 0, 3, 2]], &[]),
+    ("allow, switch 9", "allow 10 30 5 3 s9\n", &[], &[&[11, 2, 0, 10, 0, 30, 0, 5, 0, 3, 11]], &[]),
+    ("allow, switch 10", "allow 10 30 5 3 s10\n", &[], &[&[11, 2, 0, 10, 0, 30, 0, 5, 0, 3, 12]], &[]),
+    ("allow, switch 31", "allow 10 30 5 3 s31\n", &[], &[&[11, 2, 0, 10, 0, 30, 0, 5, 0, 3, 33]], &[]),
+    ("conditions of each kind", "allow 1 2 3 4 s1\nallow 1 2 3 4 off\nallow 1 2 3 4 on\n\nallow 1 2 3 4 s30", &[],
+        &[&[11, 2, 0, 1, 0, 2, 0, 3, 0, 4, 3], &[11, 2, 0, 1, 0, 2, 0, 3, 0, 4, 0], &[11, 2, 0, 1, 0, 2, 0, 3, 0, 4, 1],
+            &[11, 2, 0, 1, 0, 2, 0, 3, 0, 4, 32]], &[]),
     ("allow, all 0", "allow 0 0 0 0 off\n", &[], &[&[11, 2, 0, 0, 0, 0, 0, 0, 0, 0, 0]], &[]),
     ("allow, all at the highest", "allow 1023 1023 65535 65535 on\n", &[],
         &[&[11, 2, 3, 255, 3, 255, 255, 255, 255, 255, 1]], &[]),
@@ -68,6 +75,7 @@ pub const ROWS: &[Row] = &[
     ("a last row without a line feed", "group 7\ngroup 8", &[GROUP_7, GROUP_8], &[], &[]),
     ("one row without a line feed", "group 7", &[GROUP_7], &[], &[]),
     ("allow without a line feed", "allow 10 30 5 3 off", &[], &[&[11, 2, 0, 10, 0, 30, 0, 5, 0, 3, 0]], &[]),
+    ("a switch without a line feed", "allow 10 30 5 3 s7", &[], &[&[11, 2, 0, 10, 0, 30, 0, 5, 0, 3, 9]], &[]),
     ("trans without a line feed", "trans 12 20 5", &[], &[&[8, 3, 0, 12, 0, 20, 0, 5]], &[]),
     ("limit without a line feed", "limit 5 1 10 21 0", &[], &[], &[BAN]),
     ("line feeds behind the last row", "group 7\n\n\n", &[GROUP_7], &[], &[]),
@@ -114,6 +122,16 @@ pub fn run(pair: &Pair, case: u64) -> Outcome {
 /// The sample typed as text, with and without its last line feed.
 pub fn sample(pair: &Pair, case: u64) -> Outcome {
     builds(pair, "the sample", &SAMPLE_TEXT.as_bytes()[..SAMPLE_TEXT.len() - case as usize], &SAMPLE)
+}
+
+/// Case k: a rule that waits for switch k, alone and before a group that starts as a switch's number might go on.
+pub fn switches(pair: &Pair, case: u64) -> Outcome {
+    let row = format!("allow 10 30 5 3 s{case}");
+    let rule = [11, 2, 0, 10, 0, 30, 0, 5, 0, 3, 2 + case as u8];
+    let alone = [&[1, 0, 20, 0, 0, 0, 1, 0, 0], &rule[..]].concat();
+    builds(pair, &row, row.as_bytes(), &alone)?;
+    let behind = [&[1, 0, 24, 0, 1, 0, 1, 0, 0], GROUP_7, &rule[..]].concat();
+    builds(pair, &row, format!("{row}\ngroup 7\n").as_bytes(), &behind)
 }
 
 /// The image in buffers that it just fits and that are longer, whose other bytes stay; and from the program.

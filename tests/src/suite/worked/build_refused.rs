@@ -29,6 +29,8 @@ pub const ROWS: &[Row] = &[
     ("destination g1", "allow 10 g1 5 3 on", 11),
     ("source g32767", "allow g32767 30 5 3 on", 11),
     ("destination g32767", "allow 10 g32767 5 3 on", 11),
+    ("source 1024, a switch", "allow 1024 30 5 3 s31", 11),
+    ("destination g1, a switch", "allow 10 g1 5 3 s0", 11),
     ("a transition's source 1024", "trans 1024 20 5", 11),
     ("a transition's destination 1024", "trans 12 1024 5", 11),
     ("a transition's source g1", "trans g1 20 5", 11),
@@ -102,6 +104,8 @@ pub const ROWS: &[Row] = &[
     ("a group as g and a word", "trans g 0 20 5", 18),
     // 18 before the row's own 11.
     ("source 1024, condition ON", "allow 1024 30 5 3 ON", 18),
+    ("source 1024, condition s32", "allow 1024 30 5 3 s32", 18),
+    ("destination g1, condition s01", "allow 10 g1 5 3 s01", 18),
     ("source g1, a space behind", "allow g1 30 5 3 on ", 18),
     ("equal members, then a group", "group 7 7 g0", 18),
     ("predicate 4, then 256 in the list as a class is not", "limit 5 1 10 21 4 65536", 18),

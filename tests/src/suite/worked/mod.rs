@@ -1,5 +1,5 @@
 //! Document 01's worked cases with its answers, and further rows whose answers were worked out by hand from its clauses
-//! and from requests [1] to [5]. Both engines and the model must give them.
+//! and from requests [1] to [6]. Both engines and the model must give them.
 
 mod add;
 mod build;
@@ -24,6 +24,9 @@ mod run;
 mod run_numbers;
 mod separation;
 mod small;
+mod switch_predicates;
+mod switch_rows;
+mod switches;
 
 use crate::compare::{equal, Outcome, Pair};
 use crate::runner::{Cases, Count};
@@ -40,6 +43,16 @@ pub const TESTS: &[Cases] = &[
     Cases { name: "worked/separation", count: Count::Listed(separation::ROWS.len() as u64), run: separation::run },
     Cases { name: "worked/roster", count: Count::Listed(ROSTER.len() as u64), run: predicates::rosters },
     Cases { name: "worked/companion", count: Count::Listed(COMPANION.len() as u64), run: predicates::companions },
+    Cases { name: "worked/switches", count: Count::Listed(switches::ROWS.len() as u64), run: switches::run },
+    Cases {
+        name: "worked/switch-predicates",
+        count: Count::Listed(switch_predicates::ROWS.len() as u64),
+        run: switch_predicates::run,
+    },
+    Cases { name: "worked/switch-each", count: Count::Listed(32), run: switches::each },
+    Cases { name: "worked/switch-together", count: Count::Listed(32), run: switches::together },
+    Cases { name: "worked/switch-rows", count: Count::Listed(switch_rows::ROWS.len() as u64), run: switch_rows::run },
+    Cases { name: "worked/switch-rows-in-turn", count: Count::Listed(3), run: switch_rows::in_turn },
     Cases { name: "worked/order", count: Count::Listed(order::ROWS.len() as u64), run: order::run },
     Cases { name: "worked/full", count: Count::Listed(full::ROWS.len() as u64), run: full::run },
     Cases { name: "worked/full-permit", count: Count::Listed(1), run: full::permit },
@@ -55,6 +68,7 @@ pub const TESTS: &[Cases] = &[
     Cases { name: "worked/record", count: Count::Listed(record::ROWS.len() as u64), run: record::run },
     Cases { name: "worked/add", count: Count::Listed(add::ROWS.len() as u64), run: add::run },
     Cases { name: "worked/permit", count: Count::Listed(permit::ROWS.len() as u64), run: permit::run },
+    Cases { name: "worked/permit-left", count: Count::Listed(12), run: permit::left },
     Cases { name: "worked/permit-many", count: Count::Listed(1), run: permit::many },
     Cases { name: "worked/record-longest", count: Count::Listed(record::LONGEST.len() as u64), run: record::longest },
 ];
@@ -63,6 +77,7 @@ pub const TESTS: &[Cases] = &[
 pub const TEXTS: &[Cases] = &[
     Cases { name: "worked/build", count: Count::Listed(build::ROWS.len() as u64), run: build::run },
     Cases { name: "worked/build-sample", count: Count::Listed(2), run: build::sample },
+    Cases { name: "worked/build-switches", count: Count::Listed(32), run: build::switches },
     Cases {
         name: "worked/build-refused",
         count: Count::Listed(build_refused::ROWS.len() as u64),
@@ -92,8 +107,9 @@ pub const OF_THE_LIBRARY: &[Cases] = &[
         run: decide_numbers::run,
     },
     Cases { name: "worked/run-counts", count: Count::Listed(run_numbers::ROWS.len() as u64), run: run_numbers::counts },
-    Cases { name: "worked/run-every-count", count: Count::Listed(4 * 67), run: run_numbers::every_count },
+    Cases { name: "worked/run-every-count", count: Count::Listed(6 * 67), run: run_numbers::every_count },
     Cases { name: "worked/run-kinds", count: Count::Listed(1), run: run_numbers::kinds },
+    Cases { name: "worked/run-words", count: Count::Listed(1), run: run_numbers::words },
     Cases {
         name: "worked/build-numbers",
         count: Count::Listed(build_numbers::ROWS.len() as u64),

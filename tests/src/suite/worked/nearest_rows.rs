@@ -1,9 +1,9 @@
 //! How near the rows of a run came, each by its own: as answers of the run, and as the program's lines.
 
 use super::nearest::near;
-use super::run::asked;
+use super::no;
+use super::run::as_rows;
 use super::small::*;
-use super::{both, no};
 use crate::compare::{Outcome, Pair};
 use crate::sample::{query, EMPTY, SAMPLE};
 use crate::subject::Answer;
@@ -46,13 +46,9 @@ pub const ROWS: &[Row] = &[
 const COVERED: Query = query(1, 2, 7, 7);
 const NEAREST: Query = query(1, 2, 7, 8);
 
-/// A run takes the rows, and the program their bytes.
 pub fn run(pair: &Pair, case: u64) -> Outcome {
     let (what, image, queries, said, answers, lines) = ROWS[case as usize];
-    let image = image();
-    both(pair, what, (Ok(said), answers.to_vec()), |subject| asked(subject, &image, queries, queries.len()))?;
-    let input = [image, queries.iter().flat_map(|query| query.to_bytes()).collect()].concat();
-    both(pair, what, lines.to_string(), |subject| subject.permit(&input))
+    as_rows(pair, what, &image(), queries, Ok(said), answers, lines)
 }
 
 fn sample() -> Vec<u8> {

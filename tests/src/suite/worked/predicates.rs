@@ -3,6 +3,7 @@
 use super::small::*;
 use crate::compare::{Outcome, Pair};
 use crate::draft::allow;
+use crate::sample::under;
 
 /// What is asked, the groups, the rules after rule 0, the constraint, and whether it holds.
 pub type Row = (&'static str, &'static [&'static [u16]], fn() -> Vec<Vec<u8>>, fn() -> Vec<u8>, bool);
@@ -57,10 +58,15 @@ pub const COMPANION: &[Row] = &[
     ("a group that touches the first alone", &[&[1, 5]], || vec![other(9, G0), other(G0, 1)], || companion(1, 2), false),
 ];
 
-pub fn run((what, groups, rules, constraint, holds): Row, pair: &Pair) -> Outcome {
+pub fn run(row: Row, pair: &Pair) -> Outcome {
+    run_under(0, row, pair)
+}
+
+/// The same under a switch word.
+pub fn run_under(word: u32, (what, groups, rules, constraint, holds): Row, pair: &Pair) -> Outcome {
     let image = policy(groups, &[vec![on(1, 2)], rules()].concat(), &[constraint()]);
     let expected = if holds { p(0) } else { u(0, 0) };
-    super::both(pair, what, expected, |subject| subject.decide(&image, ASKED))
+    super::both(pair, what, expected, |subject| subject.decide(&image, under(word, ASKED)))
 }
 
 pub fn rosters(pair: &Pair, case: u64) -> Outcome {

@@ -23,9 +23,9 @@ const R9: Query = query(10, 32769, 5, 1);
 /// What `NOT` gets: rules 0 to 2 stop at the source, and rule 3 is off.
 const DENIED: Answer = n(1, 0);
 
-const FIT: Result<Run, Refusal> = Ok(Run::Fit);
+pub const FIT: Result<Run, Refusal> = Ok(Run::Fit);
 
-const fn unfit(row: usize) -> Result<Run, Refusal> {
+pub const fn unfit(row: usize) -> Result<Run, Refusal> {
     Ok(Run::Unfit { row })
 }
 
@@ -70,7 +70,7 @@ pub const ROWS: &[Row] = &[
     ("66 rows", &SAMPLE, &[], || vec![P2; 66], no(16, 0), || unanswered(66)),
     ("no row", &SAMPLE, &[], Vec::new, no(16, 0), Vec::new),
     ("257 rows", &SAMPLE, &[], || vec![P2; 257], no(16, 0), || unanswered(257)),
-    ("16,385 rows, 65,540 numbers", &SAMPLE, &[], || vec![P2; 16_385], no(16, 0), || unanswered(1)),
+    ("32,769 rows, 196,614 numbers", &SAMPLE, &[], || vec![P2; 32_769], no(16, 0), || unanswered(1)),
     ("65,537 rows", &SAMPLE, &[], || vec![P2; 65_537], no(16, 0), || unanswered(1)),
     // Then as many answers as rows.
     ("one slot too few", &SAMPLE, &[], || vec![P0, P2, P1], no(17, 0), || unanswered(2)),
@@ -106,6 +106,21 @@ pub fn run(pair: &Pair, case: u64) -> Outcome {
         let image = grown(subject, image, added).expect("the sample can be added to");
         asked(subject, &image, &queries(), after.len())
     })
+}
+
+/// A run takes the rows, and the program their bytes: what the run says, their answers, and their lines.
+pub fn as_rows(
+    pair: &Pair,
+    what: &str,
+    image: &[u8],
+    queries: &[Query],
+    said: Result<Run, Refusal>,
+    answers: &[Answer],
+    lines: &str,
+) -> Outcome {
+    both(pair, what, (said, answers.to_vec()), |subject| asked(subject, image, queries, queries.len()))?;
+    let input = [image.to_vec(), queries.iter().flat_map(|query| query.to_bytes()).collect()].concat();
+    both(pair, what, lines.to_string(), |subject| subject.permit(&input))
 }
 
 /// What a subject says of the rows, and then the answers, all unanswered before.

@@ -1,7 +1,7 @@
 //! Small policies for one clause each. Unless said otherwise, what they hold is of class 5 and action 1, as `ASKED` is.
 
 use crate::compare::{Outcome, Pair};
-use crate::draft::{allow, constraint, group, transition, Draft};
+use crate::draft::{allow, constraint, group, switch, transition, Draft};
 use crate::sample::query;
 pub use crate::sample::G0;
 use mungaite::{Decision, Nearest, Query, Refusal};
@@ -53,6 +53,15 @@ pub fn off(source: u16, destination: u16) -> Vec<u8> {
 /// An allow rule that is on, of class 7 and action 7.
 pub fn other(source: u16, destination: u16) -> Vec<u8> {
     allow(source, destination, 7, 7, 1)
+}
+
+/// An allow rule that is on while switch k is; and one of class 7 and action 7.
+pub fn waits(k: u8, source: u16, destination: u16) -> Vec<u8> {
+    allow(source, destination, 5, 1, switch(k))
+}
+
+pub fn other_waits(k: u8, source: u16, destination: u16) -> Vec<u8> {
+    allow(source, destination, 7, 7, switch(k))
 }
 
 pub fn trans(source: u16, destination: u16) -> Vec<u8> {
