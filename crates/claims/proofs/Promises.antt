@@ -32,6 +32,7 @@ use Rattle.runs.proofs.Cases as runs
 use Rattle.text.proofs.Follow as follow
 use Rattle.text.proofs.Accepted as built
 use Rattle.text.proofs.Space as space
+use Rattle.text.proofs.Conditions as conditions
 use Rattle.text.proofs.Cases as texts
 use Rattle.lines.proofs.Numbers as numbers
 use Rattle.lines.proofs.Output as output
@@ -162,6 +163,7 @@ promises =
         answers-settled = settled.answers-settled;
         switches-add = switches.switches-add;
         switch-order = switches.switch-order;
+        condition-words = conditions.condition-words;
         switch-cases = cases.switch-cases;
       };
       printing = record {

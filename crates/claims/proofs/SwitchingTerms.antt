@@ -28,6 +28,7 @@ use Rattle.runs.proofs.Holds.{map-at}
 use Rattle.claims.specs.Promises.{Promises}
 use Rattle.claims.specs.Terms.{AtLeast, switched, allOn, SwitchingMet}
 use Rattle.claims.proofs.Cases.{SwitchAnswers, switch-answers, word-is, up-to-many, up-to-at, by-switch, all-on, switch-rules, rinse-bytes, settled-in, settled-kind}
+use Rattle.claims.proofs.Worked.{words-said}
 use Rattle.claims.proofs.DecidingTerms.{gives-one}
 
 -- ---- the tables of all switches
@@ -156,6 +157,10 @@ module _ (p : Promises) where
         from-none = λ l q₁ q₂ q₃ q₄ w d₁ d₂ e₁ e₂. rises l q₁ q₂ q₃ q₄ 0 w d₁ d₂ e₁ e₂ (on-none w);
         to-all = λ l q₁ q₂ q₃ q₄ v d₁ d₂ e₁ e₂. rises l q₁ q₂ q₃ q₄ v allOn d₁ d₂ e₁ e₂ (on-all v);
         rinse-stays = rinse-stays;
+        each-word = s .condition-words .each;
+        words-said = words-said (s .condition-words);
+        no-other-word = λ word n h e. (let o = s .condition-words .only word n e in h n (o .0) (o .1));
+        no-byte-34 = λ word n h e. (let o = s .condition-words .only word n e in omega (arith, o .0, h));
         switch-cases-all = is .many;
         switch-0-on = is .switch-0-on;
         switch-0-off = is .switch-0-off;

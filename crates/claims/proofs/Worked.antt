@@ -13,9 +13,10 @@ use Rattle.format.specs.Sample.{sample, empty}
 use Rattle.extension.specs.Add.{addFault, bufferAfter}
 use Rattle.extension.specs.Claims.{addAll}
 use Rattle.text.specs.Words.{ascii, splitStep, split, same, isDigit, digitsFrom, numberOf, upTo, numberTo, named, above, lettered}
+use Rattle.text.specs.declared.Field.the-variants.{Condition}
 use Rattle.text.specs.Rows as rows
 use Rattle.text.specs.Build.{Made, rowFault, recordFault, onward, rowsFrom, built}
-use Rattle.text.specs.Claims.{withFirst, recordsIn, allAdded}
+use Rattle.text.specs.Claims.{withFirst, recordsIn, allAdded, switchDigits, conditionWord, ConditionWords}
 use Rattle.text.specs.Cases.{workedRows, rowGives, rowStands, WorkedRows, outsideRows, rowNamed, WorkedOutside}
 use Rattle.text.specs.Cases.{fullGroups, fullFault, WorkedFull, oneTransition, oneSwitched, workedTexts, textGives, textMakes, WorkedTexts}
 use Rattle.decision.specs.declared.Nearest.the-variants.{NoRules, Near}
@@ -173,6 +174,15 @@ length-code n = refl
 pub build-refusal-code : (f : Refusal) → f .place ≤ 281474976710655 → buildCode (refused f) ≡ f .number * 281474976710656 + f .place
 unfolding buildCode
 build-refusal-code f h = omega arith
+
+-- ---- the words of conditions
+
+module _ (e : ConditionWords) where
+  pub words-said :
+      (rows.valueOf Condition (ascii "off") ≡ some 0) × (rows.valueOf Condition (ascii "on") ≡ some 1) × (rows.valueOf Condition (ascii "s0") ≡ some 2)
+      × (rows.valueOf Condition (ascii "s31") ≡ some 33)
+  unfolding ascii switchDigits conditionWord
+  words-said = (e .each 0 (omega arith), e .each 1 (omega arith), e .each 2 (omega arith), e .each 33 (omega arith))
 
 -- ---- rows and texts
 

@@ -28,7 +28,7 @@ use Rattle.runs.specs.Claims.{FitExactly, UnfitFirst, LastCounts, RunRefused, R
 use Rattle.runs.specs.Claims.{NumbersRun, NumbersWhole, NumbersAnswered, NumbersRefused, NumbersLeft, NumbersFaults}
 use Rattle.runs.specs.Cases.{RunCases, NumberCases}
 use Rattle.text.specs.Claims.{EachRowAdded, RowsEnough, BuiltAccepted, LastLineFeed, LastRowCounts, NextRows, RefusedStops, RefusedKeeps}
-use Rattle.text.specs.Claims.{RefusedShort, OwnNumbers, SpaceEnough}
+use Rattle.text.specs.Claims.{RefusedShort, OwnNumbers, SpaceEnough, ConditionWords}
 use Rattle.text.specs.Cases.{WorkedRows, WorkedOutside, WorkedFull, WorkedTexts}
 use Rattle.lines.specs.Claims.{DecimalFewest, DecimalRead, AnyReads, AnyCompiled}
 use Rattle.lines.specs.Worked.{WorkedLines, WorkedRuns, WorkedCompiled}
@@ -258,6 +258,8 @@ pub record Switching : Type 0 where
   pub switches-add : SwitchesAdd
   -- so no decision is lower, where there is no companion
   pub switch-order : SwitchOrder
+  -- in a text each condition byte, 0 to 33, has its word, `off`, `on`, `s0` to `s31`, and no other word says a condition
+  pub condition-words : ConditionWords
   -- cases worked out from the request
   pub switch-cases : SwitchCases
 

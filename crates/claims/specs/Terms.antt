@@ -46,9 +46,10 @@ use Rattle.format.specs.Reach.{Reaches, Stops}
 use Rattle.extension.specs.Add.{addFault, newNumber, bufferAfter, overwrite}
 use Rattle.extension.specs.Claims.{addAll, allRecords}
 use Rattle.text.specs.Words.{ascii, split}
-use Rattle.text.specs.Rows.{recordOfRow}
+use Rattle.text.specs.declared.Field.the-variants.{Condition}
+use Rattle.text.specs.Rows.{valueOf, recordOfRow}
 use Rattle.text.specs.Build.{rowFault, rowsFrom, built}
-use Rattle.text.specs.Claims.{recordsIn, recordCount, complete, allAdded}
+use Rattle.text.specs.Claims.{recordsIn, recordCount, complete, allAdded, conditionWord}
 use Rattle.text.specs.Cases.{workedRows, outsideRows, members, groupOf, fullGroups, oneTransition, oneSwitched, sampleText, workedTexts}
 use Rattle.decision.specs.declared.Query.{Query}
 use Rattle.decision.specs.declared.Nearest.{Nearest}
@@ -775,6 +776,14 @@ pub record SwitchingMet : Type 0 where
       (l : List ℕ) (s d c a v : ℕ) (d₁ d₂ : Decision) → answer l (queryOf s d c a v) ≡ gives d₁ → answer l (queryOf s d c a allOn) ≡ gives d₂
       → NoCompanion (policyOf l .constraints) → height d₁ ≤ height d₂
   pub rinse-stays : (w : ℕ) → switchOn w 0 ≡ true → AtLeast 1 (rinse 2) (queryOf 13 21 5 1 w)
+  -- ConditionWords: every byte by its word, the first and the last written out; no other word, and none for a byte above 33
+  pub each-word : (n : ℕ) → n ≤ 33 → valueOf Condition (conditionWord n) ≡ some n
+  pub words-said :
+      (valueOf Condition (ascii "off") ≡ some 0) × (valueOf Condition (ascii "on") ≡ some 1) × (valueOf Condition (ascii "s0") ≡ some 2)
+      × (valueOf Condition (ascii "s31") ≡ some 33)
+  pub no-other-word :
+      (word : List ℕ) (n : ℕ) → ((k : ℕ) → k ≤ 33 → word ≡ conditionWord k → ⊥) → valueOf Condition word ≡ some n → ⊥
+  pub no-byte-34 : (word : List ℕ) (n : ℕ) → 34 ≤ n → valueOf Condition word ≡ some n → ⊥
   -- SwitchCases: all of them; a rule by switch 0 and by switch 31, on and off; a companion that a switch helps; condition 34
   pub switch-cases-all : length switchCases ≡ 25
   pub switch-0-on : answer (rinse 2) (queryOf 13 21 5 1 1) ≡ gives (permitted 3)

@@ -5,12 +5,13 @@
 use Prim.Native.Nat.{ℕ, zero, suc, _+_, _-_, _*_, _/_, _%_, _<_, _≤_}
 use native.Mathlib.Omega.{arith}
 use mathlib.Core.Path.{_≡_, refl, sym, ap, _∙_}
-use mathlib.Core.List.{List, _++_}
+use mathlib.Core.List.{List, [], _∷_, _++_}
 use lib.ListN.{length, getD, take, drop, List·getD-append}
 use lib.Seq.{length-take-le, length-front, getD-take, getD-drop, getD-append-add}
-use Rattle.format.specs.Bytes.{wordAt, putWord}
-use Rattle.format.proofs.Bytes.{word-take, word-drop}
-use Rattle.decision.specs.Decide.{answer}
+use Rattle.format.specs.Bytes.{wordAt}
+use Rattle.format.proofs.Bytes.{put-word, word-at, word-take, word-drop}
+use Rattle.decision.specs.declared.Query.{Query}
+use Rattle.decision.specs.Decide.{answer, queryOf}
 use Rattle.decision.specs.Numbers.{decisionCode}
 use Rattle.decision.specs.Rows.{queryAt, numbersFrom, numbers, rowsIn, answered, rowAt, QueryRead, queryBytes, RowsAnswered, SlotsStay, RowsWhole, RowAlone}
 
@@ -74,20 +75,38 @@ rows-answered l b slots k h =
 two-bytes : (n : ℕ) → n < 65536 → n / 256 * 256 + n % 256 ≡ n
 two-bytes n h = omega arith
 
+bytes-are :
+    (q : Query) → queryBytes q ≡ q .source / 256 ∷ q .source % 256 ∷ q .dest / 256 ∷ q .dest % 256 ∷ q .class / 256 ∷ q .class % 256
+    ∷ q .action / 256 ∷ q .action % 256 ∷ q .switches / 65536 / 256 ∷ q .switches / 65536 % 256
+    ∷ q .switches % 65536 / 256 ∷ q .switches % 65536 % 256 ∷ []
+unfolding queryBytes
+bytes-are q = rw (put-word (q .source), put-word (q .dest), put-word (q .class), put-word (q .action), put-word (q .switches / 65536), put-word (q .switches % 65536)) refl
+
+-- a query by its words
+words-are : (b : List ℕ) (s d c a h l : ℕ) → wordAt b 0 ≡ s → wordAt b 2 ≡ d → wordAt b 4 ≡ c → wordAt b 6 ≡ a → wordAt b 8 ≡ h → wordAt b 10 ≡ l
+    → queryAt b 0 ≡ queryOf s d c a (h * 65536 + l)
+words-are b s d c a h l e₀ e₂ e₄ e₆ e₈ e₁₀ = rw (e₀, e₂, e₄, e₆, e₈, e₁₀)
+
 pub query-read : QueryRead
-unfolding queryBytes putWord wordAt
 query-read =
     record {
       back = λ q f.
-          (let s = two-bytes (q .source) (f .source) in
-          let d = two-bytes (q .dest) (f .dest) in
-          let c = two-bytes (q .class) (f .class) in
-          let a = two-bytes (q .action) (f .action) in
-          let h : q .switches / 65536 / 256 * 256 + q .switches / 65536 % 256 ≡ q .switches / 65536 = two-bytes (q .switches / 65536) (omega (arith, f .switches)) in
-          let l : q .switches % 65536 / 256 * 256 + q .switches % 65536 % 256 ≡ q .switches % 65536 = two-bytes (q .switches % 65536) (omega arith) in
+          (let b : List ℕ = q .source / 256 ∷ q .source % 256 ∷ q .dest / 256 ∷ q .dest % 256 ∷ q .class / 256 ∷ q .class % 256
+          ∷ q .action / 256 ∷ q .action % 256 ∷ q .switches / 65536 / 256 ∷ q .switches / 65536 % 256
+          ∷ q .switches % 65536 / 256 ∷ q .switches % 65536 % 256 ∷ [] in
           let w : q .switches / 65536 * 65536 + q .switches % 65536 ≡ q .switches = omega arith in
-          rw (s, d, c, a, h, l, w));
-      by-hand = refl;
+          ap (λ (x : List ℕ). queryAt x 0) (bytes-are q)
+          ∙ words-are b (q .source) (q .dest) (q .class) (q .action) (q .switches / 65536) (q .switches % 65536)
+          (word-at b 0 ∙ two-bytes (q .source) (f .source))
+          (word-at b 2 ∙ two-bytes (q .dest) (f .dest))
+          (word-at b 4 ∙ two-bytes (q .class) (f .class))
+          (word-at b 6 ∙ two-bytes (q .action) (f .action))
+          (word-at b 8 ∙ two-bytes (q .switches / 65536) (omega (arith, f .switches)))
+          (word-at b 10 ∙ two-bytes (q .switches % 65536) (omega arith))
+          ∙ ap (queryOf (q .source) (q .dest) (q .class) (q .action)) w);
+      by-hand =
+          (let b : List ℕ = 0 ∷ 10 ∷ 128 ∷ 1 ∷ 0 ∷ 5 ∷ 1 ∷ 0 ∷ 128 ∷ 64 ∷ 32 ∷ 1 ∷ [] in
+          words-are b 10 0x8001 5 256 0x8040 0x2001 (word-at b 0) (word-at b 2) (word-at b 4) (word-at b 6) (word-at b 8) (word-at b 10));
     }
 
 pub slots-stay : SlotsStay

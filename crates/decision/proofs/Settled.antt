@@ -4,7 +4,7 @@
 use Prim.Native.Nat.{ℕ, _+_, _≤_, _<_}
 use native.Mathlib.Omega.{arith}
 use mathlib.Core.Path.{_≡_, refl, sym, subst, ap, ap₂, _∙_}
-use mathlib.Core.Logic.{inl, inr}
+use mathlib.Core.Logic.{inl, inr, ⊎-elim}
 use mathlib.Core.Bool.{Bool, true, false, cond}
 use mathlib.Core.List.{List, [], _∷_, map, List·Memᴰ, List·Memᴰ·head, List·Memᴰ·tail, Memᴰ·of-map}
 use lib.ListN.{length, getD, set, length-set, length-map, List·getD-eq-default}
@@ -19,6 +19,9 @@ use Rattle.format.specs.Policy.{Policy, recordsOf, imageOf, policyOf}
 use Rattle.format.specs.Check.{Accepted}
 use Rattle.format.specs.Answers.{outcome}
 use Rattle.format.specs.Claims.{IsAllow, IsTransition, IsRecord, WellFormed}
+use Rattle.format.proofs.Bytes.{word-at}
+use Rattle.format.proofs.ByCase.{records-of-groups, records-of-rules, records-of-constraints}
+use Rattle.format.proofs.Fields.{record-rule, rule-record}
 use Rattle.format.proofs.Chain.{orElse-next}
 use Rattle.format.proofs.Images.{group-count, accepted-is-well-formed, well-formed-is-accepted}
 use Rattle.decision.specs.declared.Query.{Query}
@@ -34,8 +37,7 @@ settled-byte : (r : List ℕ) (b i : ℕ) → i < 10 → getD (set r 10 b) i 0 �
 settled-byte r b i h = getD-set-other r 10 i b 0 (λ e. omega arith)
 
 settled-word : (r : List ℕ) (b i : ℕ) → i + 1 < 10 → wordAt (set r 10 b) i ≡ wordAt r i
-unfolding wordAt
-settled-word r b i h = rw (settled-byte r b i (omega arith), settled-byte r b (i + 1) h)
+settled-word r b i h = word-at (set r 10 b) i ∙ rw (settled-byte r b i (omega arith), settled-byte r b (i + 1) h, word-at r i)
 
 is-on-as : (w w′ b : ℕ) (v : Bool) → isOn w b ≡ v → isOn w′ (cond v 1 0) ≡ isOn w b
 unfolding isOn
@@ -118,9 +120,7 @@ module _ (w : ℕ) (g : ℕ) (r : List ℕ) where
   settled-transition f = rw (set-out r 10 (cond (isOn w (getD r 10 0)) 1 0) (omega (arith, f .size .1))) f
 
   settled-record : IsRecord Rules g r → IsRecord Rules g (settledRule w r)
-  unfolding IsRecord
-  settled-record (inl f) = inl (settled-allow f)
-  settled-record (inr f) = inr (settled-transition f)
+  settled-record f = rule-record g (settledRule w r) (⊎-elim (λ a. inl (settled-allow a)) (λ t. inr (settled-transition t)) (record-rule g r f))
 
 settled-bytes : (w : ℕ) (r : List ℕ) → Bytes r → Bytes (settledRule w r)
 unfolding settledRule
@@ -137,27 +137,27 @@ module _ (w : ℕ) (p : Policy) where
   unfolding settled
   settled-plain r m k = settled-mem (λ x. getD x 10 0 < 2) (λ r n. small-byte w r) r m
 
+  -- what holds of each record, and of a settled rule where it held of the rule, holds of each record still
+  settled-all :
+      (P : Section → List ℕ → Type 0) → ((r : List ℕ) → P Rules r → P Rules (settledRule w r))
+      → ((s : Section) (r : List ℕ) → List·Memᴰ r (recordsOf p s) → P s r)
+      → (s : Section) (r : List ℕ) → List·Memᴰ r (recordsOf (settled w p) s) → P s r
+  unfolding settled
+  settled-all P k h Groups r m = h Groups r (rw (records-of-groups p) (rw (records-of-groups (settled w p)) at m))
+  settled-all P k h Rules r m = settled-mem (P Rules) (λ x n. k x (h Rules x (rw (records-of-rules p) n))) r (rw (records-of-rules (settled w p)) at m)
+  settled-all P k h Constraints r m = h Constraints r (rw (records-of-constraints p) (rw (records-of-constraints (settled w p)) at m))
+
   settled-formed : WellFormed p → WellFormed (settled w p)
-  unfolding settled recordsOf
+  unfolding settled
   settled-formed f =
       record {
         version = f .version;
         few-groups = f .few-groups;
         few-rules = rw (length-map (p .rules) (settledRule w)) (f .few-rules);
         few-constraints = f .few-constraints;
-        records = λ s. records s;
-        bytes = λ s. bytes s;
+        records = settled-all (λ s r. IsRecord s (length (p .groups)) r) (λ r n. settled-record w (length (p .groups)) r n) (f .records);
+        bytes = settled-all (λ s r. Bytes r) (λ r n. settled-bytes w r n) (f .bytes);
       }
-    where
-      records : (s : Section) (r : List ℕ) → List·Memᴰ r (recordsOf (settled w p) s) → IsRecord s (length (p .groups)) r
-      records Groups r m = f .records Groups r m
-      records Rules r m = settled-mem (IsRecord Rules (length (p .groups))) (λ r n. settled-record w (length (p .groups)) r (f .records Rules r n)) r m
-      records Constraints r m = f .records Constraints r m
-
-      bytes : (s : Section) (r : List ℕ) → List·Memᴰ r (recordsOf (settled w p) s) → Bytes r
-      bytes Groups r m = f .bytes Groups r m
-      bytes Rules r m = settled-mem Bytes (λ r n. settled-bytes w r (f .bytes Rules r n)) r m
-      bytes Constraints r m = f .bytes Constraints r m
 
 -- of an accepted image, an answer is the fault of the query or the decision
 answer-of : (l : List ℕ) (q : Query) (p : Policy) → Accepted l → policyOf l ≡ p → answer l q ≡ outcome (queryFault (length (p .groups)) q) (decide p q)

@@ -334,6 +334,10 @@ module _ (g : ℕ) (r : List ℕ) where
   unfolding IsRecord
   record-rule f = f
 
+  pub rule-record : IsAllow g r ⊎ IsTransition g r → IsRecord Rules g r
+  unfolding IsRecord
+  rule-record f = f
+
   pub record-constraint : IsRecord Constraints g r → (n : ℕ) × IsConstraint g r n
   unfolding IsRecord
   record-constraint f = f
