@@ -43,7 +43,7 @@ use Rattle.runs.specs.Numbers.{rowsOf, numbersOf}
 use Rattle.runs.specs.Cases.{member, group, transition, offRule, noSource, runCases, numberCases}
 use Rattle.lines.specs.Output.{imageSize}
 use Rattle.lines.specs.Worked.{workedLines, askedOn, asked, workedRuns}
-use Rattle.claims.specs.Terms.{query, threeQueries, twoAndPart, byBytes, cutSample, longSample, badSample, tooShort, separated, switched, shared, oneLong, allOn}
+use Rattle.claims.specs.Terms.{query, threeQueries, twoAndPart, byBytes, cutSample, longSample, badSample, tooShort, separated, switched, shared, oneLong, allOn, SwitchRows}
 
 pub empty-nine : length empty ≡ 9
 unfolding empty
@@ -258,33 +258,37 @@ shared-rules =
 
 -- ---- request 6
 
--- its table: how many rows, and some by themselves
-pub record SwitchAnswers : Type 0 where
-  pub many : length switchCases ≡ 25
-  pub switch-0-on : answer (rinse 2) (queryOf 13 21 5 1 1) ≡ gives (permitted 3)
-  pub switch-0-off : answer (rinse 2) (queryOf 13 21 5 1 2) ≡ gives (notPermitted (Near 1 0))
-  pub switch-31-on : answer (rinse 33) (queryOf 13 21 5 1 0x80000000) ≡ gives (permitted 3)
-  pub switch-31-off : answer (rinse 33) (queryOf 13 21 5 1 0x7FFFFFFF) ≡ gives (notPermitted (Near 1 0))
-  pub switched-on : answer switched (queryOf 20 30 5 2 32) ≡ gives (unknown 1 1)
-  pub switched-off : answer switched (queryOf 20 30 5 2 31) ≡ gives (permitted 1)
-  pub helped-off : answer (extended (extended sample companion) (allowIf 7 (allow 21 10 5 9))) (queryOf 10 21 5 1 31) ≡ gives (unknown 0 2)
-  pub helped-on : answer (extended (extended sample companion) (allowIf 7 (allow 21 10 5 9))) (queryOf 10 21 5 1 32) ≡ gives (permitted 0)
-  pub condition-34 : answer (rinse 34) (queryOf 10 21 5 1 0) ≡ refused (refusal 6 55)
-
-pub switch-answers : SwitchCases → SwitchAnswers
+-- its table, row by row
+pub switch-rows : SwitchCases → SwitchRows
 unfolding switchCases given expectedOf askOn
-switch-answers e =
+switch-rows e =
     record {
       many = refl;
+      switch-0-none = row 0;
       switch-0-on = row 1;
       switch-0-off = row 2;
+      switch-1-on = row 3;
+      switch-1-off = row 4;
+      switch-16-on = row 5;
+      switch-16-off = row 6;
       switch-31-on = row 7;
       switch-31-off = row 8;
+      switch-15-all = row 9;
+      near-on = row 10;
+      near-off = row 11;
+      on-none = row 12;
+      on-all = row 13;
+      off-all = row 14;
+      transition-none = row 15;
+      transition-all = row 16;
       switched-on = row 17;
       switched-off = row 18;
+      roster-on = row 19;
+      roster-off = row 20;
       helped-off = row 21;
       helped-on = row 22;
       condition-34 = row 23;
+      condition-255 = row 24;
     }
   where
     row : (n : ℕ) → getD (map given switchCases) n (gives (permitted 0)) ≡ getD (map expectedOf switchCases) n (gives (permitted 0))

@@ -22,7 +22,7 @@ use Rattle.decision.specs.declared.Query.{Query}
 use Rattle.decision.specs.Sets.{setOf, within}
 use Rattle.decision.specs.Conditions.{switchOn}
 use Rattle.decision.specs.Decide.{Decision, notPermitted, permitted, unknown, answer, queryOf, Valid}
-use Rattle.decision.specs.Order.{height, Holds, Keeps, NoCompanion}
+use Rattle.decision.specs.Order.{height, Holds, NoCompanion}
 use Rattle.decision.specs.Lowest.{Names}
 use Rattle.decision.specs.Tepla.{Dcs, compareDecisions, forget, evalPolicy}
 use Rattle.decision.specs.Growth.{reordered, DecidedAbove}
@@ -35,7 +35,7 @@ use Rattle.decision.proofs.Order.{keeps-same}
 use Rattle.decision.proofs.Tepla.{forget-permitted, forget-unknown}
 use Rattle.decision.proofs.Cases.{Answers, marked-answers, cases-many}
 use Rattle.claims.specs.Promises.{Promises}
-use Rattle.claims.specs.Terms.{query, AtLeast, threeQueries, twoAndPart, DecidingMet, OrderingMet}
+use Rattle.claims.specs.Terms.{query, AtLeast, threeQueries, twoAndPart, OrderedIf, DecidingMet, OrderingMet}
 use Rattle.claims.proofs.Cases.{space-image, companion-bytes, companion-space, companion-no-rule, rule-bytes, rule-space, query-rows, twelve-bytes}
 use Rattle.claims.proofs.ReadingTerms.{companion-after}
 
@@ -145,36 +145,47 @@ module _ (p : Promises) where
   at-one : (d : Decision) → height (permitted 0) ≤ height d → 1 ≤ height d
   at-one d h = omega (arith, height-permitted 0)
 
+  -- the order rule, its terms one by one
+  order-no-companion : OrderedIf (λ l₁ q₁ l₂ q₂. NoCompanion (policyOf l₁ .constraints))
+  order-no-companion l₁ l₂ q₁ q₂ d₁ d₂ e₁ e₂ rs cs count same class action source dest on none =
+      p .ordering .order-rule l₁ l₂ q₁ q₂ d₁ d₂ e₁ e₂
+      (record {
+        policy = record { rules = rs; constraints = cs; groups = record { count = count; same = same } };
+        class = class;
+        action = action;
+        source = source;
+        dest = dest;
+        switches = on;
+        companions = inl none;
+      })
+
+  order-same-rules : OrderedIf (λ l₁ q₁ l₂ q₂. Holds (policyOf l₂ .rules) (policyOf l₁ .rules) × (q₁ .switches ≡ q₂ .switches))
+  order-same-rules l₁ l₂ q₁ q₂ d₁ d₂ e₁ e₂ rs cs count same class action source dest on exempt =
+      p .ordering .order-rule l₁ l₂ q₁ q₂ d₁ d₂ e₁ e₂
+      (record {
+        policy = record { rules = rs; constraints = cs; groups = record { count = count; same = same } };
+        class = class;
+        action = action;
+        source = source;
+        dest = dest;
+        switches = on;
+        companions = inr (record { rules = exempt .0; words = exempt .1 });
+      })
+
   unknown-stays : AtLeast 2 (extended sample companion) (query 10 21 5 1)
   unknown-stays d e =
       let l : List ℕ = extended sample companion in
       let h =
-      p .ordering .order-rule l l (query 10 21 5 1) (query 10 21 5 1) (unknown 0 2) d (answers .companied) e
-      (record {
-        policy = record { rules = λ r m. m; constraints = λ r m. m; groups = keeps-same _ };
-        class = refl;
-        action = refl;
-        source = within-refl _;
-        dest = within-refl _;
-        switches = λ k m t. t;
-        companions = inr (record { rules = λ r m. m; words = refl });
-      }) in
+      order-same-rules l l (query 10 21 5 1) (query 10 21 5 1) (unknown 0 2) d (answers .companied) e (λ r m. m) (λ r m. m)
+      (omega arith) (λ g m. refl) refl refl (within-refl _) (within-refl _) (λ k m t. t) (λ r m. m, refl) in
       omega (arith, height-unknown 0 2)
 
   more-switches :
       (l : List ℕ) (s d c a v w : ℕ) (d₁ d₂ : Decision) → answer l (queryOf s d c a v) ≡ gives d₁ → answer l (queryOf s d c a w) ≡ gives d₂
       → ((k : ℕ) → k < 32 → switchOn v k ≡ true → switchOn w k ≡ true) → NoCompanion (policyOf l .constraints) → height d₁ ≤ height d₂
   more-switches l s d c a v w d₁ d₂ e₁ e₂ on none =
-      p .ordering .order-rule l l (queryOf s d c a v) (queryOf s d c a w) d₁ d₂ e₁ e₂
-      (record {
-        policy = record { rules = λ r m. m; constraints = λ r m. m; groups = keeps-same _ };
-        class = refl;
-        action = refl;
-        source = within-refl _;
-        dest = within-refl _;
-        switches = on;
-        companions = inl none;
-      })
+      order-no-companion l l (queryOf s d c a v) (queryOf s d c a w) d₁ d₂ e₁ e₂ (λ r m. m) (λ r m. m)
+      (omega arith) (λ g m. refl) refl refl (within-refl _) (within-refl _) on none
 
   more-constraints :
       (l₁ l₂ : List ℕ) (q : Query) (d₁ d₂ : Decision) (more : List (List ℕ)) → answer l₁ q ≡ gives d₁ → answer l₂ q ≡ gives d₂
@@ -183,20 +194,9 @@ module _ (p : Promises) where
   more-constraints l₁ l₂ q d₁ d₂ more e₁ e₂ g r c =
       let same : (t : ℕ) → within (setOf (policyOf l₂ .groups) t) (setOf (policyOf l₁ .groups) t) ≡ true
       = λ t. subst (λ (gs : List (List ℕ)). within (setOf gs t) (setOf (policyOf l₁ .groups) t) ≡ true) g (within-refl _) in
-      p .ordering .order-rule l₁ l₂ q q d₁ d₂ e₁ e₂
-      (record {
-        policy = record {
-          rules = λ x m. subst (List·Memᴰ x) r m;
-          constraints = λ x m. subst (List·Memᴰ x) (sym c) (Memᴰ·append-left more m);
-          groups = subst (Keeps (policyOf l₁ .groups)) g (keeps-same _);
-        };
-        class = refl;
-        action = refl;
-        source = same (q .source);
-        dest = same (q .dest);
-        switches = λ k m t. t;
-        companions = inr (record { rules = λ x m. subst (List·Memᴰ x) (sym r) m; words = refl });
-      })
+      order-same-rules l₁ l₂ q q d₁ d₂ e₁ e₂ (λ x m. subst (List·Memᴰ x) r m)
+      (λ x m. subst (List·Memᴰ x) (sym c) (Memᴰ·append-left more m)) (omega (arith, ap length g)) (λ i m. ap (λ (gs : List (List ℕ)). getD gs i []) g)
+      refl refl (same (q .source)) (same (q .dest)) (λ k m t. t) (λ x m. subst (List·Memᴰ x) (sym r) m, refl)
 
   same-sets :
       (l : List ℕ) (s s′ d d′ c a w : ℕ) (d₁ d₂ : Decision) → answer l (queryOf s d c a w) ≡ gives d₁ → answer l (queryOf s′ d′ c a w) ≡ gives d₂
@@ -266,6 +266,8 @@ module _ (p : Promises) where
   pub ordering-met : OrderingMet
   ordering-met =
       record {
+        order-no-companion = order-no-companion;
+        order-same-rules = order-same-rules;
         order-met = λ d e. at-one d (p .ordering .order-rule sample _ (query 10 g0 5 1) _ (permitted 0) d (answers .group) e (p .ordering .marked-order .extends));
         new-group-met = λ d e. at-one d (p .ordering .order-rule sample _ (query 10 g0 5 1) _ (permitted 0) d (answers .group) e (p .ordering .marked-order .new-group));
         unknown-stays = unknown-stays;

@@ -5,20 +5,20 @@ use native.Mathlib.Omega.{arith}
 use mathlib.Core.Path.{_≡_, refl, sym, subst, ap, _∙_}
 use mathlib.Core.Bool.{Bool, true, false, not}
 use mathlib.Core.List.{List, [], map, List·Memᴰ}
-use lib.ListN.{length, getD}
+use lib.ListN.{getD}
 use lib.Dec.{eqb}
 use borrow.Author.Tests.{ltb-true, eqb-true, eqb-false}
 use Rattle.format.specs.Bytes.{Bytes}
 use Rattle.format.specs.Policy.{Policy, imageOf, policyOf}
 use Rattle.format.specs.Check.{Accepted}
-use Rattle.format.specs.Answers.{Outcome, gives}
+use Rattle.format.specs.Answers.{gives}
 use Rattle.format.specs.Sample.{sample}
 use Rattle.format.proofs.Tests.{false-not-true}
 use Rattle.decision.specs.declared.Query.{Query}
 use Rattle.decision.specs.Conditions.{switchOn, isOn}
 use Rattle.decision.specs.Decide.{Decision, permitted, decide, answer, queryOf}
 use Rattle.decision.specs.Order.{height, NoCompanion, SwitchedOn}
-use Rattle.decision.specs.Switches.{upTo, withWord, NoSwitches, settledRule, settled, onlyOn, rinse}
+use Rattle.decision.specs.Switches.{upTo, NoSwitches, settledRule, settled, onlyOn, rinse}
 use Rattle.decision.specs.Tepla.{Dcs, forget, evalPolicy}
 use Rattle.decision.proofs.Search.{by-test, member-at, allOf-elim}
 use Rattle.decision.proofs.Above.{height-permitted}
@@ -26,8 +26,8 @@ use Rattle.decision.proofs.Switches.{none-on}
 use Rattle.decision.proofs.Tepla.{forget-permitted}
 use Rattle.runs.proofs.Holds.{map-at}
 use Rattle.claims.specs.Promises.{Promises}
-use Rattle.claims.specs.Terms.{AtLeast, switched, allOn, SwitchingMet}
-use Rattle.claims.proofs.Cases.{SwitchAnswers, switch-answers, word-is, up-to-many, up-to-at, by-switch, all-on, switch-rules, rinse-bytes, settled-in, settled-kind}
+use Rattle.claims.specs.Terms.{AtLeast, allOn, SwitchRows, SwitchingMet}
+use Rattle.claims.proofs.Cases.{switch-rows, word-is, up-to-many, up-to-at, by-switch, all-on, switch-rules, rinse-bytes, settled-in, settled-kind}
 use Rattle.claims.proofs.Worked.{words-said}
 use Rattle.claims.proofs.DecidingTerms.{gives-one}
 
@@ -58,8 +58,8 @@ on-all v k h t =
     allOf-elim (switchOn allOn) all-on m
 
 module _ (p : Promises) where
-  is : SwitchAnswers
-  is = switch-answers (p .switching .switch-cases)
+  is : SwitchRows
+  is = switch-rows (p .switching .switch-cases)
 
   one-on : (k j : ℕ) → k < 32 → j < 32 → isOn (2 ^ k) (2 + j) ≡ eqb k j
   one-on = table-at (λ k j. isOn (2 ^ k) (2 + j)) eqb (p .switching .one-switch .one-on)
@@ -149,11 +149,12 @@ module _ (p : Promises) where
         rinse-off = λ q₁ q₂ q₃ q₄ w. ap (λ (l : List ℕ). answer l (queryOf q₁ q₂ q₃ q₄ w)) (sym (switch-rules .settled-off)) ∙ rinse-settled q₁ q₂ q₃ q₄ 0 w;
         settled-accepted = s .answers-settled .accepted;
         settled-plain = settled-plain;
-        rules-more = λ l v w e h. s .switches-add .grows l v w e h .rules;
+        rules-more = λ l v w e h. (let g = s .switches-add .grows l v w e h in (g .rules, g .constraints, g .groups .count, g .groups .same));
         none-grows = λ l w e. s .switches-add .grows l 0 w e (on-none w);
         all-grows = λ l v e. s .switches-add .grows l v allOn e (on-all v);
         one-rule-more = (switch-rules .three, switch-rules .four);
         as-high = as-high;
+        switches-rise = rises;
         from-none = λ l q₁ q₂ q₃ q₄ w d₁ d₂ e₁ e₂. rises l q₁ q₂ q₃ q₄ 0 w d₁ d₂ e₁ e₂ (on-none w);
         to-all = λ l q₁ q₂ q₃ q₄ v d₁ d₂ e₁ e₂. rises l q₁ q₂ q₃ q₄ v allOn d₁ d₂ e₁ e₂ (on-all v);
         rinse-stays = rinse-stays;
@@ -161,16 +162,7 @@ module _ (p : Promises) where
         words-said = words-said (s .condition-words);
         no-other-word = λ word n h e. (let o = s .condition-words .only word n e in h n (o .0) (o .1));
         no-byte-34 = λ word n h e. (let o = s .condition-words .only word n e in omega (arith, o .0, h));
-        switch-cases-all = is .many;
-        switch-0-on = is .switch-0-on;
-        switch-0-off = is .switch-0-off;
-        switch-31-on = is .switch-31-on;
-        switch-31-off = is .switch-31-off;
-        switched-on = is .switched-on;
-        switched-off = is .switched-off;
-        helped-off = is .helped-off;
-        helped-on = is .helped-on;
-        condition-34 = is .condition-34;
+        switch-rows = is;
         published-on = published _ _ 3 (is .switch-0-on);
         published-off = published _ _ 1 (is .switched-off);
       }

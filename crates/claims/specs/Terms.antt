@@ -4,6 +4,7 @@
 --     query s d c a       a query without a switch on
 --     sampleAnd r         the sample with the record r added
 --     AtLeast n l q       a decision on l is at least so high: 1 is Permitted, 2 UnKnown
+--     OrderedIf terms     the order rule of any two images and queries, its terms written out; `terms` are those about companions
 --     threeQueries        document 01's first, third and fourth query, and what the program prints for them
 --     twoAndPart          two of them, and 11 bytes
 --     byBytes b           reads that bring one byte each
@@ -18,6 +19,7 @@
 --     separated, shared   the sample with document 01's rule that breaks the separation, and the query that it is asked of
 --     switched            the sample with a rule 10 to 30 by switch 5; its separation is false where that rule is on
 --     allOn               the word that has all 32 switches on
+--     SwitchRows          every row of request 6's table by itself
 --     ReadingMet, AddingMet, DecidingMet, OrderingMet, RunningMet, NearingMet, BuildingMet, ReachingMet, SeparatingMet, SwitchingMet,
 --     PrintingMet, CallingMet   by the parts of the statement
 use Prim.Native.Nat.{ℕ, suc, _+_, _*_, _-_, _/_, _%_, _<_, _≤_, _^_}
@@ -65,7 +67,7 @@ use Rattle.decision.specs.Lowest.{Most, Nears}
 use Rattle.decision.specs.Steps.{stepsOf, stepsAt, sourceIn, destIn, off, stepCases}
 use Rattle.decision.specs.Before.{denied, allowed, stopped, answerBefore}
 use Rattle.decision.specs.Separation.{From, FromRecord, Wider, separationWas, answerWas, OneType, Raised, separation, story, elsewhere, sharedCases, wasCases}
-use Rattle.decision.specs.Order.{height, Holds, Keeps, Grows, NoCompanion}
+use Rattle.decision.specs.Order.{height, Keeps, Grows, NoCompanion}
 use Rattle.decision.specs.Switches.{NoSwitches, settledRule, settled, onlyOn, allowIf, rinse, switchCases}
 use Rattle.decision.specs.Growth.{reordered, DecidedAbove}
 use Rattle.decision.specs.Cases.{g0, allow, companion, oneMember, withSpace, extended, cases}
@@ -226,9 +228,26 @@ pub record DecidingMet : Type 0 where
   pub row-by-itself :
       (l b slots : List ℕ) (k : ℕ) → k < rowsIn b (length slots) → getD (answered l b slots) k 0 ≡ getD (answered l (rowAt b k) (0 ∷ [])) 0 0
 
+abbrev pub OrderedIf : (List ℕ → Query → List ℕ → Query → Type 0) → Type 0
+OrderedIf terms =
+    (l₁ l₂ : List ℕ) (q₁ q₂ : Query) (d₁ d₂ : Decision) → answer l₁ q₁ ≡ gives d₁ → answer l₂ q₂ ≡ gives d₂
+    → ((r : List ℕ) → List·Memᴰ r (policyOf l₁ .rules) → List·Memᴰ r (policyOf l₂ .rules))
+    → ((c : List ℕ) → List·Memᴰ c (policyOf l₁ .constraints) → List·Memᴰ c (policyOf l₂ .constraints))
+    → length (policyOf l₁ .groups) ≤ length (policyOf l₂ .groups)
+    → ((g : ℕ) → g < length (policyOf l₁ .groups) → getD (policyOf l₁ .groups) g [] ≡ getD (policyOf l₂ .groups) g [])
+    → q₁ .class ≡ q₂ .class → q₁ .action ≡ q₂ .action
+    → within (setOf (policyOf l₂ .groups) (q₂ .source)) (setOf (policyOf l₁ .groups) (q₁ .source)) ≡ true
+    → within (setOf (policyOf l₂ .groups) (q₂ .dest)) (setOf (policyOf l₁ .groups) (q₁ .dest)) ≡ true
+    → ((k : ℕ) → k < 32 → switchOn (q₁ .switches) k ≡ true → switchOn (q₂ .switches) k ≡ true)
+    → terms l₁ q₁ l₂ q₂ → height d₁ ≤ height d₂
+
 pub record OrderingMet : Type 0 where
-  -- OrderRule: a rule added, and a member of the group for the group, under no switch and under switch 0; a new group for it; what is
-  -- UnKnown with a companion stays so
+  -- OrderRule, with all its terms and no other: without a companion, and with the same rules and equal words
+  pub order-no-companion : OrderedIf (λ l₁ q₁ l₂ q₂. (c : List ℕ) → List·Memᴰ c (policyOf l₁ .constraints) → getD c 10 0 ≡ 3 → ⊥)
+  pub order-same-rules :
+      OrderedIf (λ l₁ q₁ l₂ q₂. ((r : List ℕ) → List·Memᴰ r (policyOf l₂ .rules) → List·Memᴰ r (policyOf l₁ .rules)) × (q₁ .switches ≡ q₂ .switches))
+  -- what meets them: a rule added, and a member of the group for the group, under no switch and under switch 0; a new group for it;
+  -- what is UnKnown with a companion stays so
   pub order-met : AtLeast 1 (sampleAnd (allow 14 g0 7 7)) (queryOf 10 21 5 1 1)
   pub new-group-met : AtLeast 1 (sampleAnd oneMember) (query 10 0x8001 5 1)
   pub unknown-stays : AtLeast 2 (sampleAnd companion) (query 10 21 5 1)
@@ -732,6 +751,34 @@ pub record SeparatingMet : Type 0 where
 abbrev pub allOn : ℕ
 allOn = 4294967295
 
+pub record SwitchRows : Type 0 where
+  pub many : length switchCases ≡ 25
+  pub switch-0-none : answer (rinse 2) (queryOf 13 21 5 1 0) ≡ gives (notPermitted (Near 1 0))
+  pub switch-0-on : answer (rinse 2) (queryOf 13 21 5 1 1) ≡ gives (permitted 3)
+  pub switch-0-off : answer (rinse 2) (queryOf 13 21 5 1 2) ≡ gives (notPermitted (Near 1 0))
+  pub switch-1-on : answer (rinse 3) (queryOf 13 21 5 1 2) ≡ gives (permitted 3)
+  pub switch-1-off : answer (rinse 3) (queryOf 13 21 5 1 1) ≡ gives (notPermitted (Near 1 0))
+  pub switch-16-on : answer (rinse 18) (queryOf 13 21 5 1 0x10000) ≡ gives (permitted 3)
+  pub switch-16-off : answer (rinse 18) (queryOf 13 21 5 1 0xFFFEFFFF) ≡ gives (notPermitted (Near 1 0))
+  pub switch-31-on : answer (rinse 33) (queryOf 13 21 5 1 0x80000000) ≡ gives (permitted 3)
+  pub switch-31-off : answer (rinse 33) (queryOf 13 21 5 1 0x7FFFFFFF) ≡ gives (notPermitted (Near 1 0))
+  pub switch-15-all : answer (rinse 17) (queryOf 13 21 5 1 allOn) ≡ gives (permitted 3)
+  pub near-on : answer (rinse 2) (queryOf 13 21 5 2 1) ≡ gives (notPermitted (Near 4 3))
+  pub near-off : answer (rinse 2) (queryOf 13 21 5 2 0) ≡ gives (notPermitted (Near 1 0))
+  pub on-none : answer sample (queryOf 10 21 5 1 0) ≡ gives (permitted 0)
+  pub on-all : answer sample (queryOf 10 21 5 1 allOn) ≡ gives (permitted 0)
+  pub off-all : answer sample (queryOf 13 21 5 1 allOn) ≡ gives (notPermitted (Near 1 0))
+  pub transition-none : answer sample (queryOf 12 20 9 9 0) ≡ gives (permitted 2)
+  pub transition-all : answer sample (queryOf 12 20 9 9 allOn) ≡ gives (permitted 2)
+  pub switched-on : answer switched (queryOf 20 30 5 2 32) ≡ gives (unknown 1 1)
+  pub switched-off : answer switched (queryOf 20 30 5 2 31) ≡ gives (permitted 1)
+  pub roster-on : answer (sampleAnd (allowIf 7 (allow 14 g0 7 7))) (queryOf 10 21 5 1 32) ≡ gives (unknown 0 0)
+  pub roster-off : answer (sampleAnd (allowIf 7 (allow 14 g0 7 7))) (queryOf 10 21 5 1 31) ≡ gives (permitted 0)
+  pub helped-off : answer (extended (sampleAnd companion) (allowIf 7 (allow 21 10 5 9))) (queryOf 10 21 5 1 31) ≡ gives (unknown 0 2)
+  pub helped-on : answer (extended (sampleAnd companion) (allowIf 7 (allow 21 10 5 9))) (queryOf 10 21 5 1 32) ≡ gives (permitted 0)
+  pub condition-34 : answer (rinse 34) (queryOf 10 21 5 1 0) ≡ refused (refusal 6 55)
+  pub condition-255 : answer (rinse 255) (queryOf 10 21 5 1 0) ≡ refused (refusal 6 55)
+
 pub record SwitchingMet : Type 0 where
   -- ConditionMeans: 0 and 1 under every word; a switch's by the word divided by 2^k, rounded down, both ways; without a switch on
   pub byte-0 : (w : ℕ) → isOn w 0 ≡ false
@@ -758,17 +805,24 @@ pub record SwitchingMet : Type 0 where
   pub rinse-off : (s d c a w : ℕ) → answer sample (queryOf s d c a w) ≡ answer (rinse 2) (queryOf s d c a 0)
   pub settled-accepted : (l : List ℕ) (w : ℕ) → Bytes l → Accepted l → Accepted (imageOf (settled w (policyOf l)))
   pub settled-plain : (p : Policy) (w : ℕ) (r : List ℕ) → List·Memᴰ r (p .rules) → getD r 1 0 ≡ 2 → getD (settledRule w r) 10 0 ≤ 1
-  -- SwitchesAdd: any switches more, from none and to all; rule 3 of the sample by switch 0 is one rule more; the decision by the rules
-  -- that are on, in numbers
+  -- SwitchesAdd, with all that it says: any switches more, of any image; from none and to all; rule 3 of the sample by switch 0 is one
+  -- rule more; the decision by the rules that are on, in numbers
   pub rules-more :
       (l : List ℕ) (v w : ℕ) → Accepted l → ((k : ℕ) → k < 32 → switchOn v k ≡ true → switchOn w k ≡ true)
-      → Holds (onlyOn v (policyOf l) .rules) (onlyOn w (policyOf l) .rules)
+      → ((r : List ℕ) → List·Memᴰ r (onlyOn v (policyOf l) .rules) → List·Memᴰ r (onlyOn w (policyOf l) .rules))
+      × ((c : List ℕ) → List·Memᴰ c (onlyOn v (policyOf l) .constraints) → List·Memᴰ c (onlyOn w (policyOf l) .constraints))
+      × (length (onlyOn v (policyOf l) .groups) ≤ length (onlyOn w (policyOf l) .groups))
+      × ((g : ℕ) → g < length (onlyOn v (policyOf l) .groups) → getD (onlyOn v (policyOf l) .groups) g [] ≡ getD (onlyOn w (policyOf l) .groups) g [])
   pub none-grows : (l : List ℕ) (w : ℕ) → Accepted l → Grows (onlyOn 0 (policyOf l)) (onlyOn w (policyOf l))
   pub all-grows : (l : List ℕ) (v : ℕ) → Accepted l → Grows (onlyOn v (policyOf l)) (onlyOn allOn (policyOf l))
   pub one-rule-more : (length (onlyOn 0 (policyOf (rinse 2)) .rules) ≡ 3) × (length (onlyOn 1 (policyOf (rinse 2)) .rules) ≡ 4)
   pub as-high :
       (p : Policy) (s d c a v w : ℕ) → height (decide (onlyOn v p) (queryOf s d c a w)) ≡ height (decide p (queryOf s d c a v))
-  -- SwitchOrder: from no switch on, to all on; what switch 0 lets through stays so, whatever else is on
+  -- SwitchOrder, with all its terms and no other; from no switch on, to all on; what switch 0 lets through stays so, whatever else is on
+  pub switches-rise :
+      (l : List ℕ) (s d c a v w : ℕ) (d₁ d₂ : Decision) → answer l (queryOf s d c a v) ≡ gives d₁ → answer l (queryOf s d c a w) ≡ gives d₂
+      → ((k : ℕ) → k < 32 → switchOn v k ≡ true → switchOn w k ≡ true)
+      → ((r : List ℕ) → List·Memᴰ r (policyOf l .constraints) → getD r 10 0 ≡ 3 → ⊥) → height d₁ ≤ height d₂
   pub from-none :
       (l : List ℕ) (s d c a w : ℕ) (d₁ d₂ : Decision) → answer l (queryOf s d c a 0) ≡ gives d₁ → answer l (queryOf s d c a w) ≡ gives d₂
       → NoCompanion (policyOf l .constraints) → height d₁ ≤ height d₂
@@ -784,17 +838,8 @@ pub record SwitchingMet : Type 0 where
   pub no-other-word :
       (word : List ℕ) (n : ℕ) → ((k : ℕ) → k ≤ 33 → word ≡ conditionWord k → ⊥) → valueOf Condition word ≡ some n → ⊥
   pub no-byte-34 : (word : List ℕ) (n : ℕ) → 34 ≤ n → valueOf Condition word ≡ some n → ⊥
-  -- SwitchCases: all of them; a rule by switch 0 and by switch 31, on and off; a companion that a switch helps; condition 34
-  pub switch-cases-all : length switchCases ≡ 25
-  pub switch-0-on : answer (rinse 2) (queryOf 13 21 5 1 1) ≡ gives (permitted 3)
-  pub switch-0-off : answer (rinse 2) (queryOf 13 21 5 1 2) ≡ gives (notPermitted (Near 1 0))
-  pub switch-31-on : answer (rinse 33) (queryOf 13 21 5 1 0x80000000) ≡ gives (permitted 3)
-  pub switch-31-off : answer (rinse 33) (queryOf 13 21 5 1 0x7FFFFFFF) ≡ gives (notPermitted (Near 1 0))
-  pub switched-on : answer switched (queryOf 20 30 5 2 32) ≡ gives (unknown 1 1)
-  pub switched-off : answer switched (queryOf 20 30 5 2 31) ≡ gives (permitted 1)
-  pub helped-off : answer (extended (sampleAnd companion) (allowIf 7 (allow 21 10 5 9))) (queryOf 10 21 5 1 31) ≡ gives (unknown 0 2)
-  pub helped-on : answer (extended (sampleAnd companion) (allowIf 7 (allow 21 10 5 9))) (queryOf 10 21 5 1 32) ≡ gives (permitted 0)
-  pub condition-34 : answer (rinse 34) (queryOf 10 21 5 1 0) ≡ refused (refusal 6 55)
+  -- SwitchCases: every row
+  pub switch-rows : SwitchRows
   -- PublishedAnswer: under a word
   pub published-on : evalPolicy (policyOf (rinse 2)) (queryOf 13 21 5 1 1) ≡ Dcs.Permitted
   pub published-off : evalPolicy (policyOf switched) (queryOf 20 30 5 2 31) ≡ Dcs.Permitted

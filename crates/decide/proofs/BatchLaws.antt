@@ -18,8 +18,8 @@ use Rattle.runs.specs.declared.Run.{Run}
 use Rattle.runs.specs.Runs.{rowsFault, answerOf, rowAnswer}
 use Rattle.runs.specs.Inner.Progress.{openFault, runSaid, nextRun}
 use Rattle.runs.proofs.Holds.{said-answer}
-use Rattle.decide.specs.declared.steps.Step.{Step}
-use Rattle.decide.specs.Inner.Steps.{stepOf}
+use Rattle.decide.specs.declared.steps.Progress.{Progress}
+use Rattle.decide.specs.Inner.Steps.{Stepped}
 
 -- an accepted image: what is left is the run's own refusal
 pub opened : (x : Sections) (s : _) (n : ℕ) (fits : Bool) (f : Option Refusal) → sections.At s ≡ x → rowsFault n fits ≡ f → runSaid f ≡ runSaid (openFault (sectionsOutcome x) n fits)
@@ -32,7 +32,7 @@ opened-refused x f n fits e = sym (ap (λ y. runSaid (openFault (sectionsOutcome
 pub next-is : (r r′ : Run) (i : ℕ) (a a′ : Answer) → r ≡ r′ → a ≡ a′ → nextRun r′ i a′ ≡ nextRun r i a
 next-is r r′ i a a′ e h = sym (ap₂ (λ x y. nextRun x i y) e h)
 
-pub step-is : (l : List ℕ) (q : Query) (r : Run) (i : ℕ) (a : Answer) (s : Run) → answerOutcome a ≡ answer l q → s ≡ nextRun r i a → _≡_ {A = Step} (record { answer = a; run = s }) (stepOf l q r i)
-step-is l q r i a s e h =
+pub step-is : (l : List ℕ) (q : Query) (r : Run) (i : ℕ) (a : Answer) (p : Progress) → answerOutcome a ≡ answer l q → p .run ≡ nextRun r i a → Stepped l q r i (record { answer = a; progress = p })
+step-is l q r i a p e h =
     let k : a ≡ rowAnswer l q = said-answer l q a e in
-    ap (λ (s : Run). record { answer = a; run = s }) h ∙ ap (λ (a : Answer). record { answer = a; run = nextRun r i a }) k
+    record { answer = k; run = h ∙ ap (nextRun r i) k }

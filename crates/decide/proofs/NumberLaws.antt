@@ -14,12 +14,13 @@ use lib.ListN.{length, getD, set, length-map, List·getD-map}
 use lib.Dec.{eqb}
 use Rattle.format.specs.declared.Refusal.{Refusal}
 use Rattle.decision.specs.declared.Query.{Query}
+use Rattle.decision.specs.declared.Answer.{Answer}
 use Rattle.decision.specs.Decide.{answerOutcome, queryOf}
 use Rattle.decision.specs.Numbers.{decisionCode}
 use Rattle.runs.specs.declared.Run.{Run}
-use Rattle.runs.specs.Runs.{runFault}
+use Rattle.runs.specs.Runs.{runFault, rowAnswer}
 use Rattle.runs.specs.Numbers.{rowsOf, numbersFault, rowCode}
-use Rattle.runs.specs.Inner.Progress.{runSaid, rowsFor, rowAt}
+use Rattle.runs.specs.Inner.Progress.{runSaid, rowsFor, nextRun, rowAt}
 use Rattle.runs.proofs.Fill.{fill, fill-next}
 use Rattle.runs.proofs.Faults.{numbers-fault, same-count, few-numbers}
 use Rattle.runs.proofs.Holds.{answer-code}
@@ -27,7 +28,7 @@ use Rattle.runs.proofs.Numbered.{row-at, rows-many, row-inside}
 use Rattle.runs.proofs.Progress.{outAt, out-next, rows-most, rows-decided}
 use Rattle.decide.specs.declared.steps.Begun.{Begun}
 use Rattle.decide.specs.declared.steps.Step.{Step}
-use Rattle.decide.specs.Inner.Steps.{Begins, stepOf}
+use Rattle.decide.specs.Inner.Steps.{Begins, Stepped}
 
 abbrev noQuery : Query
 noQuery = queryOf 0 0 0 0 0
@@ -66,17 +67,17 @@ module _ (l ns ys : List ℕ) where
     pub row-numbers : 6 * i + 5 < length ns
     row-numbers = row-inside ns i row-in
 
-    module _ (q : Query) (s : Step) (a : q ≡ rowAt ns i) (z : s ≡ stepOf l q (out i) i) where
+    module _ (q : Query) (s : Step) (a : q ≡ rowAt ns i) (z : Stepped l q (out i) i s) where
       asked : q ≡ getD (rowsOf ns) i noQuery
       asked = a ∙ sym (row-at ns i noQuery row-in)
 
-      pub row-run : s .run ≡ out (i + 1)
+      pub row-run : s .progress .run ≡ out (i + 1)
       row-run =
-          ap (λ (x : Step). x .run) z ∙ ap (λ (x : Query). stepOf l x (out i) i .run) asked ∙ out-next l fault (rowsOf ns) i noQuery row-in ∙ ap out (sym (add-one i))
+          z .run ∙ ap (λ (x : Query). nextRun (out i) i (rowAnswer l x)) asked ∙ out-next l fault (rowsOf ns) i noQuery row-in ∙ ap out (sym (add-one i))
 
       pub row-code : (c : ℕ) → c ≡ decisionCode (answerOutcome (s .answer)) → (zs : List ℕ) → zs ≡ fill codes ys i → set zs i c ≡ fill codes ys (i + 1)
       row-code c w zs y =
-          let v : c ≡ rowCode l (getD (rowsOf ns) i noQuery) = w ∙ ap (λ (x : Step). decisionCode (answerOutcome (x .answer))) z ∙ answer-code l q ∙ ap (rowCode l) asked in
+          let v : c ≡ rowCode l (getD (rowsOf ns) i noQuery) = w ∙ ap (λ (x : Answer). decisionCode (answerOutcome x)) (z .answer) ∙ answer-code l q ∙ ap (rowCode l) asked in
           ap (λ (x : List ℕ). set x i c) y
           ∙ ap (set (fill codes ys i) i) (v ∙ sym (List·getD-map (rowCode l) (rowsOf ns) i noQuery))
           ∙ fill-next codes ys i (rowCode l noQuery) (subst (λ n. i < n) (sym (length-map (rowsOf ns) (rowCode l))) row-in) row-slot

@@ -1,5 +1,5 @@
 // A run: many queries on one policy, each decided as the single query is. The image is checked once, and what does not depend
-// on the row is found once: the groups' places, and what the rules say of each constraint.
+// on the row is found once: the groups' places, and what the rules say of each constraint under the rows' word.
 use crate::steps::begin;
 use crate::steps::begin_queries;
 use crate::steps::decide_row;
@@ -23,10 +23,10 @@ pub fn run(image: &[u8], queries: &[Query], answers: &mut [Answer]) -> Run
 {
     let begun = begin_queries(image, queries.len(), answers.len());
     let rows = begun.rows;
-    let mut run = begun.run;
+    let mut progress = begun.progress;
     let sections = begun.sections;
     let groups = begun.groups;
-    let mut verdicts = [0u8; 261];
+    let mut verdicts = [0u8; 256];
     let mut source = [false; 1024];
     let mut dest = [false; 1024];
     let mut i = 0;
@@ -39,14 +39,14 @@ pub fn run(image: &[u8], queries: &[Query], answers: &mut [Answer]) -> Run
             &mut verdicts,
             &mut source,
             &mut dest,
-            run,
+            progress,
             i,
         );
         answers[i] = s.answer;
-        run = s.run;
+        progress = s.progress;
         i += 1;
     }
-    run
+    progress.run
 }
 
 // A word from its two halves.
@@ -88,10 +88,10 @@ pub fn run_numbers(image: &[u8], queries: &[u16], answers: &mut [u64]) -> Run
     let fits = six_each(queries.len(), answers.len());
     let begun = begin(image, queries.len() / 6, fits);
     let rows = begun.rows;
-    let mut run = begun.run;
+    let mut progress = begun.progress;
     let sections = begun.sections;
     let groups = begun.groups;
-    let mut verdicts = [0u8; 261];
+    let mut verdicts = [0u8; 256];
     let mut source = [false; 1024];
     let mut dest = [false; 1024];
     let mut i: usize = 0;
@@ -105,13 +105,13 @@ pub fn run_numbers(image: &[u8], queries: &[u16], answers: &mut [u64]) -> Run
             &mut verdicts,
             &mut source,
             &mut dest,
-            run,
+            progress,
             i,
         );
         let a = s.answer;
         answers[i] = number(a);
-        run = s.run;
+        progress = s.progress;
         i += 1;
     }
-    run
+    progress.run
 }

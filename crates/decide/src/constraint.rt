@@ -1,12 +1,11 @@
 // Whether a constraint applies and fails, and the lowest that does.
 use crate::cover::Found;
 use crate::kept::inside;
+use crate::kept::keep;
 use crate::predicates::any_rule;
 use crate::separation::any_shared;
 use crate::sets::mark_at;
 use crate::sets::mark_types;
-use crate::verdicts::keep_verdict;
-use crate::verdicts::recall;
 use crate::word::wide;
 use crate::word::wide_word;
 use crate::word::word_in;
@@ -17,7 +16,7 @@ ghost use mathlib.Core.Path.{_≡_};
 ghost use Rattle.decision.specs.Decide.{separationBroken, rosterBroken, companionBroken, broken, fails};
 ghost use Rattle.decide.specs.Inner.Parts.{Ready, ConstraintHere, NthConstraint, rulesIn, constraintIn, requestIn};
 ghost use Rattle.decide.specs.Inner.Kept.{Sides, Leaves};
-ghost use Rattle.decide.specs.Inner.Verdicts.{KeptVerdicts, HeldFor};
+ghost use Rattle.decide.specs.Inner.Verdicts.{KeptVerdicts};
 ghost use Rattle.decide.specs.Inner.Rules.{firstConstraint};
 
 // Whether the separation at a place is broken under a switch word.
@@ -73,7 +72,7 @@ fn predicate_broken(image: &[u8], groups: &[u16; 256], s: Starts, at: usize, swi
 }
 
 // Whether constraint n, at a place, applies to the query and fails. Class and action are tested first, then the arguments, with
-// what is found of their groups kept, and the rules last, with the verdict kept, so that they are asked once for each.
+// what is found of their groups kept, and the rules last, with the verdict kept, so that they are asked once for a word.
 fn constraint_fails(
     image: &[u8],
     groups: &[u16; 256],
@@ -87,13 +86,13 @@ fn constraint_fails(
     at: usize,
     ksource: &mut [u8; 256],
     kdest: &mut [u8; 256],
-    verdicts: &mut [u8; 261],
+    verdicts: &mut [u8; 256],
 ) -> bool
     requires { ⌜ Ready (now image) (now groups) s × Sides (now image) q (now source) sources (now dest) dests (now ksource) (now kdest)
-        × NthConstraint (now image) n at × HeldFor (now image) (q .switches) (now verdicts) ⌝ }
+        × NthConstraint (now image) n at × KeptVerdicts (now image) (q .switches) (now verdicts) ⌝ }
     ensures { λ r. ⌜ Leaves (fails (rulesIn (now (image .entry)) (q .switches)) (requestIn (now (image .entry)) q) (constraintIn (now (image .entry)) at))
         (Sides (now (image .entry)) q (now (source .entry)) sources (now (dest .entry)) dests (now (ksource .exit)) (now (kdest .exit))
-        × HeldFor (now (image .entry)) (q .switches) (now (verdicts .exit))) r ⌝ }
+        × KeptVerdicts (now (image .entry)) (q .switches) (now (verdicts .exit))) r ⌝ }
 {
     if word_in(image, at + 2) != wide_word(q.class) {
         return false;
@@ -112,10 +111,10 @@ fn constraint_fails(
         return k == 2;
     }
     let found = predicate_broken(image, groups, s, at, q.switches);
-    keep_verdict(verdicts, n, found)
+    keep(verdicts, n, found)
 }
 
-// The lowest constraint that applies to the query and fails. What is kept of verdicts is first made right for the query's word.
+// The lowest constraint that applies to the query and fails.
 pub(crate) fn first_constraint(
     image: &[u8],
     groups: &[u16; 256],
@@ -127,13 +126,12 @@ pub(crate) fn first_constraint(
     dests: usize,
     ksource: &mut [u8; 256],
     kdest: &mut [u8; 256],
-    verdicts: &mut [u8; 261],
+    verdicts: &mut [u8; 256],
 ) -> Found
     requires { ⌜ Ready (now image) (now groups) s × Sides (now image) q (now source) sources (now dest) dests (now ksource) (now kdest)
-        × KeptVerdicts (now image) (now verdicts) ⌝ }
-    ensures { λ r. ⌜ Leaves (firstConstraint (now (image .entry)) q) (KeptVerdicts (now (image .entry)) (now (verdicts .exit))) r ⌝ }
+        × KeptVerdicts (now image) (q .switches) (now verdicts) ⌝ }
+    ensures { λ r. ⌜ Leaves (firstConstraint (now (image .entry)) q) (KeptVerdicts (now (image .entry)) (q .switches) (now (verdicts .exit))) r ⌝ }
 {
-    recall(image, groups, s, verdicts, q.switches);
     let count = word_in(image, header::CONSTRAINTS_AT);
     let mut at = s.constraints;
     let mut n: usize = 0;

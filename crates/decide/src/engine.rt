@@ -35,13 +35,13 @@ fn judge_marked(
     sources: usize,
     dest: &[bool; 1024],
     dests: usize,
-    verdicts: &mut [u8; 261],
+    verdicts: &mut [u8; 256],
 ) -> Answer
     requires { ⌜ Ready (now image) (now groups) s × deciding.Valid (now image) q
         × Marked (setIn (now image) (q .source)) (now source) sources
-        × Marked (setIn (now image) (q .dest)) (now dest) dests × KeptVerdicts (now image) (now verdicts) ⌝ }
+        × Marked (setIn (now image) (q .dest)) (now dest) dests × KeptVerdicts (now image) (q .switches) (now verdicts) ⌝ }
     ensures { λ r. ⌜ Leaves (gives (deciding.decide (policyOf (now (image .entry))) q))
-        (KeptVerdicts (now (image .entry)) (now (verdicts .exit))) (deciding.answerOutcome r) ⌝ }
+        (KeptVerdicts (now (image .entry)) (q .switches) (now (verdicts .exit))) (deciding.answerOutcome r) ⌝ }
 {
     let mut ksource = [0u8; 256];
     let mut kdest = [0u8; 256];
@@ -95,14 +95,14 @@ fn judge(
     groups: &[u16; 256],
     s: Starts,
     q: Query,
-    verdicts: &mut [u8; 261],
+    verdicts: &mut [u8; 256],
     source: &mut [bool; 1024],
     dest: &mut [bool; 1024],
 ) -> Answer
     requires { ⌜ Ready (now image) (now groups) s × deciding.Valid (now image) q
-        × Tables (now image) (now verdicts) (now source) (now dest) ⌝ }
+        × Tables (now image) (q .switches) (now verdicts) (now source) (now dest) ⌝ }
     ensures { λ r. ⌜ Leaves (gives (deciding.decide (policyOf (now (image .entry))) q))
-        (Tables (now (image .entry)) (now (verdicts .exit)) (now (source .exit)) (now (dest .exit))) (deciding.answerOutcome r) ⌝ }
+        (Tables (now (image .entry)) (q .switches) (now (verdicts .exit)) (now (source .exit)) (now (dest .exit))) (deciding.answerOutcome r) ⌝ }
 {
     let from = wide_word(q.source);
     let to = wide_word(q.dest);
@@ -114,20 +114,20 @@ fn judge(
     answer
 }
 
-// The engine's answer on an image that `survey` has checked, with what it gave. Three tables serve for every query on the image:
-// what is found of constraints, of zeros at first, and marks, of which none is set.
+// The engine's answer on an image that `survey` has checked, with what it gave. Three tables serve for every query on the image
+// under one word: what is found of constraints, of zeros at first, and marks, of which none is set.
 pub(crate) fn decide_surveyed(
     image: &[u8],
     groups: &[u16; 256],
     sections: Sections,
     q: Query,
-    verdicts: &mut [u8; 261],
+    verdicts: &mut [u8; 256],
     source: &mut [bool; 1024],
     dest: &mut [bool; 1024],
 ) -> Answer
-    requires { ⌜ Surveyed (now image) (now groups) sections × Tables (now image) (now verdicts) (now source) (now dest) ⌝ }
+    requires { ⌜ Surveyed (now image) (now groups) sections × Tables (now image) (q .switches) (now verdicts) (now source) (now dest) ⌝ }
     ensures { λ r. ⌜ Leaves (deciding.answer (now (image .entry)) q)
-        (Tables (now (image .entry)) (now (verdicts .exit)) (now (source .exit)) (now (dest .exit))) (deciding.answerOutcome r) ⌝ }
+        (Tables (now (image .entry)) (q .switches) (now (verdicts .exit)) (now (source .exit)) (now (dest .exit))) (deciding.answerOutcome r) ⌝ }
 {
     match sections {
         Sections::Refused(f) => Answer::Refused(f),
@@ -156,7 +156,7 @@ pub fn decide(image: &[u8], q: Query) -> Answer
 {
     let mut groups = [0u16; 256];
     let sections = survey(image, &mut groups);
-    let mut verdicts = [0u8; 261];
+    let mut verdicts = [0u8; 256];
     let mut source = [false; 1024];
     let mut dest = [false; 1024];
     decide_surveyed(

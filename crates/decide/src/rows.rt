@@ -1,5 +1,7 @@
 // Many queries at once: rows of 12 bytes, and a slot for the number of each answer.
 use crate::engine::decide_surveyed;
+use crate::verdicts::Held;
+use crate::verdicts::recall;
 use decision::Query;
 use format::Sections;
 use image::survey;
@@ -12,8 +14,7 @@ ghost use Rattle.decision.specs.Decide.{answer};
 ghost use Rattle.decision.specs.Numbers.{decisionCode};
 ghost use Rattle.decision.specs.Rows.{longAt, queryAt, rowsIn, answered};
 ghost use Rattle.decide.specs.Inner.Parts.{Surveyed};
-ghost use Rattle.decide.specs.Inner.Kept.{Leaves};
-ghost use Rattle.decide.specs.Inner.Verdicts.{Tables};
+ghost use Rattle.decide.specs.Inner.Verdicts.{RowTables};
 
 // The 4-byte number at a place that has four bytes.
 fn long_at(bytes: &[u8], at: usize) -> u32
@@ -39,28 +40,41 @@ fn query_at(queries: &[u8], at: usize) -> Query
     }
 }
 
-// The number of the answer to the row at a place.
+// The number of a row's answer, and the word that the verdicts are right for after it.
+pub(crate) struct Told {
+    pub number: u64,
+    pub held: Held,
+}
+
+// The row at a place.
 fn row(
     image: &[u8],
     groups: &[u16; 256],
     sections: Sections,
     queries: &[u8],
     at: usize,
-    verdicts: &mut [u8; 261],
+    verdicts: &mut [u8; 256],
     source: &mut [bool; 1024],
     dest: &mut [bool; 1024],
-) -> u64
-    requires { ⌜ Surveyed (now image) (now groups) sections × Tables (now image) (now verdicts) (now source) (now dest)
-        × (at + 11 < length (now queries)) ⌝ }
-    ensures { λ r. ⌜ Leaves (decisionCode (answer (now (image .entry)) (queryAt (now (queries .entry)) at)))
-        (Tables (now (image .entry)) (now (verdicts .exit)) (now (source .exit)) (now (dest .exit))) r ⌝ }
+    before: Held,
+) -> Told
+    requires { ⌜ Surveyed (now image) (now groups) sections
+        × RowTables (now image) before (now verdicts) (now source) (now dest) × (at + 11 < length (now queries)) ⌝ }
+    ensures { λ r. ⌜ (r .number ≡ decisionCode (answer (now (image .entry)) (queryAt (now (queries .entry)) at)))
+        × RowTables (now (image .entry)) (r .held) (now (verdicts .exit)) (now (source .exit)) (now (dest .exit)) ⌝ }
 {
     let q = query_at(queries, at);
-    number(decide_surveyed(image, groups, sections, q, verdicts, source, dest))
+    let held = recall(image, groups, sections, verdicts, before, q.switches);
+    let answer = decide_surveyed(image, groups, sections, q, verdicts, source, dest);
+    Told {
+        number: number(answer),
+        held,
+    }
 }
 
 // Answers as many whole rows as there are slots, and tells how many. Every other slot stays as it is. A refused image gives its
-// refusal in the slot of each row. The image is checked once, and each constraint asks the rules at most once.
+// refusal in the slot of each row. The image is checked once, and each constraint asks the rules at most once; where a rule names
+// a switch, at most once for each change of the word.
 pub fn decide_all(image: &[u8], queries: &[u8], answers: &mut [u64]) -> usize
     ensures { λ r. ⌜ r ≡ rowsIn (now (queries .entry)) (length (now (answers .entry))) ⌝ }
     ensures { λ _. ⌜ now (answers .exit) ≡ answered (now (image .entry)) (now (queries .entry)) (now (answers .entry)) ⌝ }
@@ -68,14 +82,15 @@ pub fn decide_all(image: &[u8], queries: &[u8], answers: &mut [u64]) -> usize
     let rows = queries.len() / 12;
     let mut groups = [0u16; 256];
     let sections = survey(image, &mut groups);
-    let mut verdicts = [0u8; 261];
+    let mut verdicts = [0u8; 256];
     let mut source = [false; 1024];
     let mut dest = [false; 1024];
+    let mut held = Held { word: 0, known: 0 };
     for k in 0..answers.len() {
         if rows <= k {
             return rows;
         }
-        answers[k] = row(
+        let r = row(
             image,
             &groups,
             sections,
@@ -84,7 +99,10 @@ pub fn decide_all(image: &[u8], queries: &[u8], answers: &mut [u64]) -> usize
             &mut verdicts,
             &mut source,
             &mut dest,
+            held,
         );
+        answers[k] = r.number;
+        held = r.held;
     }
     answers.len()
 }

@@ -1,5 +1,7 @@
 // The steps of a run: what it begins with, and each of its rows.
 use crate::engine::decide_surveyed;
+use crate::verdicts::Held;
+use crate::verdicts::recall;
 use decision::Answer;
 use decision::Query;
 use format::Refusal;
@@ -11,15 +13,20 @@ ghost use Rattle.format.specs.Answers.{sectionsOutcome};
 ghost use Rattle.runs.specs.Runs.{runFault, queriesFault};
 ghost use Rattle.runs.specs.Inner.Progress.{openFault, runSaid, rowsFor, nextRun};
 ghost use Rattle.decide.specs.Inner.Parts.{Surveyed};
-ghost use Rattle.decide.specs.Inner.Kept.{Leaves};
-ghost use Rattle.decide.specs.Inner.Verdicts.{Tables};
-ghost use Rattle.decide.specs.Inner.Steps.{Begins, stepOf};
+ghost use Rattle.decide.specs.Inner.Verdicts.{RowTables};
+ghost use Rattle.decide.specs.Inner.Steps.{Begins, Stepped};
+
+// What a run comes to so far, and the word that the verdicts kept in it are right for.
+pub(crate) struct Progress {
+    pub run: Run,
+    pub held: Held,
+}
 
 // What a run begins with: how many rows are decided, what it comes to before the first of them, and the policy as the check
 // leaves it.
 pub(crate) struct Begun {
     pub rows: usize,
-    pub run: Run,
+    pub progress: Progress,
     pub sections: Sections,
     pub groups: [u16; 256],
 }
@@ -27,7 +34,7 @@ pub(crate) struct Begun {
 // A row's answer, and what the run comes to after it.
 pub(crate) struct Step {
     pub answer: Answer,
-    pub run: Run,
+    pub progress: Progress,
 }
 
 // What a run comes to before its first row. The refusals in their order: the image's, then 16, then 17.
@@ -80,7 +87,10 @@ pub(crate) fn begin(image: &[u8], rows: usize, fits: bool) -> Begun
     let run = opening(sections, rows, fits);
     Begun {
         rows: decided(run, rows),
-        run,
+        progress: Progress {
+            run,
+            held: Held { word: 0, known: 0 },
+        },
         sections,
         groups,
     }
@@ -115,19 +125,25 @@ pub(crate) fn decide_row(
     groups: &[u16; 256],
     sections: Sections,
     q: Query,
-    verdicts: &mut [u8; 261],
+    verdicts: &mut [u8; 256],
     source: &mut [bool; 1024],
     dest: &mut [bool; 1024],
-    run: Run,
+    progress: Progress,
     i: usize,
 ) -> Step
-    requires { ⌜ Surveyed (now image) (now groups) sections × Tables (now image) (now verdicts) (now source) (now dest) ⌝ }
-    ensures { λ r. ⌜ Leaves (stepOf (now (image .entry)) q run i)
-        (Tables (now (image .entry)) (now (verdicts .exit)) (now (source .exit)) (now (dest .exit))) r ⌝ }
+    requires { ⌜ Surveyed (now image) (now groups) sections
+        × RowTables (now image) (progress .held) (now verdicts) (now source) (now dest) ⌝ }
+    ensures { λ r. ⌜ Stepped (now (image .entry)) q (progress .run) i r
+        × RowTables (now (image .entry)) (r .progress .held) (now (verdicts .exit)) (now (source .exit)) (now (dest .exit)) ⌝ }
 {
+    let run = progress.run;
+    let held = recall(image, groups, sections, verdicts, progress.held, q.switches);
     let answer = decide_surveyed(image, groups, sections, q, verdicts, source, dest);
     Step {
         answer,
-        run: next(run, i, answer),
+        progress: Progress {
+            run: next(run, i, answer),
+            held,
+        },
     }
 }

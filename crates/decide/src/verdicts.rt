@@ -1,53 +1,22 @@
-// What is found of constraints, kept from query to query: 1 for a predicate that the rules do not break, 2 for one that they do, 0
-// where they were not asked. It is right for one switch word, whose four bytes stand behind the 256 of the constraints, and with it
-// what is known of the switches: 0 nothing yet, 1 only the word, 2 that the rules name no switch, 3 that they do.
+// What the rules say of constraints, kept from row to row in a table of 256: 1 for a predicate that they do not break, 2 for one
+// that they do, 0 where they were not asked. It is right for one switch word.
 use crate::rules::is_allow;
 use crate::rules::past;
-use crate::word::wide;
 use crate::word::word_in;
+use format::Sections;
 use format::Starts;
 use format::header;
 ghost use mathlib.Core.Path.{_≡_};
-ghost use Prim.Native.Nat.{_+_, _<_};
-ghost use lib.ListN.{set};
-ghost use Rattle.decide.specs.Inner.Parts.{Ready, RuleHere};
 ghost use Rattle.format.specs.Policy.{recordAt};
-ghost use Rattle.decide.specs.Inner.Kept.{bit};
+ghost use Rattle.decide.specs.Inner.Parts.{Ready, RuleHere, Surveyed};
 ghost use Rattle.decide.specs.Inner.Rules.{allowAt};
-ghost use Rattle.decide.specs.Inner.Verdicts.{namesSwitch, anyNamed, heldWord, holding, Knows, KeptVerdicts, HeldFor};
+ghost use Rattle.decide.specs.Inner.Verdicts.{namesSwitch, anyNamed, Knows, KeptFor, Recalled};
 
-// Keeps what was found of a constraint, and answers it.
-pub(crate) fn keep_verdict(verdicts: &mut [u8; 261], n: usize, found: bool) -> bool
-    requires { ⌜ n < 256 ⌝ }
-    ensures { λ r. ⌜ (r ≡ found) × (now (verdicts .exit) ≡ set (now (verdicts .entry)) n (bit found + 1)) ⌝ }
-{
-    if found {
-        verdicts[n] = 2;
-        return true;
-    }
-    verdicts[n] = 1;
-    false
-}
-
-// The word that verdicts are right for.
-fn held(verdicts: &[u8; 261]) -> usize
-    ensures { λ r. ⌜ r ≡ heldWord (now (verdicts .entry)) ⌝ }
-{
-    wide(verdicts[256]) * 16777216
-        + wide(verdicts[257]) * 65536
-        + wide(verdicts[258]) * 256
-        + wide(verdicts[259])
-}
-
-// Puts another word there, and what is known of the switches.
-fn hold(verdicts: &mut [u8; 261], switches: u32, state: u8)
-    ensures { λ _. ⌜ (now (verdicts .exit) ≡ holding (now (verdicts .entry)) switches state) × (switches < 4294967296) ⌝ }
-{
-    verdicts[256] = (switches / 16777216 % 256) as u8;
-    verdicts[257] = (switches / 65536 % 256) as u8;
-    verdicts[258] = (switches / 256 % 256) as u8;
-    verdicts[259] = (switches % 256) as u8;
-    verdicts[260] = state;
+// The word that verdicts are right for, and what is known of the switches: 0 nothing yet, and no verdict is kept; 1 no more than
+// the word; 2 that the rules name no switch; 3 that they do.
+pub(crate) struct Held {
+    pub word: u32,
+    pub known: u8,
 }
 
 // Whether the rule at a place names a switch.
@@ -94,30 +63,58 @@ fn is_named(image: &[u8], groups: &[u16; 256], s: Starts, state: u8) -> bool
     any_switched(image, groups, s)
 }
 
-// Makes verdicts right for a word. Where they are kept under another one, they stay if no rule names a switch, and else are
-// forgotten; the rules are asked for that at most once.
-pub(crate) fn recall(
+// Makes verdicts right for a word, on an accepted policy. Where they are kept under another one, they stay if no rule names a
+// switch, and else are forgotten; the rules are asked for that at most once.
+fn recall_at(
     image: &[u8],
     groups: &[u16; 256],
     s: Starts,
-    verdicts: &mut [u8; 261],
+    verdicts: &mut [u8; 256],
+    held: Held,
     switches: u32,
-)
-    requires { ⌜ Ready (now image) (now groups) s × KeptVerdicts (now image) (now verdicts) ⌝ }
-    ensures { λ _. ⌜ HeldFor (now (image .entry)) switches (now (verdicts .exit)) ⌝ }
+) -> Held
+    requires { ⌜ Ready (now image) (now groups) s × KeptFor (now image) held (now verdicts) ⌝ }
+    ensures { λ r. ⌜ Recalled (now (image .entry)) switches r (now (verdicts .exit)) ⌝ }
 {
-    let state = verdicts[260];
-    if state == 0 {
-        hold(verdicts, switches, 1);
-        return;
+    if held.known == 0 {
+        return Held {
+            word: switches,
+            known: 1,
+        };
     }
-    if held(verdicts) == switches as usize {
-        return;
+    if held.word == switches {
+        return held;
     }
-    if is_named(image, groups, s, state) {
-        *verdicts = [0u8; 261];
-        hold(verdicts, switches, 3);
-        return;
+    if is_named(image, groups, s, held.known) {
+        *verdicts = [0u8; 256];
+        return Held {
+            word: switches,
+            known: 3,
+        };
     }
-    hold(verdicts, switches, 2);
+    Held {
+        word: switches,
+        known: 2,
+    }
+}
+
+// The same on an image that `survey` has checked: nothing is kept of a refused one.
+pub(crate) fn recall(
+    image: &[u8],
+    groups: &[u16; 256],
+    sections: Sections,
+    verdicts: &mut [u8; 256],
+    held: Held,
+    switches: u32,
+) -> Held
+    requires { ⌜ Surveyed (now image) (now groups) sections × KeptFor (now image) held (now verdicts) ⌝ }
+    ensures { λ r. ⌜ Recalled (now (image .entry)) switches r (now (verdicts .exit)) ⌝ }
+{
+    match sections {
+        Sections::Refused(_) => Held {
+            word: switches,
+            known: 1,
+        },
+        Sections::At(s) => recall_at(image, groups, s, verdicts, held, switches),
+    }
 }

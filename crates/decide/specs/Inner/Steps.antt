@@ -1,6 +1,6 @@
 -- What the steps of a run answer.
 --     Begins l n f b   what a run of n rows begins with, where f is its refusal
---     stepOf l q r i   what row i comes to, where the run was r before
+--     Stepped l q r i s   what row i comes to, where the run was r before
 use Prim.Native.Nat.{ℕ}
 use mathlib.Core.Path.{_≡_}
 use mathlib.Core.Option.{Option}
@@ -16,8 +16,10 @@ use Rattle.decide.specs.Inner.Parts.{Surveyed}
 
 pub record Begins (l : List ℕ) (n : ℕ) (f : Option Refusal) (b : Begun) : Type 0 where
   pub rows : b .rows ≡ rowsFor (runSaid f) n
-  pub run : b .run ≡ runSaid f
+  pub run : b .progress .run ≡ runSaid f
+  pub fresh : b .progress .held .known ≡ 0
   pub surveyed : Surveyed l (b .groups) (b .sections)
 
-abbrev pub stepOf : List ℕ → Query → Run → ℕ → Step
-stepOf l q r i = record { answer = rowAnswer l q; run = nextRun r i (rowAnswer l q) }
+pub record Stepped (l : List ℕ) (q : Query) (r : Run) (i : ℕ) (s : Step) : Type 0 where
+  pub answer : s .answer ≡ rowAnswer l q
+  pub run : s .progress .run ≡ nextRun r i (rowAnswer l q)

@@ -72,7 +72,7 @@ use Rattle.decision.proofs.Answer as N
 use Rattle.decision.proofs.Answer.Laws as N′
 use Rattle.runs.specs.declared.Run.{Run}
 use Rattle.runs.specs.Runs.{queriesFault, rowAnswer}
-use Rattle.runs.specs.Inner.Progress.{runSaid, rowsFor}
+use Rattle.runs.specs.Inner.Progress.{runSaid, rowsFor, nextRun}
 use Rattle.runs.proofs.Faults.{same-lengths}
 use Rattle.runs.proofs.Run as O
 use Rattle.runs.proofs.Run.Laws as O′
@@ -80,14 +80,16 @@ use Rattle.runs.proofs.Fill.{fill, length-fill, fill-next}
 use Rattle.runs.proofs.Progress.{outAt, out-none, out-next, rows-most, rows-decided, ran-queries, wrote-queries}
 use Rattle.decide.proofs.LentTables.{tab-ty, tab-val, repeated, map-same, lies, lies-back}
 use Rattle.decide.specs.declared.steps.Begun.{Begun}
+use Rattle.decide.specs.declared.steps.Progress.{Progress}
 use Rattle.decide.specs.declared.steps.Step.{Step}
 use Rattle.decide.specs.Inner.Parts.{Surveyed}
-use Rattle.decide.specs.Inner.Kept.{Leaves}
 use Rattle.decide.specs.Inner.Verdicts as Kept
-use Rattle.decide.proofs.VerdictLaws.{verdicts-none}
-use Rattle.decide.specs.Inner.Steps.{Begins, stepOf}
+use Rattle.decide.proofs.VerdictLaws.{kept-fresh}
+use Rattle.decide.specs.Inner.Steps.{Begins, Stepped}
 use Rattle.decide.proofs.steps.Begun as B
 use Rattle.decide.proofs.steps.Begun.Laws as B′
+use Rattle.decide.proofs.steps.Progress as P
+use Rattle.decide.proofs.steps.Progress.Laws as P′
 use Rattle.decide.proofs.steps.Step as S
 use Rattle.decide.proofs.steps.Step.Laws as S′
 use Rattle.decide.proofs.steps.begin_queries as begin
@@ -117,6 +119,9 @@ nval = EL.val N.the-type N′.the-laws
 abbrev oval : Run → Val
 oval = EL.val O.the-type O′.the-laws
 
+abbrev pval : Progress → Val
+pval = SL.val P.the-type P′.the-laws
+
 abbrev xval : Sections → Val
 xval = EL.val X.the-type X′.the-laws
 
@@ -134,7 +139,7 @@ abbrev gval : List ℕ → Val
 gval = tab-val (uint-vals w16)
 
 abbrev Verdicts : RattleType
-Verdicts = Array u8 261
+Verdicts = Array u8 256
 
 abbrev vval : List ℕ → Val
 vval = tab-val (uint-vals w8)
@@ -150,7 +155,7 @@ abbrev tyG : Ty
 tyG = tab-ty u16 256
 
 abbrev tyV : Ty
-tyV = tab-ty u8 261
+tyV = tab-ty u8 256
 
 abbrev tyM : Ty
 tyM = tab-ty bool 1024
@@ -242,12 +247,9 @@ module _ {M : Type 1} (𝓤 : URA M) (H : Heap 𝓤) (A : Atoms 𝓤) (W : Given
   abbrev elem : ℕ → Query
   elem i = getD qs i noQuery
 
-  abbrev step : ℕ → Step
-  step i = stepOf img (elem i) (out i) i
-
-  filled-next : (i : ℕ) → i < length qs → i < length ys → set (filled i) i (f (elem i)) ≡ filled (suc i)
-  filled-next i l m =
-      ap (set (filled i) i) (sym (List·getD-map f qs i noQuery)) ∙ fill-next (map f qs) ys i (f noQuery) (subst (λ (n : ℕ). i < n) (sym (length-map qs f)) l) m
+  filled-next : (i : ℕ) (c : Answer) → c ≡ f (elem i) → i < length qs → i < length ys → set (filled i) i c ≡ filled (suc i)
+  filled-next i c e l m =
+      ap (set (filled i) i) (e ∙ sym (List·getD-map f qs i noQuery)) ∙ fill-next (map f qs) ys i (f noQuery) (subst (λ (n : ℕ). i < n) (sym (length-map qs f)) l) m
 
   abbrev Own₀ : Fml
   Own₀ = ShrSlice (named 0) κ₀ u8 .own x₀ (s₀ ∷ [])
@@ -318,9 +320,9 @@ module _ {M : Type 1} (𝓤 : URA M) (H : Heap 𝓤) (A : Atoms 𝓤) (W : Given
     abbrev OwnD : List Bool → ℕ → GName → Fml
     OwnD ns π δ = MutRef (named 4) (π ∷ []) Marks .own (xd ns δ) (vptr l₁₁ 0 ∷ [])
 
-    module _ (vs : List ℕ) (ms ns : List Bool) (ν σ π : ℕ) (δ₁ δ₂ δ₃ : GName) where
-      abbrev Args : ℕ → RefT (List ℕ) × (RefT (List ℕ) × (Sections × (Query × (RefT (List ℕ) × (RefT (List Bool) × (RefT (List Bool) × (Run × (ℕ × Unit {0}))))))))
-      Args i = (x₀, (xg, (st, (elem i, (xv vs δ₁, (xs ms δ₂, (xd ns δ₃, (out i, (i, tt)))))))))
+    module _ (p : Progress) (vs : List ℕ) (ms ns : List Bool) (ν σ π : ℕ) (δ₁ δ₂ δ₃ : GName) where
+      abbrev Args : ℕ → RefT (List ℕ) × (RefT (List ℕ) × (Sections × (Query × (RefT (List ℕ) × (RefT (List Bool) × (RefT (List Bool) × (Progress × (ℕ × Unit {0}))))))))
+      Args i = (x₀, (xg, (st, (elem i, (xv vs δ₁, (xs ms δ₂, (xd ns δ₃, (p, (i, tt)))))))))
 
       abbrev to-row : ℕ → Decides 𝓤 H A at-mem run .Ghost
       to-row i = (
@@ -329,7 +331,7 @@ module _ {M : Type 1} (𝓤 : URA M) (H : Heap 𝓤) (A : Atoms 𝓤) (W : Given
           (q₀, (fullShare, (fullShare, (fullShare, (fullShare, tt))))),
           tt,
           Args i,
-          (s₀ ∷ [], (vptr l₈ 0 ∷ [], (xval st ∷ [], (qval (elem i) ∷ [], (vptr l₉ 0 ∷ [], (vptr l₁₀ 0 ∷ [], (vptr l₁₁ 0 ∷ [], (oval (out i) ∷ [], (vint w64 i ∷ [], tt))))))))),
+          (s₀ ∷ [], (vptr l₈ 0 ∷ [], (xval st ∷ [], (qval (elem i) ∷ [], (vptr l₉ 0 ∷ [], (vptr l₁₀ 0 ∷ [], (vptr l₁₁ 0 ∷ [], (pval p ∷ [], (vint w64 i ∷ [], tt))))))))),
         ),
         tt,
       )
@@ -340,14 +342,14 @@ module _ {M : Type 1} (𝓤 : URA M) (H : Heap 𝓤) (A : Atoms 𝓤) (W : Given
           sep 𝓤 (A .lft κ₀ q₀) (sep 𝓤 (A .lft (α ∷ []) fullShare) (sep 𝓤 (A .lft (ν ∷ []) fullShare) (sep 𝓤 (A .lft (σ ∷ []) fullShare) (sep 𝓤 (A .lft (π ∷ []) fullShare)
           (sep 𝓤 (sem 𝓤 H A Own₀) (sep 𝓤 (sem 𝓤 H A OwnG) (sep 𝓤 (sem 𝓤 H A (OwnV vs ν δ₁)) (sep 𝓤 (sem 𝓤 H A (OwnS ms σ δ₂)) (sem 𝓤 H A (OwnD ns π δ₃))))))))))
 
-      ask-row : (i : ℕ) → Surveyed img gs st → Kept.Tables img vs ms ns → Is X.the-row st (xval st ∷ []) → Is Q.the-row (elem i) (qval (elem i) ∷ []) → Is O.the-row (out i) (oval (out i) ∷ []) → i < 2 ^ 64
+      ask-row : (i : ℕ) → Surveyed img gs st → Kept.RowTables img (p .held) vs ms ns → Is X.the-row st (xval st ∷ []) → Is Q.the-row (elem i) (qval (elem i) ∷ []) → Is P.the-row p (pval p ∷ []) → i < 2 ^ 64
           → ent 𝓤 Handed (Decides 𝓤 H A at-mem run .pre (to-row i))
       ask-row i surveyed kept ist isq iso g =
           qed W (‵ (flft κ₀ q₀) ∷ ‵ (flft (α ∷ []) fullShare) ∷ (‵ (flft (ν ∷ []) fullShare) ⊛ (‵ (flft (σ ∷ []) fullShare) ⊛ (‵ (flft (π ∷ []) fullShare) ⊛ (‵ Own₀ ⊛ (‵ OwnG ⊛ (‵ (OwnV vs ν δ₁) ⊛ (‵ (OwnS ms σ δ₂) ⊛ ‵ (OwnD ns π δ₃)))))))) ∷ []) ∵ says ! (surveyed, kept) $
           move ! (2 ∷ []) $ split ! $ move ! (1 ∷ []) $ split ! $ move ! (1 ∷ []) $ split ! $ move ! (1 ∷ []) $ split ! $ move ! (1 ∷ []) $ split ! $ move ! (1 ∷ []) $ split ! $ move ! (1 ∷ []) $ split ! $
           -- [source; destination; the verdicts; the table; image; π; σ; ν; κ₀; α]
           nothing ! $ owned ! usize (Is usize) (uint-makes 𝓤 H A W w64) i _ (refl, g) $ fjoin ! $
-          owned ! O.the-row (Is O.the-row) (EL.makes O.the-type O′.the-plain 𝓤 H A) (out i) _ iso $ fjoin ! $
+          owned ! P.the-row (Is P.the-row) (SL.makes P.the-type P′.the-plain 𝓤 H A) p _ iso $ fjoin ! $
           move ! (2 ∷ 0 ∷ []) $ fjoin ! $ move ! (1 ∷ 0 ∷ []) $ fjoin ! $ move ! (1 ∷ 0 ∷ []) $ fjoin ! $
           owned ! Q.the-row (Is Q.the-row) (SL.makes Q.the-type Q′.the-plain 𝓤 H A) (elem i) _ isq $ fjoin ! $
           owned ! X.the-row (Is X.the-row) (EL.makes X.the-type X′.the-plain 𝓤 H A) st _ ist $ fjoin ! $
@@ -380,7 +382,7 @@ module _ {M : Type 1} (𝓤 : URA M) (H : Heap 𝓤) (A : Atoms 𝓤) (W : Given
     to-marks = tyRef erased mut tyM
 
     abbrev En : Env 𝓤 H
-    En = (O′.mir, l₀) ∷ (slice₀, l₁) ∷ (slice₁, l₂) ∷ (slice₂, l₃) ∷ (B′.mir, l₄) ∷ (word, l₅) ∷ (O′.mir, l₆) ∷ (X′.mir, l₇) ∷ (tyG, l₈) ∷ (tyV, l₉) ∷ (tyM, l₁₀) ∷ (tyM, l₁₁) ∷ (word, l₁₂)
+    En = (O′.mir, l₀) ∷ (slice₀, l₁) ∷ (slice₁, l₂) ∷ (slice₂, l₃) ∷ (B′.mir, l₄) ∷ (word, l₅) ∷ (P′.mir, l₆) ∷ (X′.mir, l₇) ∷ (tyG, l₈) ∷ (tyV, l₉) ∷ (tyM, l₁₀) ∷ (tyM, l₁₁) ∷ (word, l₁₂)
         ∷ (S′.mir, l₁₃) ∷ (word, l₁₄) ∷ (word, l₁₅) ∷ (tyBool, l₁₆) ∷ (to-places, l₁₇) ∷ (word, l₁₈) ∷ (tyPtr, l₁₉) ∷ (Q′.mir, l₂₀) ∷ (to-verdicts, l₂₁) ∷ (to-marks, l₂₂) ∷ (to-marks, l₂₃) ∷ (tyPtr, l₂₄) ∷ []
 
     -- the locals, the last first: local k stands at 2 · (24 − k). Those that are written before the loop are given
@@ -389,7 +391,7 @@ module _ {M : Type 1} (𝓤 : URA M) (H : Heap 𝓤) (A : Atoms 𝓤) (W : Given
         ‵ (froom tyPtr l₂₄ 0) ∷ ‵ (fdies tyPtr l₂₄) ∷ ‵ (froom to-marks l₂₃ 0) ∷ ‵ (fdies to-marks l₂₃) ∷ ‵ (froom to-marks l₂₂ 0) ∷ ‵ (fdies to-marks l₂₂) ∷ ‵ (froom to-verdicts l₂₁ 0) ∷ ‵ (fdies to-verdicts l₂₁) ∷ ‵ (froom Q′.mir l₂₀ 0) ∷ ‵ (fdies Q′.mir l₂₀) ∷
         ‵ (froom tyPtr l₁₉ 0) ∷ ‵ (fdies tyPtr l₁₉) ∷ ‵ (froom word l₁₈ 0) ∷ ‵ (fdies word l₁₈) ∷ ‵ (froom to-places l₁₇ 0) ∷ ‵ (fdies to-places l₁₇) ∷ ‵ (froom tyBool l₁₆ 0) ∷ ‵ (fdies tyBool l₁₆) ∷ c₁₅ ∷ ‵ (fdies word l₁₅) ∷
         c₁₄ ∷ ‵ (fdies word l₁₄) ∷ ‵ (froom S′.mir l₁₃ 0) ∷ ‵ (fdies S′.mir l₁₃) ∷ c₁₂ ∷ ‵ (fdies word l₁₂) ∷ c₁₁ ∷ ‵ (fdies tyM l₁₁) ∷ c₁₀ ∷ ‵ (fdies tyM l₁₀) ∷
-        c₉ ∷ ‵ (fdies tyV l₉) ∷ c₈ ∷ ‵ (fdies tyG l₈) ∷ c₇ ∷ ‵ (fdies X′.mir l₇) ∷ c₆ ∷ ‵ (fdies O′.mir l₆) ∷ c₅ ∷ ‵ (fdies word l₅) ∷
+        c₉ ∷ ‵ (fdies tyV l₉) ∷ c₈ ∷ ‵ (fdies tyG l₈) ∷ c₇ ∷ ‵ (fdies X′.mir l₇) ∷ c₆ ∷ ‵ (fdies P′.mir l₆) ∷ c₅ ∷ ‵ (fdies word l₅) ∷
         c₄ ∷ ‵ (fdies B′.mir l₄) ∷ ‵ (fat fullShare slice₂ l₃ 0 s₂) ∷ ‵ (fdies slice₂ l₃) ∷ ‵ (fat fullShare slice₁ l₂ 0 s₁) ∷ ‵ (fdies slice₁ l₂) ∷ ‵ (fat fullShare slice₀ l₁ 0 s₀) ∷ ‵ (fdies slice₀ l₁) ∷ ‵ (froom O′.mir l₀ 0) ∷ ‵ (fdies O′.mir l₀) ∷ Γ
 
     -- where the table of places is lent
@@ -398,25 +400,27 @@ module _ {M : Type 1} (𝓤 : URA M) (H : Heap 𝓤) (A : Atoms 𝓤) (W : Given
       Lent = OwnG st gs l₈ l₉ l₁₀ l₁₁ α γ
 
       -- between two turns, where the verdicts are vs and the marks ms and ns
-      abbrev Locals : ℕ → List ℕ → List Bool → List Bool → List (Item 𝓤)
-      Locals i vs ms ns = ‵ (flft (α ∷ []) fullShare) ∷ ‵ Lent ∷ Cells (‵ (froom B′.mir l₄ 0)) (‵ (fat fullShare word l₅ 0 (vint w64 rows))) (‵ (fat fullShare O′.mir l₆ 0 (oval (out i)))) (‵ (fat fullShare X′.mir l₇ 0 (xval st)))
+      abbrev Locals : ℕ → Progress → List ℕ → List Bool → List Bool → List (Item 𝓤)
+      Locals i p vs ms ns = ‵ (flft (α ∷ []) fullShare) ∷ ‵ Lent ∷ Cells (‵ (froom B′.mir l₄ 0)) (‵ (fat fullShare word l₅ 0 (vint w64 rows))) (‵ (fat fullShare P′.mir l₆ 0 (pval p))) (‵ (fat fullShare X′.mir l₇ 0 (xval st)))
           (‵ (flent (α ∷ []) (partAt G fullShare gs l₈ 0))) (‵ (fat fullShare tyV l₉ 0 (vval vs))) (‵ (fat fullShare tyM l₁₀ 0 (mval ms))) (‵ (fat fullShare tyM l₁₁ 0 (mval ns))) (‵ (fat fullShare word l₁₂ 0 (vint w64 i))) (‵ (froom word l₁₄ 0)) (‵ (froom word l₁₅ 0)) []
 
       -- where the loop is: after i rows, of which there are at most `rows`, with the tables as they are then
       record At : Type 0 where
         i : ℕ
+        p : Progress
         vs : List ℕ
         ms : List Bool
         ns : List Bool
         few : i ≤ rows
-        run-is : Is O.the-row (out i) (oval (out i) ∷ [])
+        ran : p .run ≡ out i
+        progress-is : Is P.the-row p (pval p ∷ [])
         verdicts-are : Is Verdicts vs (vval vs ∷ [])
         source-is : Is Marks ms (mval ms ∷ [])
         dest-is : Is Marks ns (mval ns ∷ [])
-        kept : Kept.Tables img vs ms ns
+        kept : Kept.RowTables img (p .held) vs ms ns
 
       abbrev Inv : At → List (Item 𝓤)
-      Inv t = Has (filled (t .i)) (Locals (t .i) (t .vs) (t .ms) (t .ns))
+      Inv t = Has (filled (t .i)) (Locals (t .i) (t .p) (t .vs) (t .ms) (t .ns))
 
       abbrev Less : At → At → Type 0
       Less t u = rows - t .i < rows - u .i
@@ -431,8 +435,8 @@ module _ {M : Type 1} (𝓤 : URA M) (H : Heap 𝓤) (A : Atoms 𝓤) (W : Given
       Turn t = Sq W (Inv t) (runs (𝓣 .C) (𝓣 .Λ) En mir.turn-1 (anyQ (afterTurn 𝓤 H (turnQ t) (afterBlock 𝓤 H (afterSeq 𝓤 H (Wp 𝓤 H (𝓣 .C) (𝓣 .Λ) En mir.t-13 (atReturn 𝓤 H En Post)) (atReturn 𝓤 H En Post))))))
 
       -- what `decide_row` ensures, where it leaves the tables as they are named
-      abbrev Said : ℕ → List ℕ → List Bool → List Bool → Step → Type 0
-      Said i vs ms ns r = Leaves (step i) (Kept.Tables img vs ms ns) r
+      abbrev Said : ℕ → Progress → List ℕ → List Bool → List Bool → Step → Type 0
+      Said i p vs ms ns r = Stepped img (elem i) (p .run) i r × Kept.RowTables img (r .progress .held) vs ms ns
 
       abbrev Lasts : Type 0
       Lasts = Unit {0} × (Unit {0} × (Unit {0} × (Unit {0} × (List ℕ × (List Bool × (List Bool × (Unit {0} × (Unit {0} × Unit {0}))))))))
@@ -442,6 +446,7 @@ module _ {M : Type 1} (𝓤 : URA M) (H : Heap 𝓤) (A : Atoms 𝓤) (W : Given
       unfolding afterTurn
       more t holds =
           let i = t .i in
+          let p = t .p in
           let vs = t .vs in
           let ms = t .ms in
           let ns = t .ns in
@@ -472,7 +477,7 @@ module _ {M : Type 1} (𝓤 : URA M) (H : Heap 𝓤) (A : Atoms 𝓤) (W : Given
           move ! (6 ∷ []) $ use1 W (‵ Own₀ ⊛ ‵ Own₀) (shr-slice-copy 𝓤 H A W (named 0) κ₀ u8 .twice x₀ (s₀ ∷ [])) $ split ! $
           move ! (11 ∷ []) $ use1 W (‵ Lent ⊛ ‵ Lent) (shr-copy 𝓤 H A W (named 1) (α ∷ []) G .twice (xg st gs l₈ l₉ l₁₀ l₁₁ α γ) (vptr l₈ 0 ∷ [])) $ split ! $
           -- [the table; the table; image; image; κ₁; the fractured borrow; obs; the borrow; κ₂; κ₀; res; queries' fact; α; the locals]: the verdicts are lent
-          owned ! Verdicts (Is Verdicts) (array-makes 𝓤 H A W u8 (uint-makes 𝓤 H A W w8) 261) vs _ (t .verdicts-are) $ move ! (L 14 9 ∷ 0 ∷ []) $ use2 W (‵ (partAt Verdicts fullShare vs l₉ 0)) (lies 𝓤 H A W u8 (uint-vals w8) (uint-tells w8) 261 vs l₉) $
+          owned ! Verdicts (Is Verdicts) (array-makes 𝓤 H A W u8 (uint-makes 𝓤 H A W w8) 256) vs _ (t .verdicts-are) $ move ! (L 14 9 ∷ 0 ∷ []) $ use2 W (‵ (partAt Verdicts fullShare vs l₉ 0)) (lies 𝓤 H A W u8 (uint-vals w8) (uint-tells w8) 256 vs l₉) $
           lft-new ! tt (λ ν. move ! (1 ∷ []) $ use1 W (later (some (λ (δ : GName). ‵ (OwnV st gs l₈ l₉ l₁₀ l₁₁ α γ vs ν δ) ⊛ ‵ (flent (ν ∷ []) (Body (mem Verdicts) l₉ 0 δ))))) (lends-ref 𝓤 H A W Verdicts (named 2) (ν ∷ []) vs l₉ 0) $ await ! tt $ pick ! (λ δ₁. split ! $
           -- [the verdicts; lent; ν; as before; the locals but _9]: the source's marks are
           owned ! Marks (Is Marks) (array-makes 𝓤 H A W bool (bool-makes 𝓤 H A W) 1024) ms _ (t .source-is) $ move ! (L 17 10 ∷ 0 ∷ []) $ use2 W (‵ (partAt Marks fullShare ms l₁₀ 0)) (lies 𝓤 H A W bool bool-vals bool-tells 1024 ms l₁₀) $
@@ -482,13 +487,13 @@ module _ {M : Type 1} (𝓤 : URA M) (H : Heap 𝓤) (A : Atoms 𝓤) (W : Given
           lft-new ! tt (λ π. move ! (1 ∷ []) $ use1 W (later (some (λ (δ : GName). ‵ (OwnD st gs l₈ l₉ l₁₀ l₁₁ α γ ns π δ) ⊛ ‵ (flent (π ∷ []) (Body (mem Marks) l₁₁ 0 δ))))) (lends-ref 𝓤 H A W Marks (named 4) (π ∷ []) ns l₁₁ 0) $ await ! tt $ pick ! (λ δ₃. split ! $
           -- [destination; lent; π; source; lent; σ; the verdicts; lent; ν; the table; the table; image; image; κ₁; the fractured borrow; obs; the borrow; κ₂; κ₀; res; queries' fact; α; the other locals]
           move ! (3 ∷ 0 ∷ []) $ join ! $ move ! (5 ∷ 0 ∷ []) $ join ! $ move ! (7 ∷ 0 ∷ []) $ join ! $ move ! (8 ∷ 0 ∷ []) $ join ! $ move ! (2 ∷ 0 ∷ []) $ join ! $ move ! (3 ∷ 0 ∷ []) $ join ! $ move ! (4 ∷ 0 ∷ []) $ join ! $ move ! (11 ∷ 14 ∷ 0 ∷ []) $
-          use3 W (raw (Decides 𝓤 H A at-mem run .pre (to-row st gs l₈ l₉ l₁₀ l₁₁ α γ vs ms ns ν σ π δ₁ δ₂ δ₃ i))) (ask-row st gs l₈ l₉ l₁₀ l₁₁ α γ vs ms ns ν σ π δ₁ δ₂ δ₃ i surveyed (t .kept) ist isq (t .run-is) ig) $
+          use3 W (raw (Decides 𝓤 H A at-mem run .pre (to-row st gs l₈ l₉ l₁₀ l₁₁ α γ p vs ms ns ν σ π δ₁ δ₂ δ₃ i))) (ask-row st gs l₈ l₉ l₁₀ l₁₁ α γ p vs ms ns ν σ π δ₁ δ₂ δ₃ i surveyed (t .kept) ist isq (t .progress-is) ig) $
           -- [what is asked; lent, three times; the table; image; κ₁; the fractured borrow; obs; the borrow; κ₂; res; queries' fact; the other locals]: the row is decided
-          calls-at ! (fmOf 𝓤 H (W .laws) 𝓣) (Decides 𝓤 H A at-mem run) known-row (to-row st gs l₈ l₉ l₁₀ l₁₁ α γ vs ms ns ν σ π δ₁ δ₂ δ₃ i)
+          calls-at ! (fmOf 𝓤 H (W .laws) 𝓣) (Decides 𝓤 H A at-mem run) known-row (to-row st gs l₈ l₉ l₁₀ l₁₁ α γ p vs ms ns ν σ π δ₁ δ₂ δ₃ i)
           (and-then ! (load ! (from ! (stop !)) (look ! (L 10 1) refl)) (and-then ! (load ! (from ! (stop !)) (look ! (L 13 17) refl)) (and-then ! (load ! (from ! (stop !)) (look ! (L 10 7) refl)) (and-then ! (load ! (from ! (stop !)) (look ! (L 13 20) refl)) (and-then ! (load ! (from ! (stop !)) (look ! (L 13 21) refl)) (and-then ! (load ! (from ! (stop !)) (look ! (L 13 22) refl)) (and-then ! (load ! (from ! (stop !)) (look ! (L 13 23) refl)) (and-then ! (load ! (from ! (stop !)) (look ! (L 10 6) refl)) (and-then ! (load ! (from ! (stop !)) (look ! (L 13 12) refl)) (no-more !)))))))))) (λ u.
-          use1 W (later (some (λ (r : Step). ((‵ (flft κ₀ q₀) ⊛ (‵ (flft (α ∷ []) fullShare) ⊛ (‵ (flft (ν ∷ []) fullShare) ⊛ (‵ (flft (σ ∷ []) fullShare) ⊛ (‵ (flft (π ∷ []) fullShare) ⊛ ‵ ftrue))))) ⊛ ‵ (S.the-row .own r (u ∷ []))) ⊛ raw (ensured 𝓤 H A row.ended (row.clauses 𝓤 H A at-mem run) (κ₀, (α ∷ [], (ν ∷ [], (σ ∷ [], (π ∷ [], tt))))) (Args st gs l₈ l₉ l₁₀ l₁₁ α γ vs ms ns ν σ π δ₁ δ₂ δ₃ i) tt r)))) (id⊢ 𝓤 _) $ await ! tt $ pick ! (λ r.
-          split ! $ move ! (1 ∷ []) $ use1 W (some (λ (ws : Lasts). ‵ (lasts row.ended (κ₀, (α ∷ [], (ν ∷ [], (σ ∷ [], (π ∷ [], tt))))) (Args st gs l₈ l₉ l₁₀ l₁₁ α γ vs ms ns ν σ π δ₁ δ₂ δ₃ i) ws) ⊛ raw (fact 𝓤 (Said i (ws .1 .1 .1 .1 .0) (ws .1 .1 .1 .1 .1 .0) (ws .1 .1 .1 .1 .1 .1 .0) r)))) (id⊢ 𝓤 _) $ pick ! (λ ws.
-          split ! $ move ! (1 ∷ []) $ heard ! (Said i (ws .1 .1 .1 .1 .0) (ws .1 .1 .1 .1 .1 .0) (ws .1 .1 .1 .1 .1 .1 .0) r) (λ e.
+          use1 W (later (some (λ (r : Step). ((‵ (flft κ₀ q₀) ⊛ (‵ (flft (α ∷ []) fullShare) ⊛ (‵ (flft (ν ∷ []) fullShare) ⊛ (‵ (flft (σ ∷ []) fullShare) ⊛ (‵ (flft (π ∷ []) fullShare) ⊛ ‵ ftrue))))) ⊛ ‵ (S.the-row .own r (u ∷ []))) ⊛ raw (ensured 𝓤 H A row.ended (row.clauses 𝓤 H A at-mem run) (κ₀, (α ∷ [], (ν ∷ [], (σ ∷ [], (π ∷ [], tt))))) (Args st gs l₈ l₉ l₁₀ l₁₁ α γ p vs ms ns ν σ π δ₁ δ₂ δ₃ i) tt r)))) (id⊢ 𝓤 _) $ await ! tt $ pick ! (λ r.
+          split ! $ move ! (1 ∷ []) $ use1 W (some (λ (ws : Lasts). ‵ (lasts row.ended (κ₀, (α ∷ [], (ν ∷ [], (σ ∷ [], (π ∷ [], tt))))) (Args st gs l₈ l₉ l₁₀ l₁₁ α γ p vs ms ns ν σ π δ₁ δ₂ δ₃ i) ws) ⊛ raw (fact 𝓤 (Said i p (ws .1 .1 .1 .1 .0) (ws .1 .1 .1 .1 .1 .0) (ws .1 .1 .1 .1 .1 .1 .0) r)))) (id⊢ 𝓤 _) $ pick ! (λ ws.
+          split ! $ move ! (1 ∷ []) $ heard ! (Said i p (ws .1 .1 .1 .1 .0) (ws .1 .1 .1 .1 .1 .0) (ws .1 .1 .1 .1 .1 .1 .0) r) (λ e.
           let vs′ : List ℕ = ws .1 .1 .1 .1 .0 in
           let ms′ : List Bool = ws .1 .1 .1 .1 .1 .0 in
           let ns′ : List Bool = ws .1 .1 .1 .1 .1 .1 .0 in
@@ -496,8 +501,10 @@ module _ {M : Type 1} (𝓤 : URA M) (H : Heap 𝓤) (A : Atoms 𝓤) (W : Given
           -- [the destination's last; the source's; the verdicts'; the tokens and the result; lent, three times; ..]
           move ! (3 ∷ []) $ split ! $ move ! (1 ∷ []) $ facts ! S.the-row (Is S.the-row) (shows 𝓤 H A S.the-row) r (u ∷ []) (λ is′.
           split ! $ move ! (1 ∷ []) $ split ! $ move ! (1 ∷ []) $ split ! $ move ! (1 ∷ []) $ split ! $ move ! (1 ∷ []) $ split ! $ move ! (1 ∷ []) $ drop ! $
-          let uv : u ≡ sval (step i) = ap only (SL.tells S.the-type S′.the-laws r (u ∷ []) is′) ∙ ap sval (e .is) in
-          let iss = SL.owed S.the-type S′.the-laws (step i) (u ∷ []) (subst (λ (d : Step). Is S.the-row d (u ∷ [])) (e .is) is′) in
+          let uv : u ≡ sval r = ap only (SL.tells S.the-type S′.the-laws r (u ∷ []) is′) in
+          let iss = SL.owed S.the-type S′.the-laws r (u ∷ []) is′ in
+          let said : r .answer ≡ f (elem i) = e .0 .answer in
+          let comes : r .progress .run ≡ out (suc i) = e .0 .run ∙ ap (λ (c : Run). nextRun c i (f (elem i))) (t .ran) ∙ out-next img o qs i noQuery lq in
           -- [π; σ; ν; α; κ₀; the three lasts; lent, three times; the table; image; κ₁; the fractured borrow; obs; the borrow; κ₂; res; queries' fact; the other locals]
           land ! (from ! (stop !)) (init ! (L 20 13) refl (SL.lawful S.the-type S′.the-laws 𝓤 H A W .typed r _ is′ .0)) $
           rewrite ! (L 20 13) (λ (v : Val). ‵ (fat fullShare S′.mir l₁₃ 0 v)) uv refl $
@@ -511,7 +518,7 @@ module _ {M : Type 1} (𝓤 : URA M) (H : Heap 𝓤) (A : Atoms 𝓤) (W : Given
           facts ! Marks (Is Marks) (shows 𝓤 H A Marks) ms′ (mval ms′ ∷ []) (λ isc.
           -- [_10; _11; ν; α; κ₀; a last; lent; ..]: then the verdicts
           move ! (2 ∷ []) $ lft-end ! tt $ move ! (0 ∷ 6 ∷ 5 ∷ []) $ use3 W (later (‵ (partAt Verdicts fullShare vs′ l₉ 0))) (ref-back 𝓤 H A W Verdicts (ν ∷ []) δ₁ vs′ l₉ 0) $ await ! tt $
-          use1 W (‵ (fat fullShare tyV l₉ 0 (vval vs′)) ⊛ ‵ (Verdicts .own vs′ (vval vs′ ∷ []))) (lies-back 𝓤 H A W u8 (uint-vals w8) (uint-tells w8) 261 vs′ l₉) $ split ! $ move ! (1 ∷ []) $
+          use1 W (‵ (fat fullShare tyV l₉ 0 (vval vs′)) ⊛ ‵ (Verdicts .own vs′ (vval vs′ ∷ []))) (lies-back 𝓤 H A W u8 (uint-vals w8) (uint-tells w8) 256 vs′ l₉) $ split ! $ move ! (1 ∷ []) $
           facts ! Verdicts (Is Verdicts) (shows 𝓤 H A Verdicts) vs′ (vval vs′ ∷ []) (λ isv.
           move ! (3 ∷ 4 ∷ 5 ∷ 6 ∷ 7 ∷ 8 ∷ 9 ∷ 10 ∷ 11 ∷ 12 ∷ 13 ∷ 14 ∷ 15 ∷ 16 ∷ 17 ∷ 18 ∷ 19 ∷ 20 ∷ 21 ∷ 22 ∷ 23 ∷ 24 ∷ 25 ∷ 26 ∷ 27 ∷ 28 ∷ 29 ∷ 30 ∷ 31 ∷ 32 ∷ 33 ∷ 34 ∷ 35 ∷ 36 ∷ 37 ∷ 38 ∷ 39 ∷ 2 ∷ 40 ∷ 1 ∷ 41 ∷ 0 ∷ []) $
           -- [α; κ₀; the table; image; κ₁; the fractured borrow; obs; the borrow; κ₂; res; queries' fact; the locals]
@@ -522,19 +529,18 @@ module _ {M : Type 1} (𝓤 : URA M) (H : Heap 𝓤) (A : Atoms 𝓤) (W : Given
           move ! (6 ∷ 7 ∷ 8 ∷ []) $ opens-slice ! tt N.the-row (filled i) b₂ o₂ $
           elem-out ! N.the-row (Is N.the-row) (shows 𝓤 H A N.the-row) (EL.vals N.the-type N′.the-laws) (EL.tells N.the-type N′.the-laws) fullShare (filled i) i (NotPermitted NoRules) b₂ o₂ lz (λ _.
           -- [answers[i]; what it owns; the others; the open borrow; obs; auth; α; κ₀; the table; image; κ₁; the fractured borrow; res; queries' fact; the locals]
-          assigns ! (of-opd ! (load ! (from ! (fld ! refl (stop !))) (look-in ! (L 14 13) (sub ! 0 refl (whole !))))) (from ! (hop ! (look ! (L 14 24) refl) (stop !))) (store-raw ! 0 refl (EL.lawful N.the-type N′.the-laws 𝓤 H A W tt .typed (f (elem i)) _ (iss .0) .0)) $
-          move ! (1 ∷ []) $ drop ! $ owned ! N.the-row (Is N.the-row) (EL.makes N.the-type N′.the-plain 𝓤 H A) (f (elem i)) _ (iss .0) $ move ! (1 ∷ 0 ∷ []) $
-          elem-put ! N.the-row fullShare (filled i) i (f (elem i)) (nval (f (elem i)) ∷ []) b₂ o₂ lz $ closes-slice ! tt N.the-row (filled i) (set (filled i) i (f (elem i))) (length-set (filled i) i (f (elem i))) b₂ o₂ $
-          rewrite ! 0 (λ (zs : List Answer). ‵ (fobs γ₂ (codedHoleys N.the-row .code (heres N.the-row zs)))) (filled-next i lq ly) refl $
-          rewrite ! 1 (λ (zs : List Answer). ‵ (fbor κ₂ (Held N.the-row (length zs) b₂ o₂ γ₂))) (filled-next i lq ly) refl $
+          assigns ! (of-opd ! (load ! (from ! (fld ! refl (stop !))) (look-in ! (L 14 13) (sub ! 0 refl (whole !))))) (from ! (hop ! (look ! (L 14 24) refl) (stop !))) (store-raw ! 0 refl (EL.lawful N.the-type N′.the-laws 𝓤 H A W tt .typed (r .answer) _ (iss .0) .0)) $
+          move ! (1 ∷ []) $ drop ! $ owned ! N.the-row (Is N.the-row) (EL.makes N.the-type N′.the-plain 𝓤 H A) (r .answer) _ (iss .0) $ move ! (1 ∷ 0 ∷ []) $
+          elem-put ! N.the-row fullShare (filled i) i (r .answer) (nval (r .answer) ∷ []) b₂ o₂ lz $ closes-slice ! tt N.the-row (filled i) (set (filled i) i (r .answer)) (length-set (filled i) i (r .answer)) b₂ o₂ $
+          rewrite ! 0 (λ (zs : List Answer). ‵ (fobs γ₂ (codedHoleys N.the-row .code (heres N.the-row zs)))) (filled-next i (r .answer) said lq ly) refl $
+          rewrite ! 1 (λ (zs : List Answer). ‵ (fbor κ₂ (Held N.the-row (length zs) b₂ o₂ γ₂))) (filled-next i (r .answer) said lq ly) refl $
           -- [obs; the borrow; κ₂; α; κ₀; the table; image; κ₁; the fractured borrow; res; queries' fact; the locals]
-          assigns ! (of-opd ! (load ! (from ! (fld ! refl (stop !))) (look-in ! (L 11 13) (sub ! 1 refl (whole !))))) (from ! (stop !)) (store ! (L 11 6) refl (EL.lawful O.the-type O′.the-laws 𝓤 H A W tt .typed (step i .run) _ (iss .1 .0) .0)) $
-          rewrite ! (L 11 6) (λ (c : Run). ‵ (fat fullShare O′.mir l₆ 0 (oval c))) (out-next img o qs i noQuery lq) refl $
+          assigns ! (of-opd ! (load ! (from ! (fld ! refl (stop !))) (look-in ! (L 11 13) (sub ! 1 refl (whole !))))) (from ! (stop !)) (store ! (L 11 6) refl (SL.lawful P.the-type P′.the-laws 𝓤 H A W .typed (r .progress) _ (iss .1 .0) .0)) $
           assigns-last ! (bin ! (load ! (from ! (stop !)) (look ! (L 11 12) refl)) (lit ! tt) (record { fits = ng })) (from ! (stop !)) (store ! (L 11 12) refl (tt, record { fits = ng })) $
           rewrite ! (L 11 12) (λ (j : ℕ). ‵ (fat fullShare word l₁₂ 0 (vint w64 j))) (one-more i) refl $
           forget ! (L 11 24) refl $ forget ! (L 11 23) refl $ forget ! (L 11 22) refl $ forget ! (L 11 21) refl $ forget ! (L 11 20) refl $ forget ! (L 11 19) refl $ forget ! (L 11 18) refl $ forget ! (L 11 17) refl $ forget ! (L 11 16) refl $ forget ! (L 11 13) refl $
           move ! (0 ∷ 1 ∷ 2 ∷ 4 ∷ 6 ∷ 7 ∷ 8 ∷ 9 ∷ 10 ∷ 3 ∷ 5 ∷ []) $
-          again ! Less Inv t (record { i = suc i; vs = vs′; ms = ms′; ns = ns′; few = omega (arith, l); run-is = subst (λ (c : Run). Is O.the-row c (oval c ∷ [])) (out-next img o qs i noQuery lq) (iss .1 .0); verdicts-are = isv; source-is = isc; dest-is = isd; kept = e .kept }) (fewer rows i l))))))))))))))))))
+          again ! Less Inv t (record { i = suc i; p = r .progress; vs = vs′; ms = ms′; ns = ns′; few = omega (arith, l); ran = comes; progress-is = iss .1 .0; verdicts-are = isv; source-is = isc; dest-is = isd; kept = e .1 }) (fewer rows i l))))))))))))))))))
 
       -- the turn that leaves the loop, and the rest of the body: the table comes back
       ends : (t : At) → ltb (t .i) rows ≡ false → Turn t
@@ -542,16 +548,19 @@ module _ {M : Type 1} (𝓤 : URA M) (H : Heap 𝓤) (A : Atoms 𝓤) (W : Given
       ends t fails =
           let i = t .i in
           let e : i ≡ rows = omega (arith, t .few, ltb-false i rows fails) in
-          let iso = subst (λ (j : ℕ). Is O.the-row (out j) (oval (out j) ∷ [])) e (t .run-is) in
+          let p = t .p in
+          let ran : p .run ≡ out rows = t .ran ∙ ap out e in
+          let isp = SL.owed P.the-type P′.the-laws p (pval p ∷ []) (t .progress-is) in
+          let iso = subst (λ (c : Run). Is O.the-row c (oval c ∷ [])) ran (isp .0) in
           assigns ! (bin ! (load ! (from ! (stop !)) (look ! (L 11 12) refl)) (load ! (from ! (stop !)) (look ! (L 11 5) refl)) tt) (from ! (stop !)) (init ! (L 11 16) refl (tt, tt)) $
           rewrite ! (L 11 16) (λ (y : Bool). ‵ (fat fullShare tyBool l₁₆ 0 (vbool y))) fails refl $
           leaves-loop ! (load ! (from ! (stop !)) (look ! (L 11 16) refl)) $ exec ! (𝓣 .C) (𝓣 .Λ) En mir.t-13 (atRet En Post) $
           rewrite ! 0 (λ (j : ℕ). ‵ (fobs γ₂ (codedHoleys N.the-row .code (heres N.the-row (filled j))))) e refl $ rewrite ! 1 (λ (j : ℕ). ‵ (fbor κ₂ (Held N.the-row (length (filled j)) b₂ o₂ γ₂))) e refl $
-          rewrite ! (L 11 6) (λ (j : ℕ). ‵ (fat fullShare O′.mir l₆ 0 (oval (out j)))) e refl $
           move ! (10 ∷ []) $ drop ! $ move ! (9 ∷ []) $ lft-end ! tt $ move ! (0 ∷ L 10 8 ∷ []) $ lent-back ! tt $
           use1 W (‵ (fat fullShare tyG l₈ 0 (gval gs)) ⊛ ‵ (G .own gs (gval gs ∷ []))) (lies-back 𝓤 H A W u16 (uint-vals w16) (uint-tells w16) 256 gs l₈) $ split ! $ move ! (1 ∷ []) $ drop ! $
           -- [_8; obs; the borrow; κ₂; κ₀; image; κ₁; the fractured borrow; res; queries' fact; the other locals]
-          assigns ! (of-opd ! (load ! (from ! (stop !)) (look ! (L 9 6) refl))) (from ! (stop !)) (init ! (L 9 0) refl (EL.lawful O.the-type O′.the-laws 𝓤 H A W tt .typed (out rows) _ iso .0)) $
+          assigns ! (of-opd ! (load ! (from ! (fld ! refl (stop !))) (look-in ! (L 9 6) (sub ! 0 refl (whole !))))) (from ! (stop !)) (init ! (L 9 0) refl (EL.lawful O.the-type O′.the-laws 𝓤 H A W tt .typed (p .run) _ (isp .0) .0)) $
+          rewrite ! (L 9 0) (λ (c : Run). ‵ (fat fullShare O′.mir l₀ 0 (oval c))) ran refl $
           returns ! (look ! (L 9 0) refl) $ forget ! (L 10 16) refl $ forget ! (L 10 12) refl $ forget ! (L 10 11) refl $ forget ! (L 10 10) refl $ forget ! (L 10 9) refl $ forget ! 0 refl $ forget ! (L 9 7) refl $ forget ! (L 9 6) refl $ forget ! (L 9 5) refl $ forget ! (L 9 3) refl $ forget ! (L 9 2) refl $ forget ! (L 9 1) refl $ forget ! (L 9 0) refl $
           move ! (57 ∷ 58 ∷ []) $ free1 ! $ move ! (55 ∷ 56 ∷ []) $ free1 ! $ move ! (53 ∷ 54 ∷ []) $ free1 ! $ move ! (51 ∷ 52 ∷ []) $ free1 ! $ move ! (49 ∷ 50 ∷ []) $ free1 ! $ move ! (47 ∷ 48 ∷ []) $ free1 ! $ move ! (45 ∷ 46 ∷ []) $ free1 ! $ move ! (43 ∷ 44 ∷ []) $ free1 ! $ move ! (0 ∷ 42 ∷ []) $ free1 ! $ move ! (39 ∷ 40 ∷ []) $ free1 ! $ move ! (37 ∷ 38 ∷ []) $ free1 ! $ move ! (35 ∷ 36 ∷ []) $ free1 ! $ move ! (33 ∷ 34 ∷ []) $ free1 ! $ move ! (31 ∷ 32 ∷ []) $ free1 ! $ move ! (29 ∷ 30 ∷ []) $ free1 ! $ move ! (27 ∷ 28 ∷ []) $ free1 ! $ move ! (25 ∷ 26 ∷ []) $ free1 ! $ move ! (23 ∷ 24 ∷ []) $ free1 ! $ move ! (21 ∷ 22 ∷ []) $ free1 ! $ move ! (19 ∷ 20 ∷ []) $ free1 ! $ move ! (17 ∷ 18 ∷ []) $ free1 ! $ move ! (15 ∷ 16 ∷ []) $ free1 ! $ move ! (13 ∷ 14 ∷ []) $ free1 ! $ move ! (11 ∷ 12 ∷ []) $ free1 ! $ move ! (9 ∷ 10 ∷ []) $ free1 ! $ free0 ! $
           by ! (exits g₂ iso)
@@ -561,35 +570,34 @@ module _ {M : Type 1} (𝓤 : URA M) (H : Heap 𝓤) (A : Atoms 𝓤) (W : Given
 
     -- from the result of `begin_queries` to the loop
     started : (r : Begun) → Begun-is r → Is B.the-row r (bval r ∷ [])
-        → Sq W (‵ (flft κ₀ q₀) ∷ ‵ Own₀ ∷ Cells (‵ (fat fullShare B′.mir l₄ 0 (bval r))) (‵ (froom word l₅ 0)) (‵ (froom O′.mir l₆ 0)) (‵ (froom X′.mir l₇ 0)) (‵ (froom tyG l₈ 0)) (‵ (froom tyV l₉ 0)) (‵ (froom tyM l₁₀ 0)) (‵ (froom tyM l₁₁ 0)) (‵ (froom word l₁₂ 0)) (‵ (fat fullShare word l₁₄ 0 (vint w64 (length qs)))) (‵ (fat fullShare word l₁₅ 0 (vint w64 (length ys)))) (Rest ys))
+        → Sq W (‵ (flft κ₀ q₀) ∷ ‵ Own₀ ∷ Cells (‵ (fat fullShare B′.mir l₄ 0 (bval r))) (‵ (froom word l₅ 0)) (‵ (froom P′.mir l₆ 0)) (‵ (froom X′.mir l₇ 0)) (‵ (froom tyG l₈ 0)) (‵ (froom tyV l₉ 0)) (‵ (froom tyM l₁₀ 0)) (‵ (froom tyM l₁₁ 0)) (‵ (froom word l₁₂ 0)) (‵ (fat fullShare word l₁₄ 0 (vint w64 (length qs)))) (‵ (fat fullShare word l₁₅ 0 (vint w64 (length ys)))) (Rest ys))
         (runs (𝓣 .C) (𝓣 .Λ) En mir.t-4 (atRet En Post))
     started r b is =
         let isb = SL.owed B.the-type B′.the-laws r _ is in
         let gs : List ℕ = map (λ (v : ℕ). v) (r .groups) in
         let surveyed : Surveyed img gs (r .sections) = subst (λ (g : List ℕ). Surveyed img g (r .sections)) (map-same (r .groups)) (b .surveyed) in
-        let e : r .run ≡ out 0 = b .run ∙ out-none img o qs in
+        let e : r .progress .run ≡ out 0 = b .run ∙ out-none img o qs in
         let isx = isb .1 .1 .0 in
         let isg = isb .1 .1 .1 .0 in
-        let vs : List ℕ = replicate 261 0 in
+        let vs : List ℕ = replicate 256 0 in
         let ms : List Bool = replicate 1024 false in
-        -- what `[0u8; 261]` and `[false; 1024]` own
-        owned ! u8 (Is u8) (uint-makes 𝓤 H A W w8) 0 (vint w8 0 ∷ []) (refl, lit< tt) $ use1 W (‵ (Verdicts .own vs (repeated (vint w8 0) 261 ∷ []))) (array-repeat 𝓤 H A W u8 (uint-copy 𝓤 H A W w8) 261 0 (vint w8 0)) $
-        facts ! Verdicts (Is Verdicts) (shows 𝓤 H A Verdicts) vs (repeated (vint w8 0) 261 ∷ []) (λ isv.
+        -- what `[0u8; 256]` and `[false; 1024]` own
+        owned ! u8 (Is u8) (uint-makes 𝓤 H A W w8) 0 (vint w8 0 ∷ []) (refl, lit< tt) $ use1 W (‵ (Verdicts .own vs (repeated (vint w8 0) 256 ∷ []))) (array-repeat 𝓤 H A W u8 (uint-copy 𝓤 H A W w8) 256 0 (vint w8 0)) $
+        facts ! Verdicts (Is Verdicts) (shows 𝓤 H A Verdicts) vs (repeated (vint w8 0) 256 ∷ []) (λ isv.
         owned ! bool (Is bool) (bool-makes 𝓤 H A W) false (vbool false ∷ []) refl $ use1 W (‵ (Marks .own ms (repeated (vbool false) 1024 ∷ []))) (array-repeat 𝓤 H A W bool (bool-copy 𝓤 H A W) 1024 false (vbool false)) $
         facts ! Marks (Is Marks) (shows 𝓤 H A Marks) ms (repeated (vbool false) 1024 ∷ []) (λ ism.
-        let ve = array-tells u8 (uint-vals w8) (uint-tells w8) 261 vs (repeated (vint w8 0) 261 ∷ []) isv in
+        let ve = array-tells u8 (uint-vals w8) (uint-tells w8) 256 vs (repeated (vint w8 0) 256 ∷ []) isv in
         let me = array-tells bool bool-vals bool-tells 1024 ms (repeated (vbool false) 1024 ∷ []) ism in
         let marks-are : Is Marks ms (mval ms ∷ []) = subst (Is Marks ms) me ism in
         assigns ! (of-opd ! (load ! (from ! (fld ! refl (stop !))) (look-in ! (L 2 4) (sub ! 0 refl (whole !))))) (from ! (stop !)) (init ! (L 2 5) refl (tt, record { fits = isb .0 .1 })) $
-        assigns ! (of-opd ! (load ! (from ! (fld ! refl (stop !))) (look-in ! (L 2 4) (sub ! 1 refl (whole !))))) (from ! (stop !)) (init ! (L 2 6) refl (EL.lawful O.the-type O′.the-laws 𝓤 H A W tt .typed (r .run) _ (isb .1 .0) .0)) $
+        assigns ! (of-opd ! (load ! (from ! (fld ! refl (stop !))) (look-in ! (L 2 4) (sub ! 1 refl (whole !))))) (from ! (stop !)) (init ! (L 2 6) refl (SL.lawful P.the-type P′.the-laws 𝓤 H A W .typed (r .progress) _ (isb .1 .0) .0)) $
         assigns ! (of-opd ! (load ! (from ! (fld ! refl (stop !))) (look-in ! (L 2 4) (sub ! 2 refl (whole !))))) (from ! (stop !)) (init ! (L 2 7) refl (EL.lawful X.the-type X′.the-laws 𝓤 H A W tt .typed (r .sections) _ isx .0)) $
         assigns ! (of-opd ! (load ! (from ! (fld ! refl (stop !))) (look-in ! (L 2 4) (sub ! 3 refl (whole !))))) (from ! (stop !)) (init ! (L 2 8) refl (array-lawful 𝓤 H A W u16 (uint-lawful 𝓤 H A W w16) 256 .typed gs _ isg .0)) $
-        assigns ! (rep ! 261 (lit ! tt)) (from ! (stop !)) (init ! (L 2 9) refl (array-lawful 𝓤 H A W u8 (uint-lawful 𝓤 H A W w8) 261 .typed vs _ isv .0)) $
+        assigns ! (rep ! 256 (lit ! tt)) (from ! (stop !)) (init ! (L 2 9) refl (array-lawful 𝓤 H A W u8 (uint-lawful 𝓤 H A W w8) 256 .typed vs _ isv .0)) $
         assigns ! (rep ! 1024 (false-lit !)) (from ! (stop !)) (init ! (L 2 10) refl (array-lawful 𝓤 H A W bool (bool-lawful 𝓤 H A W) 1024 .typed ms _ ism .0)) $
         assigns ! (rep ! 1024 (false-lit !)) (from ! (stop !)) (init ! (L 2 11) refl (array-lawful 𝓤 H A W bool (bool-lawful 𝓤 H A W) 1024 .typed ms _ ism .0)) $
         assigns ! (of-opd ! (lit ! tt)) (from ! (stop !)) (init ! (L 2 12) refl (tt, record { fits = lit< tt })) $
         rewrite ! (L 2 5) (λ (n : ℕ). ‵ (fat fullShare word l₅ 0 (vint w64 n))) (b .rows) refl $
-        rewrite ! (L 2 6) (λ (c : Run). ‵ (fat fullShare O′.mir l₆ 0 (oval c))) e refl $
         rewrite ! (L 2 9) (λ (v : List Val). ‵ (fat fullShare tyV l₉ 0 (only v))) ve refl $
         rewrite ! (L 2 10) (λ (v : List Val). ‵ (fat fullShare tyM l₁₀ 0 (only v))) me refl $
         rewrite ! (L 2 11) (λ (v : List Val). ‵ (fat fullShare tyM l₁₁ 0 (only v))) me refl $
@@ -600,11 +608,11 @@ module _ {M : Type 1} (𝓤 : URA M) (H : Heap 𝓤) (A : Atoms 𝓤) (W : Given
         -- [the table; lent; α; κ₀; image; the locals but _8; the rest]
         first ! $ blocks ! $ move ! (54 ∷ 55 ∷ 56 ∷ 3 ∷ 4 ∷ 57 ∷ 58 ∷ 59 ∷ 60 ∷ 2 ∷ 0 ∷ 5 ∷ 6 ∷ 7 ∷ 8 ∷ 9 ∷ 10 ∷ 11 ∷ 12 ∷ 13 ∷ 14 ∷ 15 ∷ 16 ∷ 17 ∷ 18 ∷ 19 ∷ 20 ∷ 21 ∷ 22 ∷ 23 ∷ 24 ∷ 25 ∷ 26 ∷ 27 ∷ 28 ∷ 29 ∷ 30 ∷ 31 ∷ 32 ∷ 33 ∷ 34 ∷ 35 ∷ 36 ∷ 1 ∷ []) $
         loops ! 𝓣 (Less (r .sections) gs surveyed isx isg α γ) (wf (r .sections) gs surveyed isx isg α γ) (Inv (r .sections) gs surveyed isx isg α γ) (turn-at (r .sections) gs surveyed isx isg α γ)
-        (record { i = 0; vs = vs; ms = ms; ns = ms; few = omega arith; run-is = subst (λ (c : Run). Is O.the-row c (oval c ∷ [])) e (isb .1 .0); verdicts-are = subst (Is Verdicts vs) ve isv; source-is = marks-are; dest-is = marks-are; kept = record { verdicts = verdicts-none _; source = refl; dest = refl } })))))
+        (record { i = 0; p = r .progress; vs = vs; ms = ms; ns = ms; few = omega arith; ran = e; progress-is = isb .1 .0; verdicts-are = subst (Is Verdicts vs) ve isv; source-is = marks-are; dest-is = marks-are; kept = record { verdicts = kept-fresh img (r .progress .held) (b .fresh); source = refl; dest = refl } })))))
 
     -- the body, up to the result of `begin_queries`
     body : Triple 𝓤 (𝓣 .C #decide·begin) (Begin 𝓤 H A at-mem run)
-        → Sq W (Cells (‵ (froom B′.mir l₄ 0)) (‵ (froom word l₅ 0)) (‵ (froom O′.mir l₆ 0)) (‵ (froom X′.mir l₇ 0)) (‵ (froom tyG l₈ 0)) (‵ (froom tyV l₉ 0)) (‵ (froom tyM l₁₀ 0)) (‵ (froom tyM l₁₁ 0)) (‵ (froom word l₁₂ 0)) (‵ (froom word l₁₄ 0)) (‵ (froom word l₁₅ 0)) (Has ys [])) (runs (𝓣 .C) (𝓣 .Λ) En mir.t-1 (atRet En Post))
+        → Sq W (Cells (‵ (froom B′.mir l₄ 0)) (‵ (froom word l₅ 0)) (‵ (froom P′.mir l₆ 0)) (‵ (froom X′.mir l₇ 0)) (‵ (froom tyG l₈ 0)) (‵ (froom tyV l₉ 0)) (‵ (froom tyM l₁₀ 0)) (‵ (froom tyM l₁₁ 0)) (‵ (froom word l₁₂ 0)) (‵ (froom word l₁₄ 0)) (‵ (froom word l₁₅ 0)) (Has ys [])) (runs (𝓣 .C) (𝓣 .Λ) En mir.t-1 (atRet En Post))
     body known-begin =
         assigns ! (of-opd ! (load ! (from ! (fld ! refl (stop !))) (look-in ! (L 0 2) (sub ! 1 refl (whole !))))) (from ! (stop !)) (init ! (L 0 14) refl (tt, record { fits = g₁ .0 })) $
         assigns ! (of-opd ! (load ! (from ! (fld ! refl (stop !))) (look-in ! (L 0 3) (sub ! 1 refl (whole !))))) (from ! (stop !)) (init ! (L 0 15) refl (tt, record { fits = g₂ .0 })) $

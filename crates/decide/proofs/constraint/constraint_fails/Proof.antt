@@ -9,8 +9,7 @@ use Rattle.decision.specs.Decide.{broken, fails}
 use Rattle.decide.specs.Inner.Parts.{rulesIn, constraintIn, requestIn, setIn, setAt}
 use Rattle.decide.specs.Inner.Verdicts.{verdictOf}
 use Rattle.decide.proofs.PartLaws.{constraint-first, constraint-second}
-use Rattle.decide.proofs.KeptLaws.{with-source, with-dest, side-within}
-use Rattle.decide.proofs.VerdictLaws.{held-says, held-adds}
+use Rattle.decide.proofs.KeptLaws.{kept-says, kept-adds, with-source, with-dest, side-within}
 use Rattle.decide.proofs.ConstraintLaws.{fails-class, fails-action, fails-first, fails-second, fails-broken}
 use borrow.Author.Needs.{needs}
 use Rattle.decide.proofs.constraint.constraint_fails.Statement.{statement}
@@ -70,15 +69,15 @@ by-rules d =
 returns-5 : tie.Need-returns-5
 returns-5 c = let a = c .before .before .before .before .before .before .before .before .before .before .before .before .before .before .before in
     let d = c .before .before in
-    record { is = held-says _ _ _ (a .pre .3) _ (a .pre .2 .few) (c .if5 .taken) ∙ sym (by-rules d); kept = (with-dest (with-source (a .pre .1) (d .before .before .before .before .inside .ensures .kept)) (d .before .inside2 .ensures .kept), a .pre .3) }
+    record { is = kept-says (verdictOf (now (a .args .image)) (a .args .q .switches)) _ (a .pre .3) _ (c .if5 .taken) ∙ sym (by-rules d); kept = (with-dest (with-source (a .pre .1) (d .before .before .before .before .inside .ensures .kept)) (d .before .inside2 .ensures .kept), a .pre .3) }
 
 returns-6 : tie.Need-returns-6
 returns-6 c = let a = c .before .before .before .before .before .before .before .before .before .before .before .before .before .before .before .before .before .before in
     let d = c .before .before .before .before .before in
     let e = c .before .before .predicate-broken .ensures ∙ by-place d in
     record {
-      is = c .keep-verdict .ensures .0 ∙ e ∙ sym (by-rules d);
-      kept = (with-dest (with-source (a .pre .1) (d .before .before .before .before .inside .ensures .kept)) (d .before .inside2 .ensures .kept), rw (c .keep-verdict .ensures .1) (held-adds _ _ _ (a .pre .3) _ (a .pre .2 .few) _ e));
+      is = c .keep .ensures .0 ∙ e ∙ sym (by-rules d);
+      kept = (with-dest (with-source (a .pre .1) (d .before .before .before .before .inside .ensures .kept)) (d .before .inside2 .ensures .kept), rw (c .keep .ensures .1) (kept-adds (verdictOf (now (a .args .image)) (a .args .q .switches)) _ (a .pre .3) _ _ e));
     }
 
 pub constraint-fails-spec : {M : Type 1} → statement M

@@ -23,7 +23,7 @@ judge-marked-requires c κs =
       p .1,
       marked-type _ _ _ _ _ (p .0 .known .accepted) (type-is _ _ (p .1 .0)) (c .before .before .before .before .before .before .before .before .wide-word .ensures) (marks-after _ _ _ (s .0) (p .2 .source)) (s .1),
       marked-type _ _ _ _ _ (p .0 .known .accepted) (type-is _ _ (p .1 .1)) (c .before .before .before .before .before .before .before .wide-word2 .ensures) (marks-after _ _ _ (d .0) (p .2 .dest)) (d .1),
-      p .2 .verdicts,
+      p .2 .verdicts (p .0 .known .accepted),
     )
 
 unmark-type-requires : tie.Need-unmark-type-requires
@@ -39,7 +39,7 @@ returns c =
     record {
       is = r .is;
       kept = record {
-        verdicts = r .kept;
+        verdicts = λ _. r .kept;
         source = c .before .before .unmark-type .ensures _ (marks-after _ _ _ (c .before .before .before .before .before .before .before .before .before .before .mark-type .ensures .0) (p .2 .source));
         dest = c .unmark-type2 .ensures _ (marks-after _ _ _ (c .before .before .before .before .before .before .before .before .mark-type2 .ensures .0) (p .2 .dest));
       };

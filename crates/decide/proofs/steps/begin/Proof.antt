@@ -1,6 +1,6 @@
 -- `begin` meets its contract: the check, the run's refusal, the rows that are decided. Assumes nothing.
 use borrow.Author.Needs.{needs}
-use mathlib.Core.Path.{_≡_, ap, _∙_}
+use mathlib.Core.Path.{_≡_, refl, ap, _∙_}
 use mathlib.Core.Bool.{Bool}
 use denote.Ref.{now}
 use Rattle.format.specs.Answers.{starts}
@@ -25,6 +25,7 @@ returns c =
     record {
       rows = c .decided .ensures ∙ ap (λ r. rowsFor r (c .before .before .before .before .before .args .rows)) (run-is (c .before));
       run = run-is (c .before);
+      fresh = refl;
       surveyed = record { sections = s .sections; placed = survey-placed _ _ _ _ s };
     }
 

@@ -1,31 +1,25 @@
--- `recall` meets its contract: nothing was kept, or it is right, or no rule names a switch, or all is forgotten. Assumes nothing.
+-- `recall` meets its contract: a refused image has no verdicts. Assumes nothing.
 use borrow.Author.Needs.{needs}
-use mathlib.Core.Path.{sym, _∙_}
-use Rattle.decide.proofs.VerdictLaws.{held-same, held-first, held-plain, held-forgot}
+use mathlib.Core.Path.{sym, ap, _∙_}
+use denote.Ref.{now}
+use Rattle.format.specs.Answers.{sectionsOutcome}
+use Rattle.format.proofs.Chain.{outcome-gives, outcome-refused}
+use Rattle.decide.specs.Inner.Parts.{Ready}
+use Rattle.decide.proofs.VerdictLaws.{recalled-refused, refused-not}
 use Rattle.decide.proofs.verdicts.recall.Statement.{statement}
 use Rattle.decide.proofs.verdicts.recall.Tie as tie
 
+recall-at-requires : tie.Need-recall-at-requires
+recall-at-requires c κs =
+    let p = c .before .before .before .before .before .pre in
+    let k = outcome-gives _ _ (sym (ap sectionsOutcome (c .before .before .sections .given .1)) ∙ p .0 .sections) in
+    (record { known = record { accepted = k .0; placed = p .0 .placed (k .0) }; starting = k .1 }, p .1)
+
 returns : tie.Need-returns
-returns c = let h = c .hold .ensures in rw (h .0) (held-first _ _ (h .1) _ (c .before .before .before .before .before .pre .1) (c .before .before .if1 .taken))
-
-returns-3 : tie.Need-returns-3
-returns-3 c = let h = c .hold2 .ensures in rw (h .0) (held-forgot _ _ (h .1) (sym (c .before .before .before .before .is-named .ensures) ∙ c .before .before .before .if3 .taken))
-
-returns-4 : tie.Need-returns-4
-returns-4 c = let h = c .hold3 .ensures in
-    rw (h .0) (held-plain _ _ (h .1) _ (c .before .before .before .before .before .before .before .before .before .before .pre .1) (sym (c .before .before .before .is-named .ensures) ∙ c .before .before .if3 .left))
+returns c =
+    let p = c .before .before .before .pre in
+    recalled-refused _ _ _ (refused-not _ _ (outcome-refused _ _ (sym (ap sectionsOutcome (c .enum-told .given .1)) ∙ p .0 .sections)))
 
 pub recall-spec : {M : Type 1} → statement M
 recall-spec =
-    tie.close
-    (tie.spec
-    (λ c. search needs)
-    (λ c κs. search needs)
-    returns
-    (λ c κs. search needs)
-    (λ c. search needs)
-    (λ c κs. search needs)
-    (λ c κs. search needs)
-    returns-3
-    (λ c κs. search needs)
-    returns-4)
+    tie.close (tie.spec (λ c. search needs) (λ c. search needs) recall-at-requires returns (λ c. search needs))
