@@ -154,11 +154,11 @@ pub(crate) fn decide_surveyed(
 pub fn decide(image: &[u8], q: Query) -> Answer
     ensures { λ r. ⌜ deciding.answerOutcome r ≡ deciding.answer (now (image .entry)) q ⌝ }
 {
-    let mut groups = [0u16; 256];
-    let sections = survey(image, &mut groups);
     let mut verdicts = [0u8; 256];
     let mut source = [false; 1024];
     let mut dest = [false; 1024];
+    let mut groups = [0u16; 256];
+    let sections = survey(image, &mut groups);
     decide_surveyed(
         image,
         &groups,

@@ -1,5 +1,5 @@
 // The rule at a place: whether it is an allow rule, whether it is live, and where the next one stands.
-use crate::condition::is_switch_on;
+use crate::condition::is_on;
 use crate::word::wide;
 ghost use mathlib.Core.Path.{_≡_};
 ghost use mathlib.Core.Bool.{true};
@@ -24,10 +24,7 @@ pub(crate) fn is_live(image: &[u8], at: usize, switches: u32) -> bool
     if !is_allow(image, at) {
         return false;
     }
-    if image[at + 10] == 1 {
-        return true;
-    }
-    is_switch_on(switches, image[at + 10])
+    is_on(switches, image[at + 10])
 }
 
 // The place past the rule at a place. One that is known to be an allow rule has 11 bytes, and its length need not be read.

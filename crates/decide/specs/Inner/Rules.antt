@@ -1,7 +1,6 @@
 -- What the walks over the rules and the constraints of an image look for.
 --     allowAt l at          the rule at a place is an allow rule
 --     mayAt l at q          what the condition, the class and the action of the rule at a place let through of a query
---     switchNamed w b       a condition byte names a switch, which is on
 --     ifAsked b t           a test that is made only where it is asked, and passes where it is not
 --     liveAt l w at         the rule at a place is live under a switch word
 --     AtRule l ps at        a rule stands at a place
@@ -11,17 +10,17 @@
 --     reaching ms a         a live rule whose destination touches marks; reachingAt l ms at live: the rule at a place, live or not
 --     reachingFrom ms f a   such a rule, whose source passes a test
 --     sharesSource rs ms s  a rule of the list that reaches marks has a source that touches s
-use Prim.Native.Nat.{ℕ, _+_, _-_}
+use Prim.Native.Nat.{ℕ, _+_}
 use mathlib.Core.Bool.{Bool, true, false, _&&_, cond}
 use mathlib.Core.Option.{Option, none, some}
 use mathlib.Core.List.{List}
 use lib.ListN.{getD}
-use lib.Dec.{eqb, leb}
+use lib.Dec.{eqb}
 use Rattle.format.specs.Bytes.{wordAt}
 use Rattle.format.specs.Policy.{policyOf}
 use Rattle.decision.specs.declared.Query.{Query}
 use Rattle.decision.specs.Sets.{anyOf, touches}
-use Rattle.decision.specs.Conditions.{switchOn, isOn}
+use Rattle.decision.specs.Conditions.{isOn}
 use Rattle.decision.specs.Reading.{Rule, live, constraintsOf}
 use Rattle.decision.specs.Decide.{covers, fails, firstAt}
 use Rattle.decide.specs.declared.cover.Found.{Found}
@@ -37,9 +36,6 @@ mayAt l at q =
     cond (allowAt l at)
     (cond (isOn (q .switches) (getD l (at + 10) 0)) (cond (eqb (wordAt l (at + 6)) (q .class)) (eqb (wordAt l (at + 8)) (q .action)) false) false)
     true
-
-unfoldable pub switchNamed : ℕ → ℕ → Bool
-switchNamed w b = cond (leb 2 b) (switchOn w (b - 2)) false
 
 unfoldable pub ifAsked : Bool → Bool → Bool
 ifAsked b t = cond b t true

@@ -1,18 +1,16 @@
--- `is_on` meets its contract. Assumes nothing.
+-- `is_on` meets its contract: a shift by b is the quotient by 2^b, and a mask of 1 its remainder by 2. Assumes nothing.
+use native.Mathlib.Omega.{arith}
 use borrow.Author.Needs.{needs}
-use mathlib.Core.Path.{sym, _∙_}
-use Rattle.decide.proofs.ConditionLaws.{on-zero, on-one, on-named}
+use Prim.Native.Nat.{_+_, _*_, _/_, _^_}
+use mathlib.Core.Path.{ap, _∙_}
+use lib.Bits.{and-mask}
+use lib.Dec.{eqb}
+use Rattle.decide.proofs.ConditionLaws.{bit-is}
 use Rattle.decide.proofs.condition.is_on.Statement.{statement}
 use Rattle.decide.proofs.condition.is_on.Tie as tie
 
 returns : tie.Need-returns
-returns c = sym (on-zero _ _ (c .if1 .taken))
-
-returns-2 : tie.Need-returns-2
-returns-2 c = sym (on-one _ _ (c .if2 .taken))
-
-returns-3 : tie.Need-returns-3
-returns-3 c = c .is-switch-on .ensures ∙ sym (on-named _ _ (c .before .if2 .left))
+returns c = let a = c .args in ap (λ x. eqb x 1) (and-mask ((a .switches * 4 + 2) / 2 ^ a .condition) 1) ∙ bit-is (a .switches) (a .condition)
 
 pub is-on-spec : {M : Type 1} → statement M
-is-on-spec = tie.close (tie.spec returns returns-2 (λ c κs. search needs) returns-3)
+is-on-spec = tie.close (tie.spec (λ c. search needs) (λ c. search needs) (λ c. search needs) returns)
