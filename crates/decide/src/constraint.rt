@@ -1,11 +1,11 @@
 // Whether a constraint applies and fails, and the lowest that does.
 use crate::cover::Found;
 use crate::kept::inside;
-use crate::kept::keep;
 use crate::predicates::any_rule;
 use crate::separation::any_shared;
 use crate::sets::mark_at;
 use crate::sets::mark_types;
+use crate::verdicts::keep_verdict;
 use crate::word::wide;
 use crate::word::wide_word;
 use crate::word::word_in;
@@ -16,7 +16,7 @@ ghost use mathlib.Core.Path.{_≡_};
 ghost use Rattle.decision.specs.Decide.{separationBroken, rosterBroken, companionBroken, broken, fails};
 ghost use Rattle.decide.specs.Inner.Parts.{Ready, ConstraintHere, NthConstraint, rulesIn, constraintIn, requestIn};
 ghost use Rattle.decide.specs.Inner.Kept.{Sides, Leaves};
-ghost use Rattle.decide.specs.Inner.Verdicts.{KeptVerdicts};
+ghost use Rattle.decide.specs.Inner.Verdicts.{KeptVerdicts, Written};
 ghost use Rattle.decide.specs.Inner.Rules.{firstConstraint};
 
 // Whether the separation at a place is broken under a switch word.
@@ -92,7 +92,7 @@ fn constraint_fails(
         × NthConstraint (now image) n at × KeptVerdicts (now image) (q .switches) (now verdicts) ⌝ }
     ensures { λ r. ⌜ Leaves (fails (rulesIn (now (image .entry)) (q .switches)) (requestIn (now (image .entry)) q) (constraintIn (now (image .entry)) at))
         (Sides (now (image .entry)) q (now (source .entry)) sources (now (dest .entry)) dests (now (ksource .exit)) (now (kdest .exit))
-        × KeptVerdicts (now (image .entry)) (q .switches) (now (verdicts .exit))) r ⌝ }
+        × Written (now (image .entry)) (q .switches) (now (verdicts .entry)) (now (verdicts .exit))) r ⌝ }
 {
     if word_in(image, at + 2) != wide_word(q.class) {
         return false;
@@ -106,12 +106,13 @@ fn constraint_fails(
     if !inside(image, groups, at + 8, q.dest, dest, dests, kdest) {
         return false;
     }
-    let k = verdicts[n];
+    let k = verdicts[n] % 4;
     if 0 < k {
         return k == 2;
     }
     let found = predicate_broken(image, groups, s, at, q.switches);
-    keep(verdicts, n, found)
+    keep_verdict(verdicts, n, found);
+    found
 }
 
 // The lowest constraint that applies to the query and fails.
@@ -130,7 +131,8 @@ pub(crate) fn first_constraint(
 ) -> Found
     requires { ⌜ Ready (now image) (now groups) s × Sides (now image) q (now source) sources (now dest) dests (now ksource) (now kdest)
         × KeptVerdicts (now image) (q .switches) (now verdicts) ⌝ }
-    ensures { λ r. ⌜ Leaves (firstConstraint (now (image .entry)) q) (KeptVerdicts (now (image .entry)) (q .switches) (now (verdicts .exit))) r ⌝ }
+    ensures { λ r. ⌜ Leaves (firstConstraint (now (image .entry)) q)
+        (Written (now (image .entry)) (q .switches) (now (verdicts .entry)) (now (verdicts .exit))) r ⌝ }
 {
     let count = word_in(image, header::CONSTRAINTS_AT);
     let mut at = s.constraints;

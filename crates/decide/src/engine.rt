@@ -22,7 +22,7 @@ ghost use Rattle.decision.specs.Decide as deciding;
 ghost use Rattle.decide.specs.Inner.Parts.{Ready, Surveyed, setIn};
 ghost use Rattle.decide.specs.Inner.Marks.{Marked};
 ghost use Rattle.decide.specs.Inner.Kept.{Leaves};
-ghost use Rattle.decide.specs.Inner.Verdicts.{KeptVerdicts, Tables};
+ghost use Rattle.decide.specs.Inner.Verdicts.{KeptVerdicts, Written, Tables, Left};
 
 // The decision of an accepted policy on a query whose source and destination are marked, with their sizes. Where no rule covers
 // the query, a second walk over the rules finds the nearest.
@@ -41,7 +41,7 @@ fn judge_marked(
         × Marked (setIn (now image) (q .source)) (now source) sources
         × Marked (setIn (now image) (q .dest)) (now dest) dests × KeptVerdicts (now image) (q .switches) (now verdicts) ⌝ }
     ensures { λ r. ⌜ Leaves (gives (deciding.decide (policyOf (now (image .entry))) q))
-        (KeptVerdicts (now (image .entry)) (q .switches) (now (verdicts .exit))) (deciding.answerOutcome r) ⌝ }
+        (Written (now (image .entry)) (q .switches) (now (verdicts .entry)) (now (verdicts .exit))) (deciding.answerOutcome r) ⌝ }
 {
     let mut ksource = [0u8; 256];
     let mut kdest = [0u8; 256];
@@ -102,7 +102,8 @@ fn judge(
     requires { ⌜ Ready (now image) (now groups) s × deciding.Valid (now image) q
         × Tables (now image) (q .switches) (now verdicts) (now source) (now dest) ⌝ }
     ensures { λ r. ⌜ Leaves (gives (deciding.decide (policyOf (now (image .entry))) q))
-        (Tables (now (image .entry)) (q .switches) (now (verdicts .exit)) (now (source .exit)) (now (dest .exit))) (deciding.answerOutcome r) ⌝ }
+        (Left (now (image .entry)) (q .switches) (now (verdicts .entry)) (now (verdicts .exit)) (now (source .exit)) (now (dest .exit)))
+        (deciding.answerOutcome r) ⌝ }
 {
     let from = wide_word(q.source);
     let to = wide_word(q.dest);
@@ -127,7 +128,8 @@ pub(crate) fn decide_surveyed(
 ) -> Answer
     requires { ⌜ Surveyed (now image) (now groups) sections × Tables (now image) (q .switches) (now verdicts) (now source) (now dest) ⌝ }
     ensures { λ r. ⌜ Leaves (deciding.answer (now (image .entry)) q)
-        (Tables (now (image .entry)) (q .switches) (now (verdicts .exit)) (now (source .exit)) (now (dest .exit))) (deciding.answerOutcome r) ⌝ }
+        (Left (now (image .entry)) (q .switches) (now (verdicts .entry)) (now (verdicts .exit)) (now (source .exit)) (now (dest .exit)))
+        (deciding.answerOutcome r) ⌝ }
 {
     match sections {
         Sections::Refused(f) => Answer::Refused(f),

@@ -85,7 +85,11 @@ pub fn decide_all(image: &[u8], queries: &[u8], answers: &mut [u64]) -> usize
     let mut verdicts = [0u8; 256];
     let mut source = [false; 1024];
     let mut dest = [false; 1024];
-    let mut held = Held { word: 0, known: 0 };
+    let mut held = Held {
+        word: 0,
+        other: 0,
+        known: 0,
+    };
     for k in 0..answers.len() {
         if rows <= k {
             return rows;

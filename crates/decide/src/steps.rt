@@ -89,7 +89,11 @@ pub(crate) fn begin(image: &[u8], rows: usize, fits: bool) -> Begun
         rows: decided(run, rows),
         progress: Progress {
             run,
-            held: Held { word: 0, known: 0 },
+            held: Held {
+                word: 0,
+                other: 0,
+                known: 0,
+            },
         },
         sections,
         groups,

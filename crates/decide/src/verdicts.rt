@@ -1,5 +1,6 @@
 // What the rules say of constraints, kept from row to row in a table of 256: 1 for a predicate that they do not break, 2 for one
-// that they do, 0 where they were not asked. It is right for one switch word.
+// that they do, 0 where they were not asked. Two switch words have their verdicts in it: in front, as a number's remainder by 4,
+// those of the last row's word, and behind, as its quotient, those of the word before.
 use crate::rules::is_allow;
 use crate::rules::past;
 use crate::word::word_in;
@@ -7,15 +8,19 @@ use format::Sections;
 use format::Starts;
 use format::header;
 ghost use mathlib.Core.Path.{_≡_};
+ghost use Prim.Native.Nat.{_+_, _%_, _<_};
+ghost use lib.ListN.{getD, set};
 ghost use Rattle.format.specs.Policy.{recordAt};
 ghost use Rattle.decide.specs.Inner.Parts.{Ready, RuleHere, Surveyed};
 ghost use Rattle.decide.specs.Inner.Rules.{allowAt};
-ghost use Rattle.decide.specs.Inner.Verdicts.{namesSwitch, anyNamed, Knows, KeptFor, Recalled};
+ghost use Rattle.decide.specs.Inner.Kept.{bit};
+ghost use Rattle.decide.specs.Inner.Verdicts.{namesSwitch, anyNamed, Knows, turned, Turned, KeptFor, Recalled};
 
-// The word that verdicts are right for, and what is known of the switches: 0 nothing yet, and no verdict is kept; 1 no more than
-// the word; 2 that the rules name no switch; 3 that they do.
+// The word that the verdicts in front are right for, and that of those behind; and what is known of the switches: 0 nothing yet,
+// and no verdict is kept; 1 no more than the words; 2 that the rules name no switch; 3 that they do.
 pub(crate) struct Held {
     pub word: u32,
+    pub other: u32,
     pub known: u8,
 }
 
@@ -63,8 +68,49 @@ fn is_named(image: &[u8], groups: &[u16; 256], s: Starts, state: u8) -> bool
     any_switched(image, groups, s)
 }
 
-// Makes verdicts right for a word, on an accepted policy. Where they are kept under another one, they stay if no rule names a
-// switch, and else are forgotten; the rules are asked for that at most once.
+// A verdict put in front, where there is none.
+fn with_verdict(v: u8, found: bool) -> u8
+    requires { ⌜ v % 4 ≡ 0 ⌝ }
+    ensures { λ r. ⌜ r ≡ v + (bit found + 1) ⌝ }
+{
+    if found {
+        return v + 2;
+    }
+    v + 1
+}
+
+// The same in the table.
+pub(crate) fn keep_verdict(verdicts: &mut [u8; 256], n: usize, found: bool)
+    requires { ⌜ (n < 256) × (getD (now verdicts) n 0 % 4 ≡ 0) ⌝ }
+    ensures { λ _. ⌜ now (verdicts .exit) ≡ set (now (verdicts .entry)) n (getD (now (verdicts .entry)) n 0 + (bit found + 1)) ⌝ }
+{
+    verdicts[n] = with_verdict(verdicts[n], found);
+}
+
+// What stands in front put behind, and in front what stands behind, or nothing.
+fn turned_at(v: u8, back: bool) -> u8
+    ensures { λ r. ⌜ r ≡ turned back v ⌝ }
+{
+    if back {
+        return v % 4 * 4 + v / 4;
+    }
+    v % 4 * 4
+}
+
+// The same of the whole table.
+fn turn(verdicts: &mut [u8; 256], back: bool)
+    ensures { λ _. ⌜ Turned back (now (verdicts .entry)) (now (verdicts .exit)) ⌝ }
+{
+    let mut n: usize = 0;
+    while n < 256 {
+        verdicts[n] = turned_at(verdicts[n], back);
+        n += 1;
+    }
+}
+
+// Makes the verdicts in front right for a word, on an accepted policy. Where they are kept under another one, they stay if no rule
+// names a switch, which the rules are asked at most once; else they go behind, and those there come in front, if they are this
+// word's.
 fn recall_at(
     image: &[u8],
     groups: &[u16; 256],
@@ -79,6 +125,7 @@ fn recall_at(
     if held.known == 0 {
         return Held {
             word: switches,
+            other: switches,
             known: 1,
         };
     }
@@ -86,14 +133,16 @@ fn recall_at(
         return held;
     }
     if is_named(image, groups, s, held.known) {
-        *verdicts = [0u8; 256];
+        turn(verdicts, held.other == switches);
         return Held {
             word: switches,
+            other: held.word,
             known: 3,
         };
     }
     Held {
         word: switches,
+        other: held.other,
         known: 2,
     }
 }
@@ -113,6 +162,7 @@ pub(crate) fn recall(
     match sections {
         Sections::Refused(_) => Held {
             word: switches,
+            other: switches,
             known: 1,
         },
         Sections::At(s) => recall_at(image, groups, s, verdicts, held, switches),

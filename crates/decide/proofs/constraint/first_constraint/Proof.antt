@@ -12,9 +12,10 @@ use Rattle.decision.specs.Reading.{constraintOf}
 use Rattle.decision.specs.Decide.{fails, firstAt}
 use Rattle.decide.specs.Inner.Parts.{NthConstraint, rulesIn, requestIn}
 use Rattle.decide.specs.Inner.Kept.{Sides}
-use Rattle.decide.specs.Inner.Verdicts.{KeptVerdicts}
+use Rattle.decide.specs.Inner.Verdicts.{Written}
 use Rattle.decide.specs.Inner.Rules.{foundOf, firstConstraint}
 use Rattle.decide.proofs.PartLaws.{ready-constraints}
+use Rattle.decide.proofs.VerdictLaws.{written-same, written-after}
 use Rattle.decide.proofs.WalkLaws.{Turn, FirstOf, walk-start, walk-constraint, first-end, first-hit, first-next, all-constraints}
 use Rattle.decide.proofs.constraint.first_constraint.Statement.{statement}
 use Rattle.decide.proofs.constraint.first_constraint.Tie as tie
@@ -22,7 +23,7 @@ use Rattle.decide.proofs.constraint.first_constraint.Tie as tie
 abbrev Inv-loop : tie.InvT-loop
 Inv-loop image groups s q source sources dest dests ksource₀ kdest₀ verdicts₀ count at₀ n₀ ksource kdest verdicts at n =
     Turn (FirstOf Constraints (constraintOf (policyOf image)) image (fails (rulesIn image (q .switches)) (requestIn image q)) (firstConstraint image q) count n at)
-    (Sides image q source sources dest dests ksource kdest × KeptVerdicts image (q .switches) verdicts)
+    (Sides image q source sources dest dests ksource kdest × Written image (q .switches) verdicts₀ verdicts)
 
 abbrev μ-loop : tie.MeasureT-loop
 μ-loop image groups s q source sources dest dests ksource₀ kdest₀ verdicts₀ count at₀ n₀ ksource kdest verdicts at n = count - n
@@ -41,18 +42,18 @@ loop-holds c = let a = c .before .before in
     let l = now (a .args .image) in
     record {
       walk = walk-start _ _ _ _ _ _ _ (ready-constraints _ _ _ (p .0)) (c .word-in .ensures .0 ∙ sym (count-constraints _)) (ap (λ cs. foundOf (firstAt (fails (rulesIn l (a .args .q .switches)) (requestIn l (a .args .q))) 0 cs)) (all-constraints l));
-      kept = (p .1, p .2);
+      kept = (p .1, written-same _ _ _ (p .2));
     }
 
 constraint-fails-requires : tie.Need-constraint-fails-requires Inv-loop μ-loop
 constraint-fails-requires c κs = let d = c .before .before .before in
     let I = d .before .loop .inv in
-    (d .before .before .before .before .pre .0, I .kept .0, here d, I .kept .1)
+    (d .before .before .before .before .pre .0, I .kept .0, here d, I .kept .1 .front)
 
 returns : tie.Need-returns Inv-loop μ-loop
 returns c = let d = c .before .before .before .before .before in
     let k = c .before .constraint-fails .ensures in
-    record { is = first-hit _ (d .before .loop .inv .walk) (omega arith) (sym (k .is) ∙ c .if1 .taken); kept = k .kept .1 }
+    record { is = first-hit _ (d .before .loop .inv .walk) (omega arith) (sym (k .is) ∙ c .if1 .taken); kept = written-after _ _ _ _ _ (d .before .loop .inv .kept .1) (k .kept .1) }
 
 shared-slice-read-wide : tie.Need-shared-slice-read-wide Inv-loop μ-loop
 shared-slice-read-wide c = let h = here (c .before .before .before .before .before .before) .here in omega (arith, h .long, h .here .inside)
@@ -63,7 +64,7 @@ add-at c = let h = here (c .before .before .before .before .before .before .befo
 loop-again : tie.Need-loop-again Inv-loop μ-loop
 loop-again c = let L = c .before .before .before .before .before .before .before .before .loop in
     let k = c .before .before .before .constraint-fails .ensures in
-    record { walk = first-next _ (L .inv .walk) (omega arith) (sym (k .is) ∙ c .before .before .if1 .left) _ (ap (λ x. L .at + x) (c .wide .ensures .0)); kept = k .kept }
+    record { walk = first-next _ (L .inv .walk) (omega arith) (sym (k .is) ∙ c .before .before .if1 .left) _ (ap (λ x. L .at + x) (c .wide .ensures .0)); kept = (k .kept .0, written-after _ _ _ _ _ (L .inv .kept .1) (k .kept .1)) }
 
 returns-2 : tie.Need-returns-2 Inv-loop μ-loop
 returns-2 c = let I = c .before .loop .inv in record { is = first-end _ (I .walk) (λ z. absurd (omega arith)); kept = I .kept .1 }

@@ -13,6 +13,7 @@ use Rattle.format.proofs.ByCase.{count-groups}
 use Rattle.format.proofs.Chain.{outcome-gives, outcome-refused}
 use Rattle.decision.proofs.Answers.{image-refused}
 use Rattle.decide.specs.Inner.Parts.{Ready}
+use Rattle.decide.proofs.VerdictLaws.{left-same}
 use Rattle.decide.proofs.EngineLaws.{query-source, query-dest, query-valid, type-told, outcome-some, outcome-none, answer-accepted}
 use Rattle.decide.proofs.engine.decide_surveyed.Statement.{statement}
 use Rattle.decide.proofs.engine.decide_surveyed.Tie as tie
@@ -46,17 +47,17 @@ word-in-requires c κs = omega (arith, accepted-header _ (ready c .known .accept
 
 returns : tie.Need-returns
 returns c = let k = ready (c .before .before .before .before) in
-    record { is = outcome-some _ _ _ (query-source _ _ (source-told (c .before) ∙ not-true _ (c .if1 .taken))) ∙ sym (answer-accepted _ _ (k .known .accepted)); kept = c .before .before .before .before .before .before .before .before .pre .1 }
+    record { is = outcome-some _ _ _ (query-source _ _ (source-told (c .before) ∙ not-true _ (c .if1 .taken))) ∙ sym (answer-accepted _ _ (k .known .accepted)); kept = left-same _ _ _ _ _ (c .before .before .before .before .before .before .before .before .pre .1) }
 
 returns-2 : tie.Need-returns-2
 returns-2 c = let k = ready (c .before .before .before .before .before .before .before) in
-    record { is = outcome-some _ _ _ (query-dest _ _ (source-yes (c .before .before .before)) (dest-told (c .before) ∙ not-true _ (c .if2 .taken))) ∙ sym (answer-accepted _ _ (k .known .accepted)); kept = c .before .before .before .before .before .before .before .before .before .before .before .pre .1 }
+    record { is = outcome-some _ _ _ (query-dest _ _ (source-yes (c .before .before .before)) (dest-told (c .before) ∙ not-true _ (c .if2 .taken))) ∙ sym (answer-accepted _ _ (k .known .accepted)); kept = left-same _ _ _ _ _ (c .before .before .before .before .before .before .before .before .before .before .before .pre .1) }
 
 judge-requires : tie.Need-judge-requires
 judge-requires c κs = (ready (c .before .before .before .before .before .before .before .before .before .before), (source-yes (c .before .before .before .before .before .before), dest-yes (c .before .before .before)), c .before .before .before .before .before .before .before .before .before .before .before .before .before .before .pre .1)
 
 returns-3 : tie.Need-returns-3
-returns-3 c = let p = c .before .before .before .before .pre in record { is = sym (image-refused _ _ _ (outcome-refused _ _ (sym (ap sectionsOutcome (c .before .sections .given .1)) ∙ p .0 .sections))); kept = p .1 }
+returns-3 c = let p = c .before .before .before .before .pre in record { is = sym (image-refused _ _ _ (outcome-refused _ _ (sym (ap sectionsOutcome (c .before .sections .given .1)) ∙ p .0 .sections))); kept = left-same _ _ _ _ _ (p .1) }
 
 returns-4 : tie.Need-returns-4
 returns-4 c = let r = c .judge .ensures in

@@ -39,9 +39,12 @@ returns c =
     record {
       is = r .is;
       kept = record {
-        verdicts = λ _. r .kept;
-        source = c .before .before .unmark-type .ensures _ (marks-after _ _ _ (c .before .before .before .before .before .before .before .before .before .before .mark-type .ensures .0) (p .2 .source));
-        dest = c .unmark-type2 .ensures _ (marks-after _ _ _ (c .before .before .before .before .before .before .before .before .mark-type2 .ensures .0) (p .2 .dest));
+        tables = record {
+          verdicts = λ _. r .kept .front;
+          source = c .before .before .unmark-type .ensures _ (marks-after _ _ _ (c .before .before .before .before .before .before .before .before .before .before .mark-type .ensures .0) (p .2 .source));
+          dest = c .unmark-type2 .ensures _ (marks-after _ _ _ (c .before .before .before .before .before .before .before .before .mark-type2 .ensures .0) (p .2 .dest));
+        };
+        behind = r .kept .behind;
       };
     }
 

@@ -7,6 +7,7 @@ use Rattle.format.proofs.Fields.{type-is}
 use Rattle.decision.specs.Decide.{notPermitted, decisionOf}
 use Rattle.decide.specs.declared.cover.Found.the-variants.{At, Nothing}
 use Rattle.decide.proofs.KeptLaws.{kept-none}
+use Rattle.decide.proofs.VerdictLaws.{written-same}
 use Rattle.decide.proofs.EngineLaws.{engine-is, found-none}
 use Rattle.decide.proofs.engine.judge_marked.Statement.{statement}
 use Rattle.decide.proofs.engine.judge_marked.Tie as tie
@@ -38,7 +39,7 @@ returns c =
       is =
           ap (λ x. gives (notPermitted x)) (c .nearest-rule .ensures)
           ∙ ap gives (engine-is _ _ Nothing _ (sym (c .before .before .before .enum-told .given .1) ∙ f .first-rule .ensures .is) refl);
-      kept = f .before .before .before .before .pre .4;
+      kept = written-same _ _ _ (f .before .before .before .before .pre .4);
     }
 
 returns-2 : tie.Need-returns-2
