@@ -70,14 +70,17 @@ pub fn run_case(seed: u64) -> (Vec<u8>, Vec<Query>, usize) {
     (image(random, &draft, 10), queries, slots)
 }
 
-/// So many queries, in half of the cases under two words alone: each another, or one again and again, under its word or
-/// under others.
+/// So many queries, in half of the cases under two or three words alone: each another, or one again and again, under its
+/// word or under others.
 fn rows(random: &mut Random, alphabet: &Alphabet, draft: &Draft, count: usize) -> Vec<Query> {
     let mut queries: Vec<Query> = (0..count).map(|_| query(random, alphabet, draft)).collect();
     let Some((&first, &last)) = queries.first().zip(queries.last()) else {
         return queries;
     };
-    let words = [first.switches, if random.percent(50) { last.switches } else { !first.switches }];
+    let mut words = vec![first.switches, if random.percent(50) { last.switches } else { !first.switches }];
+    if random.percent(50) {
+        words.push(alphabet.word(random));
+    }
     if random.percent(50) {
         queries.iter_mut().for_each(|query| query.switches = random.pick(&words));
     }
@@ -87,7 +90,7 @@ fn rows(random: &mut Random, alphabet: &Alphabet, draft: &Draft, count: usize) -
             let in_turn = random.percent(50);
             let asked = if draft.constraints.is_empty() { first } else { concerned_query(random, draft) };
             for (row, query) in queries.iter_mut().enumerate() {
-                *query = under(if in_turn { words[row % 2] } else { query.switches }, asked);
+                *query = under(if in_turn { words[row % words.len()] } else { query.switches }, asked);
             }
         }
         // long runs are fit, or not by one row

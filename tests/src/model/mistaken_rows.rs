@@ -16,10 +16,16 @@ impl Model {
             Some(Slip::DestinationKept) => self.with_types_kept(image, queries, |request| &mut request.destination),
             Some(Slip::FailureKept) => self.with_failure_kept(image, queries),
             Some(Slip::NearestKept) => self.with_nearest_kept(image, queries),
-            Some(Slip::VerdictKept(predicate)) => self.with_verdicts_kept(image, queries, predicate, |_| false),
+            Some(Slip::VerdictKept(predicate)) => self.with_verdicts_kept(image, queries, predicate, |_| 0),
             Some(Slip::VerdictKeptBack(predicate)) => {
-                let another = |row: usize| queries[row].switches != queries[0].switches;
-                self.with_verdicts_kept(image, queries, predicate, another)
+                let another = |query: &Query| query.switches != queries[0].switches;
+                let last = |row: usize| queries[..=row].iter().rposition(another).map_or(0, |other| other + 1);
+                self.with_verdicts_kept(image, queries, predicate, last)
+            }
+            Some(Slip::VerdictOfWordBefore(predicate)) => {
+                let changed = |rows: &&[Query]| rows[0].switches != rows[1].switches;
+                let in_turn = |row: usize| queries[..=row].windows(2).filter(changed).count() % 2;
+                self.with_verdicts_kept(image, queries, predicate, in_turn)
             }
             _ => queries.iter().map(|&query| self.decide(image, query)).collect(),
         }
@@ -73,21 +79,18 @@ impl Model {
         queries.iter().map(answer).collect()
     }
 
-    /// What a predicate said of a constraint is kept for the next rows, unless it is forgotten before a row.
+    /// What a predicate said of a constraint is kept for the next rows, in one of several places by the row's number.
     pub fn with_verdicts_kept(
         self,
         image: &[u8],
         queries: &[Query],
         predicate: Predicate,
-        forgets: impl Fn(usize) -> bool,
+        place: impl Fn(usize) -> usize,
     ) -> Vec<Answer> {
         let mut kept = BTreeMap::new();
         let answer = |(row, &query): (usize, &Query)| {
             let policy = self.accepted(image, query)?;
             let request = policy.request(query);
-            if forgets(row) {
-                kept.clear();
-            }
             let (Decision::Permitted { rule } | Decision::UnKnown { rule, .. }) = self.judge(&policy, &request) else {
                 return Ok(self.judge(&policy, &request));
             };
@@ -95,7 +98,7 @@ impl Model {
                 let holds = || self.holds(constraint, &policy, &request);
                 let asked = self.applies(constraint, &request) && self.concerns(constraint, &request);
                 match Predicate::of(constraint.predicate) {
-                    of if of == Some(predicate) => asked && !*kept.entry(n).or_insert_with(holds),
+                    of if of == Some(predicate) => asked && !*kept.entry((place(row), n)).or_insert_with(holds),
                     _ => asked && !holds(),
                 }
             };

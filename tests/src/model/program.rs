@@ -22,7 +22,7 @@ impl Model {
             left = rest;
         }
         let mut answers = match self.slip {
-            Some(Slip::ProgramVerdictKept(predicate)) => self.with_verdicts_kept(image, &queries, predicate, |_| false),
+            Some(Slip::ProgramVerdictKept(predicate)) => self.with_verdicts_kept(image, &queries, predicate, |_| 0),
             _ => queries.iter().map(|&query| self.decide(image, query)).collect(),
         };
         match self.slip {

@@ -286,6 +286,7 @@ slips! { Slip
     FirstWordKept => "every row of a run goes by the first row's word",
     VerdictKept(Predicate) => "a run keeps what a predicate said though the word changes",
     VerdictKeptBack(Predicate) => "a run keeps what a predicate said under another word when the first comes back",
+    VerdictOfWordBefore(Predicate) => "a run keeps what a predicate said under the word before the last for a third one",
     // The program.
     ImageToInputEnd => "the program takes the whole input for the image",
     StopsAtRefusedQuery => "the program stops at a refused query",

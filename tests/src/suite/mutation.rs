@@ -6,7 +6,7 @@ use crate::model::{Model, Predicate, Reader, Slip};
 use crate::runner::{run_case, Cases, Finding, Run, Whole, PANIC};
 
 /// Mistakes that the tests of the engine's answers alone must notice, with the mistaken model in the engine's place.
-const PROPERTIES: [(Cases, Slip); 44] = [
+const PROPERTIES: [(Cases, Slip); 46] = [
     (order::PAIRS, Slip::LastRuleSkipped),
     (order::PAIRS, Slip::CoverByTouch),
     (order::PAIRS, Slip::SeparationOfTwoRules),
@@ -23,6 +23,7 @@ const PROPERTIES: [(Cases, Slip); 44] = [
     (rows::AMONG_OTHERS, Slip::FirstWordKept),
     (rows::AMONG_OTHERS, Slip::VerdictKept(Predicate::Separation)),
     (rows::AMONG_OTHERS, Slip::VerdictKeptBack(Predicate::Roster)),
+    (rows::AMONG_OTHERS, Slip::VerdictOfWordBefore(Predicate::Separation)),
     (rows::ALONE, Slip::HalvesSwapped),
     (steps::ONE_BY_ONE, Slip::HighestNearest),
     (steps::ONE_BY_ONE, Slip::FirstStepEnds),
@@ -44,6 +45,7 @@ const PROPERTIES: [(Cases, Slip); 44] = [
     (switches::REPLACED_ROWS, Slip::VerdictKept(Predicate::Roster)),
     (switches::REPLACED_ROWS, Slip::VerdictKept(Predicate::Companion)),
     (switches::REPLACED_ROWS, Slip::VerdictKeptBack(Predicate::Companion)),
+    (switches::REPLACED_ROWS, Slip::VerdictOfWordBefore(Predicate::Roster)),
     (switches::REPLACED_ROWS, Slip::FirstWordKept),
     (switches::TURNED_ON, Slip::SwitchAtZero),
     (switches::TURNED_ON, Slip::SwitchInverted),

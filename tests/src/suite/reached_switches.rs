@@ -68,7 +68,8 @@ pub fn predicates(run: &Run) -> Finding {
 }
 
 /// Of rows that ask the same under different words, one just behind the other: the predicates whose verdicts change,
-/// and to what; and those that are again what they were before, when the word comes back.
+/// and to what; those that are again what they were before, when the word comes back; and those that are not, where it is
+/// a third word.
 pub fn rows(run: &Run) -> Finding {
     let mut tally = Tally::new();
     for seed in run.seeds(&RUN) {
@@ -77,10 +78,19 @@ pub fn rows(run: &Run) -> Finding {
             queries.windows(2).for_each(|rows| changes(&image, rows).for_each(|change| tally.see((change, "changes"))));
             let back = queries.windows(3).filter(|rows| rows[0] == rows[2]);
             back.for_each(|rows| changes(&image, &rows[1..]).for_each(|change| tally.see((change, "comes back"))));
+            let third = queries.windows(3).filter(|rows| is_third(rows));
+            third.for_each(|rows| {
+                changes(&image, &[rows[0], rows[2]]).for_each(|change| tally.see((change, "third word")));
+            });
         }
     }
     let changes = PREDICATES.into_iter().flat_map(|(number, _)| [(number, false), (number, true)]);
-    tally.judge(changes.flat_map(|change| [(change, "changes"), (change, "comes back")]).collect())
+    tally.judge(changes.flat_map(|change| ["changes", "comes back", "third word"].map(|when| (change, when))).collect())
+}
+
+/// Whether the middle one of three rows asks what the first one does, and has a word of its own.
+fn is_third(rows: &[Query]) -> bool {
+    rows[1] == under(rows[1].switches, rows[0]) && rows[1] != rows[0] && rows[1] != rows[2]
 }
 
 /// The predicates that say something else of the second row than of the first, and whether they hold there.
