@@ -10,8 +10,9 @@ use mungaite::{Query, MOST_ROWS};
 const ALL: u32 = u32::MAX;
 const EVERY_OTHER: u32 = 0x5555_5555;
 
-/// All switches but one that no constraint needs to hold.
+/// All switches but one that no constraint needs to hold, and all but another such.
 const ALL_BUT_ONE: u32 = ALL - 1;
+const ALL_BUT_ANOTHER: u32 = ALL - 2;
 
 /// The longest searches and the mixes, with every rule on by its switch; and a search in which half of the rules are
 /// off by theirs.
@@ -27,13 +28,17 @@ pub fn decided() -> Vec<Case> {
     cases
 }
 
-/// Rows that meet 256 constraints each, under one word, under two one after the other, and under two in turn; and under
-/// two in turn where no rule waits.
+/// Rows that meet 256 constraints each, under one word, under two one after the other, and under two and three in turn;
+/// and under two in turn where no rule waits.
 pub fn rows() -> Vec<Case> {
     let halves = [[ALL; MOST_ROWS / 2], [ALL_BUT_ONE; MOST_ROWS / 2]].concat();
     let [_, separations, _, rosters, companions] = held();
-    let words: [(&str, &[u32]); 3] =
-        [("one word", &[ALL]), ("two words, 32 rows each", &halves), ("two words in turn", &[ALL, ALL_BUT_ONE])];
+    let words: [(&str, &[u32]); 4] = [
+        ("one word", &[ALL]),
+        ("two words, 32 rows each", &halves),
+        ("two words in turn", &[ALL, ALL_BUT_ONE]),
+        ("three words in turn", &[ALL, ALL_BUT_ONE, ALL_BUT_ANOTHER]),
+    ];
     let mut cases = Vec::new();
     for (name, case) in [("separations", separations), ("rosters", rosters), ("companions", companions)] {
         let in_turn = case.clone().under(&[ALL, ALL_BUT_ONE]);
@@ -106,9 +111,9 @@ mod tests {
         assert_eq!(answers(covered), [Decision::Permitted { rule: 1023 }]);
     }
 
-    /// Permitted by the transition under both words, so no constraint is broken.
+    /// Permitted by the transition under each word, so no constraint is broken.
     #[test]
-    fn constraints_hold_under_both_words() {
+    fn constraints_hold_under_each_word() {
         for case in rows() {
             assert!(answers(&case).iter().all(|answer| *answer == Decision::Permitted { rule: 1023 }), "{}", case.name);
         }

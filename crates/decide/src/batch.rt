@@ -1,5 +1,5 @@
 // A run: many queries on one policy, each decided as the single query is. The image is checked once, and what does not depend
-// on the row is found once: the groups' places, and what the rules say of each constraint under the rows' word.
+// on the row is found once: the groups' places, and what the rules say of each constraint, under each of two words.
 use crate::steps::begin;
 use crate::steps::begin_queries;
 use crate::steps::decide_row;

@@ -72,7 +72,7 @@ fn predicate_broken(image: &[u8], groups: &[u16; 256], s: Starts, at: usize, swi
 }
 
 // Whether constraint n, at a place, applies to the query and fails. Class and action are tested first, then the arguments, with
-// what is found of their groups kept, and the rules last, with the verdict kept, so that they are asked once for a word.
+// what is found of their groups kept, and the rules last, with the verdict kept, so that they are asked once under a word.
 fn constraint_fails(
     image: &[u8],
     groups: &[u16; 256],

@@ -40,7 +40,7 @@ fn query_at(queries: &[u8], at: usize) -> Query
     }
 }
 
-// The number of a row's answer, and the word that the verdicts are right for after it.
+// The number of a row's answer, and the words that the verdicts are right for after it.
 pub(crate) struct Told {
     pub number: u64,
     pub held: Held,
@@ -74,7 +74,7 @@ fn row(
 
 // Answers as many whole rows as there are slots, and tells how many. Every other slot stays as it is. A refused image gives its
 // refusal in the slot of each row. The image is checked once, and each constraint asks the rules at most once; where a rule names
-// a switch, at most once for each change of the word.
+// a switch, once under a word, as long as no two others come between.
 pub fn decide_all(image: &[u8], queries: &[u8], answers: &mut [u64]) -> usize
     ensures { λ r. ⌜ r ≡ rowsIn (now (queries .entry)) (length (now (answers .entry))) ⌝ }
     ensures { λ _. ⌜ now (answers .exit) ≡ answered (now (image .entry)) (now (queries .entry)) (now (answers .entry)) ⌝ }

@@ -16,7 +16,7 @@ ghost use Rattle.decide.specs.Inner.Parts.{Surveyed};
 ghost use Rattle.decide.specs.Inner.Verdicts.{RowTables};
 ghost use Rattle.decide.specs.Inner.Steps.{Begins, Stepped};
 
-// What a run comes to so far, and the word that the verdicts kept in it are right for.
+// What a run comes to so far, and the words that the verdicts kept in it are right for.
 pub(crate) struct Progress {
     pub run: Run,
     pub held: Held,
