@@ -56,13 +56,13 @@ fn three(label: &[u8], rows: &[u16]) {
 
 // Rows of one query under words of their own, on the sample with its rule 3 by switch 16: the lowest of a word's high half.
 fn words() {
-    let mut sheet = SAMPLE;
-    sheet[55] = 18;
+    let mut image = SAMPLE;
+    image[55] = 18;
     let rows = [13, 21, 5, 1, 0, 1, 13, 21, 5, 1, 1, 0, 13, 21, 5, 1, 0, 1];
     let mut answers = [BEFORE; 3];
     comes(
         b"rule 3 by s16: run of 13 21 5 1, switch 0, then 16, then 0",
-        mungaite::mungaite_run(&rows, &mut answers, &sheet),
+        mungaite::mungaite_run(&rows, &mut answers, &image),
     );
     slot(answers[0]);
     slot(answers[1]);

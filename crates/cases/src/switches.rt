@@ -4,18 +4,18 @@ use crate::show::ask_on;
 use samples::SAMPLE;
 
 pub(crate) fn switches() {
-    rinse();
+    waiting_rule();
     separation();
     companion();
 }
 
 // The sample's rule 3, which is off, by switch 0 and by switch 31.
-fn rinse() {
-    let mut sheet = SAMPLE;
-    sheet[55] = 2;
+fn waiting_rule() {
+    let mut image = SAMPLE;
+    image[55] = 2;
     ask_on(
         b"rule 3 by s0: 13 21 5 1, no switch",
-        &sheet,
+        &image,
         13,
         21,
         5,
@@ -24,7 +24,7 @@ fn rinse() {
     );
     ask_on(
         b"rule 3 by s0: 13 21 5 1, switch 0",
-        &sheet,
+        &image,
         13,
         21,
         5,
@@ -33,17 +33,17 @@ fn rinse() {
     );
     ask_on(
         b"rule 3 by s0: 13 21 5 1, all but 0",
-        &sheet,
+        &image,
         13,
         21,
         5,
         1,
         0xFFFFFFFE,
     );
-    sheet[55] = 33;
+    image[55] = 33;
     ask_on(
         b"rule 3 by s31: 13 21 5 1, switch 31",
-        &sheet,
+        &image,
         13,
         21,
         5,
@@ -52,7 +52,7 @@ fn rinse() {
     );
     ask_on(
         b"rule 3 by s31: 13 21 5 1, all but 31",
-        &sheet,
+        &image,
         13,
         21,
         5,

@@ -1,5 +1,5 @@
 -- Facts of values that are written out, by computation. Assumes nothing.
-use Prim.Native.Nat.{ℕ, zero, suc, _+_, _-_, _<_}
+use Prim.Native.Nat.{ℕ, zero, suc, _+_, _<_}
 use native.Mathlib.Omega.{arith}
 use mathlib.Core.Path.{_≡_, refl, sym, ap, _∙_}
 use mathlib.Core.Bool.{Bool, true}
@@ -8,7 +8,7 @@ use mathlib.Core.List.{List, [], _∷_, _++_, flatten, map, List·Memᴰ, List·
 use lib.ListN.{length, getD, take, drop, replicate, length-append, List·getD-append}
 use lib.Seq.{getD-append-add, getD-set-other}
 use lib.Dec.{eqb, ltb}
-use borrow.Author.Tests.{le-leb, ltb-true, ltb-false}
+use borrow.Author.Tests.{ltb-true, ltb-false}
 use Rattle.format.specs.declared.Section.the-variants.{Rules, Constraints}
 use Rattle.format.specs.Bytes.{Bytes, wordAt, words, putWord}
 use Rattle.format.specs.Format.{knownVersion, limitOf, countPlace, countOf, kindIn, lengthOk, firstRecord, shapeOk}
@@ -34,7 +34,7 @@ use Rattle.decision.specs.Cases.{g0, allow, companion, withSpace, extended, ask
 use Rattle.decision.specs.Clauses.{allowGroup}
 use Rattle.decision.specs.Steps.{off}
 use Rattle.decision.specs.Separation.{From, FromRecord, answerWas, separation, story, elsewhere, sharedCases, SharedCases, wasCases, givenWas, SharedWas}
-use Rattle.decision.specs.Switches.{upTo, withWord, settledRule, settled, onOf, onlyOn, allowIf, rinse, switchCases, SwitchCases}
+use Rattle.decision.specs.Switches.{upTo, withWord, settledRule, settled, onOf, onlyOn, allowIf, sampleIf, switchCases, SwitchCases}
 use Rattle.decision.specs.Rows.{queryAt, queryBytes}
 use Rattle.decision.proofs.Search.{by-test}
 use Rattle.format.specs.Refusals.{refusal, need, _orElse_, unlessRefused}
@@ -314,10 +314,6 @@ up-to-at (suc n) i h =
     let l : n ≡ length (upTo n) + 0 = omega (arith, up-to-many n) in
     ap (λ (j : ℕ). getD (upTo n ++ (n ∷ [])) j 0) (e ∙ l) ∙ getD-append-add (upTo n) (n ∷ []) 0 0 ∙ sym e)
 
-pub by-switch : (w k : ℕ) → isOn w (2 + k) ≡ switchOn w k
-unfolding isOn
-by-switch w k = let e : 2 + k - 2 ≡ k = omega arith in simp (le-leb 2 (2 + k) (omega arith)) (ap (switchOn w) e)
-
 -- the word with all switches on
 pub all-on : allOf (switchOn allOn) (upTo 32) ≡ true
 unfolding allOf switchOn upTo
@@ -329,18 +325,18 @@ plain r = ltb (getD r 10 0) 2
 
 pub record SwitchRules : Type 0 where
   pub sample-plain : allOf plain (policyOf sample .rules) ≡ true
-  pub settled-on : imageOf (settled 1 (policyOf (rinse 2))) ≡ rinse 1
-  pub settled-off : imageOf (settled 0 (policyOf (rinse 2))) ≡ sample
-  pub three : length (onlyOn 0 (policyOf (rinse 2)) .rules) ≡ 3
-  pub four : length (onlyOn 1 (policyOf (rinse 2)) .rules) ≡ 4
-  pub constraints : policyOf (rinse 2) .constraints ≡ policyOf sample .constraints
-  pub allow : getD (getD (policyOf (rinse 2) .rules) 3 []) 1 0 ≡ 2
-  pub condition : getD (getD (policyOf (rinse 2) .rules) 3 []) 10 0 ≡ 2
+  pub settled-on : imageOf (settled 1 (policyOf (sampleIf 2))) ≡ sampleIf 1
+  pub settled-off : imageOf (settled 0 (policyOf (sampleIf 2))) ≡ sample
+  pub three : length (onlyOn 0 (policyOf (sampleIf 2)) .rules) ≡ 3
+  pub four : length (onlyOn 1 (policyOf (sampleIf 2)) .rules) ≡ 4
+  pub constraints : policyOf (sampleIf 2) .constraints ≡ policyOf sample .constraints
+  pub allow : getD (getD (policyOf (sampleIf 2) .rules) 3 []) 1 0 ≡ 2
+  pub condition : getD (getD (policyOf (sampleIf 2) .rules) 3 []) 10 0 ≡ 2
 
 pub switch-rules : SwitchRules
 unfolding
     flatten wordAt words putWord countPlace countOf firstRecord bodyOf imageOf recordAt placeAfter recordsAt startOf placeOf endOf policyOf
-    sample allOf switchOn isOn ruleOf settledRule settled onOf onlyOn rinse
+    sample allOf switchOn isOn ruleOf settledRule settled onOf onlyOn sampleIf
 switch-rules =
     record {
       sample-plain = refl;
@@ -353,9 +349,9 @@ switch-rules =
       condition = refl;
     }
 
-pub rinse-bytes : Bytes (rinse 2)
-unfolding sample rinse
-rinse-bytes = bytes-of (rinse 2) refl
+pub sample-if-bytes : Bytes (sampleIf 2)
+unfolding sample sampleIf
+sample-if-bytes = bytes-of (sampleIf 2) refl
 
 -- a settled rule is one of the settled policy's, of its kind
 module _ (p : Policy) (w : ℕ) (r : List ℕ) where

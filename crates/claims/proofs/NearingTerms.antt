@@ -20,7 +20,7 @@ use Rattle.decision.specs.Decide.{covers, steps, notPermitted, queryOf}
 use Rattle.decision.specs.Cases.{companion, extended}
 use Rattle.decision.specs.Steps.{stepsAt, sourceIn, destIn}
 use Rattle.decision.specs.Before.{barely}
-use Rattle.decision.specs.Switches.{rinse}
+use Rattle.decision.specs.Switches.{sampleIf}
 use Rattle.decision.proofs.Search.{member-at}
 use Rattle.decision.proofs.Cases.{Answers, marked-answers, sample-rules, steps-many, step-answers}
 use Rattle.decision.proofs.Before.{before-permits}
@@ -51,19 +51,19 @@ module _ (p : Promises) where
 
   -- the sample's rule 3 by switch 0
   module _ (s d c a w : ℕ) where
-    by-switch-0 : isOn w (getD (getD (policyOf (rinse 2) .rules) 3 []) 10 0) ≡ isOn w 2
+    by-switch-0 : isOn w (getD (getD (policyOf (sampleIf 2) .rules) 3 []) 10 0) ≡ isOn w 2
     by-switch-0 = ap (isOn w) (switch-rules .condition)
 
-    switch-none : w % 2 ≡ 0 → stepsAt (policyOf (rinse 2)) (queryOf s d c a w) 3 ≡ 0
+    switch-none : w % 2 ≡ 0 → stepsAt (policyOf (sampleIf 2)) (queryOf s d c a w) 3 ≡ 0
     switch-none e =
-        p .nearing .steps-of-record .off (policyOf (rinse 2)) (queryOf s d c a w) (getD (policyOf (rinse 2) .rules) 3 []) (switch-rules .allow)
+        p .nearing .steps-of-record .off (policyOf (sampleIf 2)) (queryOf s d c a w) (getD (policyOf (sampleIf 2) .rules) 3 []) (switch-rules .allow)
         (by-switch-0 ∙ p .switching .condition-means .switch-off w 0 (w / 2) (omega (arith, e)))
 
     switch-one :
-        w % 2 ≡ 1 → sourceIn (policyOf (rinse 2)) (queryOf s d c a w) (getD (policyOf (rinse 2) .rules) 3 []) ≡ false
-        → stepsAt (policyOf (rinse 2)) (queryOf s d c a w) 3 ≡ 1
+        w % 2 ≡ 1 → sourceIn (policyOf (sampleIf 2)) (queryOf s d c a w) (getD (policyOf (sampleIf 2) .rules) 3 []) ≡ false
+        → stepsAt (policyOf (sampleIf 2)) (queryOf s d c a w) 3 ≡ 1
     switch-one e f =
-        p .nearing .steps-of-record .on (policyOf (rinse 2)) (queryOf s d c a w) (getD (policyOf (rinse 2) .rules) 3 []) (switch-rules .allow)
+        p .nearing .steps-of-record .on (policyOf (sampleIf 2)) (queryOf s d c a w) (getD (policyOf (sampleIf 2) .rules) 3 []) (switch-rules .allow)
         (by-switch-0 ∙ p .switching .condition-means .switch-on w 0 (w / 2) (omega (arith, e)))
         ∙ simp f
 

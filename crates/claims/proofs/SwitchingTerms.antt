@@ -18,16 +18,16 @@ use Rattle.decision.specs.declared.Query.{Query}
 use Rattle.decision.specs.Conditions.{switchOn, isOn}
 use Rattle.decision.specs.Decide.{Decision, permitted, decide, answer, queryOf}
 use Rattle.decision.specs.Order.{height, NoCompanion, SwitchedOn}
-use Rattle.decision.specs.Switches.{upTo, NoSwitches, settledRule, settled, onlyOn, rinse}
+use Rattle.decision.specs.Switches.{upTo, NoSwitches, settledRule, settled, onlyOn, sampleIf}
 use Rattle.decision.specs.Tepla.{Dcs, forget, evalPolicy}
 use Rattle.decision.proofs.Search.{by-test, member-at, allOf-elim}
 use Rattle.decision.proofs.Above.{height-permitted}
-use Rattle.decision.proofs.Switches.{none-on}
+use Rattle.decision.proofs.Switches.{by-switch, none-on}
 use Rattle.decision.proofs.Tepla.{forget-permitted}
 use Rattle.runs.proofs.Holds.{map-at}
 use Rattle.claims.specs.Promises.{Promises}
 use Rattle.claims.specs.Terms.{AtLeast, allOn, SwitchRows, SwitchingMet}
-use Rattle.claims.proofs.Cases.{switch-rows, word-is, up-to-many, up-to-at, by-switch, all-on, switch-rules, rinse-bytes, settled-in, settled-kind}
+use Rattle.claims.proofs.Cases.{switch-rows, word-is, up-to-many, up-to-at, all-on, switch-rules, sample-if-bytes, settled-in, settled-kind}
 use Rattle.claims.proofs.Worked.{words-said}
 use Rattle.claims.proofs.DecidingTerms.{gives-one}
 
@@ -98,11 +98,11 @@ module _ (p : Promises) where
       → answer (imageOf (settled v (policyOf l))) (queryOf s d c a w) ≡ answer l (queryOf s d c a v)
   any-settled l s d c a v w b e = ap (answer _) (sym (word-is s d c a v w)) ∙ p .switching .answers-settled .answers l (queryOf s d c a v) w b e
 
-  rinse-accepted : Accepted (rinse 2)
-  rinse-accepted = p .deciding .decided-only (rinse 2) _ (permitted 3) (is .switch-0-on) .0
+  sample-if-accepted : Accepted (sampleIf 2)
+  sample-if-accepted = p .deciding .decided-only (sampleIf 2) _ (permitted 3) (is .switch-0-on) .0
 
-  rinse-settled : (s d c a v w : ℕ) → answer (imageOf (settled v (policyOf (rinse 2)))) (queryOf s d c a w) ≡ answer (rinse 2) (queryOf s d c a v)
-  rinse-settled s d c a v w = any-settled (rinse 2) s d c a v w rinse-bytes rinse-accepted
+  sample-if-settled : (s d c a v w : ℕ) → answer (imageOf (settled v (policyOf (sampleIf 2)))) (queryOf s d c a w) ≡ answer (sampleIf 2) (queryOf s d c a v)
+  sample-if-settled s d c a v w = any-settled (sampleIf 2) s d c a v w sample-if-bytes sample-if-accepted
 
   settled-plain : (o : Policy) (w : ℕ) (r : List ℕ) → List·Memᴰ r (o .rules) → getD r 1 0 ≡ 2 → getD (settledRule w r) 10 0 ≤ 1
   settled-plain o w r m k =
@@ -117,10 +117,10 @@ module _ (p : Promises) where
       → SwitchedOn v w → NoCompanion (policyOf l .constraints) → height d₁ ≤ height d₂
   rises l s d c a v w d₁ d₂ e₁ e₂ = p .switching .switch-order l (queryOf s d c a v) w d₁ d₂ e₁ (ap (answer l) (word-is s d c a v w) ∙ e₂)
 
-  rinse-stays : (w : ℕ) → switchOn w 0 ≡ true → AtLeast 1 (rinse 2) (queryOf 13 21 5 1 w)
-  rinse-stays w t d e =
-      let none : NoCompanion (policyOf (rinse 2) .constraints) = subst NoCompanion (sym (switch-rules .constraints)) (p .ordering .marked-order .no-companion) in
-      let h = rises (rinse 2) 13 21 5 1 1 w (permitted 3) d (is .switch-0-on) e (on-first w t) none in
+  sample-if-stays : (w : ℕ) → switchOn w 0 ≡ true → AtLeast 1 (sampleIf 2) (queryOf 13 21 5 1 w)
+  sample-if-stays w t d e =
+      let none : NoCompanion (policyOf (sampleIf 2) .constraints) = subst NoCompanion (sym (switch-rules .constraints)) (p .ordering .marked-order .no-companion) in
+      let h = rises (sampleIf 2) 13 21 5 1 1 w (permitted 3) d (is .switch-0-on) e (on-first w t) none in
       omega (arith, h, height-permitted 3)
 
   published : (l : List ℕ) (q : Query) (n : ℕ) → answer l q ≡ gives (permitted n) → evalPolicy (policyOf l) q ≡ Dcs.Permitted
@@ -145,8 +145,8 @@ module _ (p : Promises) where
         sample-no-switches = sample-no-switches;
         sample-unread = unread sample sample-no-switches;
         any-settled = any-settled;
-        rinse-on = λ q₁ q₂ q₃ q₄ w. ap (λ (l : List ℕ). answer l (queryOf q₁ q₂ q₃ q₄ w)) (sym (switch-rules .settled-on)) ∙ rinse-settled q₁ q₂ q₃ q₄ 1 w;
-        rinse-off = λ q₁ q₂ q₃ q₄ w. ap (λ (l : List ℕ). answer l (queryOf q₁ q₂ q₃ q₄ w)) (sym (switch-rules .settled-off)) ∙ rinse-settled q₁ q₂ q₃ q₄ 0 w;
+        sample-if-on = λ q₁ q₂ q₃ q₄ w. ap (λ (l : List ℕ). answer l (queryOf q₁ q₂ q₃ q₄ w)) (sym (switch-rules .settled-on)) ∙ sample-if-settled q₁ q₂ q₃ q₄ 1 w;
+        sample-if-off = λ q₁ q₂ q₃ q₄ w. ap (λ (l : List ℕ). answer l (queryOf q₁ q₂ q₃ q₄ w)) (sym (switch-rules .settled-off)) ∙ sample-if-settled q₁ q₂ q₃ q₄ 0 w;
         settled-accepted = s .answers-settled .accepted;
         settled-plain = settled-plain;
         rules-more = λ l v w e h. (let g = s .switches-add .grows l v w e h in (g .rules, g .constraints, g .groups .count, g .groups .same));
@@ -157,7 +157,7 @@ module _ (p : Promises) where
         switches-rise = rises;
         from-none = λ l q₁ q₂ q₃ q₄ w d₁ d₂ e₁ e₂. rises l q₁ q₂ q₃ q₄ 0 w d₁ d₂ e₁ e₂ (on-none w);
         to-all = λ l q₁ q₂ q₃ q₄ v d₁ d₂ e₁ e₂. rises l q₁ q₂ q₃ q₄ v allOn d₁ d₂ e₁ e₂ (on-all v);
-        rinse-stays = rinse-stays;
+        sample-if-stays = sample-if-stays;
         each-word = s .condition-words .each;
         words-said = words-said (s .condition-words);
         no-other-word = λ word n h e. (let o = s .condition-words .only word n e in h n (o .0) (o .1));

@@ -21,7 +21,7 @@ use Rattle.text.specs.Cases.{workedRows, rowGives, rowStands, WorkedRows, outsi
 use Rattle.text.specs.Cases.{fullGroups, fullFault, WorkedFull, oneTransition, oneSwitched, workedTexts, textGives, textMakes, WorkedTexts}
 use Rattle.decision.specs.declared.Nearest.the-variants.{NoRules, Near}
 use Rattle.decision.specs.Decide.{notPermitted, unknown}
-use Rattle.decision.specs.Switches.{rinse}
+use Rattle.decision.specs.Switches.{sampleIf}
 use Rattle.lines.specs.Lines.{line}
 use Rattle.lines.specs.Output.{printed}
 use Rattle.lines.specs.Compiled.{Written, compiled}
@@ -66,13 +66,13 @@ module _ (e : WorkedRuns) where
   unfolding workedRuns runOf runSaid
   eleven-left = run-row 13
 
-  pub switch-0-printed : printed (rinse 2 ++ (askedOn (0 ∷ 0 ∷ 0 ∷ 1 ∷ []) 13 21 5 1 ++ asked 13 21 5 1)) ≡ ascii "P 3\nN 1 0\n"
-  unfolding workedRuns runOf runSaid rinse
+  pub switch-0-printed : printed (sampleIf 2 ++ (askedOn (0 ∷ 0 ∷ 0 ∷ 1 ∷ []) 13 21 5 1 ++ asked 13 21 5 1)) ≡ ascii "P 3\nN 1 0\n"
+  unfolding workedRuns runOf runSaid sampleIf
   switch-0-printed = run-row 20
 
   pub switch-31-printed :
-      printed (rinse 33 ++ (askedOn (128 ∷ 0 ∷ 0 ∷ 0 ∷ []) 13 21 5 1 ++ askedOn (0 ∷ 0 ∷ 0 ∷ 128 ∷ []) 13 21 5 1)) ≡ ascii "P 3\nN 1 0\n"
-  unfolding workedRuns runOf runSaid rinse
+      printed (sampleIf 33 ++ (askedOn (128 ∷ 0 ∷ 0 ∷ 0 ∷ []) 13 21 5 1 ++ askedOn (0 ∷ 0 ∷ 0 ∷ 128 ∷ []) 13 21 5 1)) ≡ ascii "P 3\nN 1 0\n"
+  unfolding workedRuns runOf runSaid sampleIf
   switch-31-printed = run-row 21
 
 module _ (e : WorkedCompiled) where

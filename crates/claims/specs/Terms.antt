@@ -68,7 +68,7 @@ use Rattle.decision.specs.Steps.{stepsOf, stepsAt, sourceIn, destIn, off, stepC
 use Rattle.decision.specs.Before.{denied, allowed, stopped, answerBefore}
 use Rattle.decision.specs.Separation.{From, FromRecord, Wider, separationWas, answerWas, OneType, Raised, separation, story, elsewhere, sharedCases, wasCases}
 use Rattle.decision.specs.Order.{height, Keeps, Grows, NoCompanion}
-use Rattle.decision.specs.Switches.{NoSwitches, settledRule, settled, onlyOn, allowIf, rinse, switchCases}
+use Rattle.decision.specs.Switches.{NoSwitches, settledRule, settled, onlyOn, allowIf, sampleIf, switchCases}
 use Rattle.decision.specs.Growth.{reordered, DecidedAbove}
 use Rattle.decision.specs.Cases.{g0, allow, companion, oneMember, withSpace, extended, cases}
 use Rattle.decision.specs.Tepla.{Dcs, compareDecisions, permits, forget, evalPolicy}
@@ -414,11 +414,11 @@ pub record NearingMet : Type 0 where
   -- StepsOfRecord: the sample's rule 3, which is off, of every query; the same rule by switch 0, under an even word and under an odd one;
   -- its transition, rule 2, and its rule 0, by each step that fails
   pub rule-3-none : (q : Query) → stepsAt (policyOf sample) q 3 ≡ 0
-  pub switch-none : (s d c a w : ℕ) → w % 2 ≡ 0 → stepsAt (policyOf (rinse 2)) (queryOf s d c a w) 3 ≡ 0
+  pub switch-none : (s d c a w : ℕ) → w % 2 ≡ 0 → stepsAt (policyOf (sampleIf 2)) (queryOf s d c a w) 3 ≡ 0
   pub switch-one :
       (s d c a w : ℕ) → w % 2 ≡ 1
-      → sourceIn (policyOf (rinse 2)) (queryOf s d c a w) (getD (policyOf (rinse 2) .rules) 3 []) ≡ false
-      → stepsAt (policyOf (rinse 2)) (queryOf s d c a w) 3 ≡ 1
+      → sourceIn (policyOf (sampleIf 2)) (queryOf s d c a w) (getD (policyOf (sampleIf 2) .rules) 3 []) ≡ false
+      → stepsAt (policyOf (sampleIf 2)) (queryOf s d c a w) 3 ≡ 1
   pub rule-2-one : (q : Query) → sourceIn (policyOf sample) q (getD (policyOf sample .rules) 2 []) ≡ false → stepsAt (policyOf sample) q 2 ≡ 1
   pub rule-2-two :
       (q : Query) → sourceIn (policyOf sample) q (getD (policyOf sample .rules) 2 []) ≡ true
@@ -753,18 +753,18 @@ allOn = 4294967295
 
 pub record SwitchRows : Type 0 where
   pub many : length switchCases ≡ 25
-  pub switch-0-none : answer (rinse 2) (queryOf 13 21 5 1 0) ≡ gives (notPermitted (Near 1 0))
-  pub switch-0-on : answer (rinse 2) (queryOf 13 21 5 1 1) ≡ gives (permitted 3)
-  pub switch-0-off : answer (rinse 2) (queryOf 13 21 5 1 2) ≡ gives (notPermitted (Near 1 0))
-  pub switch-1-on : answer (rinse 3) (queryOf 13 21 5 1 2) ≡ gives (permitted 3)
-  pub switch-1-off : answer (rinse 3) (queryOf 13 21 5 1 1) ≡ gives (notPermitted (Near 1 0))
-  pub switch-16-on : answer (rinse 18) (queryOf 13 21 5 1 0x10000) ≡ gives (permitted 3)
-  pub switch-16-off : answer (rinse 18) (queryOf 13 21 5 1 0xFFFEFFFF) ≡ gives (notPermitted (Near 1 0))
-  pub switch-31-on : answer (rinse 33) (queryOf 13 21 5 1 0x80000000) ≡ gives (permitted 3)
-  pub switch-31-off : answer (rinse 33) (queryOf 13 21 5 1 0x7FFFFFFF) ≡ gives (notPermitted (Near 1 0))
-  pub switch-15-all : answer (rinse 17) (queryOf 13 21 5 1 allOn) ≡ gives (permitted 3)
-  pub near-on : answer (rinse 2) (queryOf 13 21 5 2 1) ≡ gives (notPermitted (Near 4 3))
-  pub near-off : answer (rinse 2) (queryOf 13 21 5 2 0) ≡ gives (notPermitted (Near 1 0))
+  pub switch-0-none : answer (sampleIf 2) (queryOf 13 21 5 1 0) ≡ gives (notPermitted (Near 1 0))
+  pub switch-0-on : answer (sampleIf 2) (queryOf 13 21 5 1 1) ≡ gives (permitted 3)
+  pub switch-0-off : answer (sampleIf 2) (queryOf 13 21 5 1 2) ≡ gives (notPermitted (Near 1 0))
+  pub switch-1-on : answer (sampleIf 3) (queryOf 13 21 5 1 2) ≡ gives (permitted 3)
+  pub switch-1-off : answer (sampleIf 3) (queryOf 13 21 5 1 1) ≡ gives (notPermitted (Near 1 0))
+  pub switch-16-on : answer (sampleIf 18) (queryOf 13 21 5 1 0x10000) ≡ gives (permitted 3)
+  pub switch-16-off : answer (sampleIf 18) (queryOf 13 21 5 1 0xFFFEFFFF) ≡ gives (notPermitted (Near 1 0))
+  pub switch-31-on : answer (sampleIf 33) (queryOf 13 21 5 1 0x80000000) ≡ gives (permitted 3)
+  pub switch-31-off : answer (sampleIf 33) (queryOf 13 21 5 1 0x7FFFFFFF) ≡ gives (notPermitted (Near 1 0))
+  pub switch-15-all : answer (sampleIf 17) (queryOf 13 21 5 1 allOn) ≡ gives (permitted 3)
+  pub near-on : answer (sampleIf 2) (queryOf 13 21 5 2 1) ≡ gives (notPermitted (Near 4 3))
+  pub near-off : answer (sampleIf 2) (queryOf 13 21 5 2 0) ≡ gives (notPermitted (Near 1 0))
   pub on-none : answer sample (queryOf 10 21 5 1 0) ≡ gives (permitted 0)
   pub on-all : answer sample (queryOf 10 21 5 1 allOn) ≡ gives (permitted 0)
   pub off-all : answer sample (queryOf 13 21 5 1 allOn) ≡ gives (notPermitted (Near 1 0))
@@ -776,8 +776,8 @@ pub record SwitchRows : Type 0 where
   pub roster-off : answer (sampleAnd (allowIf 7 (allow 14 g0 7 7))) (queryOf 10 21 5 1 31) ≡ gives (permitted 0)
   pub helped-off : answer (extended (sampleAnd companion) (allowIf 7 (allow 21 10 5 9))) (queryOf 10 21 5 1 31) ≡ gives (unknown 0 2)
   pub helped-on : answer (extended (sampleAnd companion) (allowIf 7 (allow 21 10 5 9))) (queryOf 10 21 5 1 32) ≡ gives (permitted 0)
-  pub condition-34 : answer (rinse 34) (queryOf 10 21 5 1 0) ≡ refused (refusal 6 55)
-  pub condition-255 : answer (rinse 255) (queryOf 10 21 5 1 0) ≡ refused (refusal 6 55)
+  pub condition-34 : answer (sampleIf 34) (queryOf 10 21 5 1 0) ≡ refused (refusal 6 55)
+  pub condition-255 : answer (sampleIf 255) (queryOf 10 21 5 1 0) ≡ refused (refusal 6 55)
 
 pub record SwitchingMet : Type 0 where
   -- ConditionMeans: 0 and 1 under every word; a switch's by the word divided by 2^k, rounded down, both ways; without a switch on
@@ -801,8 +801,8 @@ pub record SwitchingMet : Type 0 where
   pub any-settled :
       (l : List ℕ) (s d c a v w : ℕ) → Bytes l → Accepted l
       → answer (imageOf (settled v (policyOf l))) (queryOf s d c a w) ≡ answer l (queryOf s d c a v)
-  pub rinse-on : (s d c a w : ℕ) → answer (rinse 1) (queryOf s d c a w) ≡ answer (rinse 2) (queryOf s d c a 1)
-  pub rinse-off : (s d c a w : ℕ) → answer sample (queryOf s d c a w) ≡ answer (rinse 2) (queryOf s d c a 0)
+  pub sample-if-on : (s d c a w : ℕ) → answer (sampleIf 1) (queryOf s d c a w) ≡ answer (sampleIf 2) (queryOf s d c a 1)
+  pub sample-if-off : (s d c a w : ℕ) → answer sample (queryOf s d c a w) ≡ answer (sampleIf 2) (queryOf s d c a 0)
   pub settled-accepted : (l : List ℕ) (w : ℕ) → Bytes l → Accepted l → Accepted (imageOf (settled w (policyOf l)))
   pub settled-plain : (p : Policy) (w : ℕ) (r : List ℕ) → List·Memᴰ r (p .rules) → getD r 1 0 ≡ 2 → getD (settledRule w r) 10 0 ≤ 1
   -- SwitchesAdd, with all that it says: any switches more, of any image; from none and to all; rule 3 of the sample by switch 0 is one
@@ -815,7 +815,7 @@ pub record SwitchingMet : Type 0 where
       × ((g : ℕ) → g < length (onlyOn v (policyOf l) .groups) → getD (onlyOn v (policyOf l) .groups) g [] ≡ getD (onlyOn w (policyOf l) .groups) g [])
   pub none-grows : (l : List ℕ) (w : ℕ) → Accepted l → Grows (onlyOn 0 (policyOf l)) (onlyOn w (policyOf l))
   pub all-grows : (l : List ℕ) (v : ℕ) → Accepted l → Grows (onlyOn v (policyOf l)) (onlyOn allOn (policyOf l))
-  pub one-rule-more : (length (onlyOn 0 (policyOf (rinse 2)) .rules) ≡ 3) × (length (onlyOn 1 (policyOf (rinse 2)) .rules) ≡ 4)
+  pub one-rule-more : (length (onlyOn 0 (policyOf (sampleIf 2)) .rules) ≡ 3) × (length (onlyOn 1 (policyOf (sampleIf 2)) .rules) ≡ 4)
   pub as-high :
       (p : Policy) (s d c a v w : ℕ) → height (decide (onlyOn v p) (queryOf s d c a w)) ≡ height (decide p (queryOf s d c a v))
   -- SwitchOrder, with all its terms and no other; from no switch on, to all on; what switch 0 lets through stays so, whatever else is on
@@ -829,7 +829,7 @@ pub record SwitchingMet : Type 0 where
   pub to-all :
       (l : List ℕ) (s d c a v : ℕ) (d₁ d₂ : Decision) → answer l (queryOf s d c a v) ≡ gives d₁ → answer l (queryOf s d c a allOn) ≡ gives d₂
       → NoCompanion (policyOf l .constraints) → height d₁ ≤ height d₂
-  pub rinse-stays : (w : ℕ) → switchOn w 0 ≡ true → AtLeast 1 (rinse 2) (queryOf 13 21 5 1 w)
+  pub sample-if-stays : (w : ℕ) → switchOn w 0 ≡ true → AtLeast 1 (sampleIf 2) (queryOf 13 21 5 1 w)
   -- ConditionWords: every byte by its word, the first and the last written out; no other word, and none for a byte above 33
   pub each-word : (n : ℕ) → n ≤ 33 → valueOf Condition (conditionWord n) ≡ some n
   pub words-said :
@@ -841,7 +841,7 @@ pub record SwitchingMet : Type 0 where
   -- SwitchCases: every row
   pub switch-rows : SwitchRows
   -- PublishedAnswer: under a word
-  pub published-on : evalPolicy (policyOf (rinse 2)) (queryOf 13 21 5 1 1) ≡ Dcs.Permitted
+  pub published-on : evalPolicy (policyOf (sampleIf 2)) (queryOf 13 21 5 1 1) ≡ Dcs.Permitted
   pub published-off : evalPolicy (policyOf switched) (queryOf 20 30 5 2 31) ≡ Dcs.Permitted
 
 pub record PrintingMet : Type 0 where
@@ -865,9 +865,9 @@ pub record PrintingMet : Type 0 where
   pub three-printed : printed (sample ++ threeQueries) ≡ ascii threeSaid
   pub eleven-left : printed (empty ++ replicate 11 0) ≡ ascii "R 15 0\n"
   pub switch-0-printed :
-      printed (rinse 2 ++ (askedOn (0 ∷ 0 ∷ 0 ∷ 1 ∷ []) 13 21 5 1 ++ asked 13 21 5 1)) ≡ ascii "P 3\nN 1 0\n"
+      printed (sampleIf 2 ++ (askedOn (0 ∷ 0 ∷ 0 ∷ 1 ∷ []) 13 21 5 1 ++ asked 13 21 5 1)) ≡ ascii "P 3\nN 1 0\n"
   pub switch-31-printed :
-      printed (rinse 33 ++ (askedOn (128 ∷ 0 ∷ 0 ∷ 0 ∷ []) 13 21 5 1 ++ askedOn (0 ∷ 0 ∷ 0 ∷ 128 ∷ []) 13 21 5 1)) ≡ ascii "P 3\nN 1 0\n"
+      printed (sampleIf 33 ++ (askedOn (128 ∷ 0 ∷ 0 ∷ 0 ∷ []) 13 21 5 1 ++ askedOn (0 ∷ 0 ∷ 0 ∷ 128 ∷ []) 13 21 5 1)) ≡ ascii "P 3\nN 1 0\n"
   -- AnyCompiled: byte by byte, in one read, in two with one between that brings nothing, in none; in a buffer of 9 bytes too
   pub compiled-by-bytes : (text b : List ℕ) → 9 ≤ length b → reads (begun b) (byBytes text) ≡ compiled text b
   pub compiled-at-once : (text b : List ℕ) → 9 ≤ length b → reads (begun b) (text ∷ []) ≡ compiled text b

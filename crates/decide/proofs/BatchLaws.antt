@@ -5,17 +5,17 @@
 use Prim.Native.Nat.{ℕ}
 use mathlib.Core.Path.{_≡_, sym, ap, ap₂, _∙_}
 use mathlib.Core.Bool.{Bool}
-use mathlib.Core.Option.{Option, none, some}
+use mathlib.Core.Option.{Option, some}
 use mathlib.Core.List.{List}
 use Rattle.format.specs.declared.Refusal.{Refusal}
 use Rattle.format.specs.declared.Sections.{Sections}
 use Rattle.format.specs.declared.Sections.the-variants as sections
-use Rattle.format.specs.Answers.{sectionsOutcome, gives}
+use Rattle.format.specs.Answers.{sectionsOutcome}
 use Rattle.decision.specs.declared.Query.{Query}
 use Rattle.decision.specs.declared.Answer.{Answer}
 use Rattle.decision.specs.Decide.{answer, answerOutcome}
 use Rattle.runs.specs.declared.Run.{Run}
-use Rattle.runs.specs.Runs.{rowsFault, answerOf, rowAnswer}
+use Rattle.runs.specs.Runs.{rowsFault, rowAnswer}
 use Rattle.runs.specs.Inner.Progress.{openFault, runSaid, nextRun}
 use Rattle.runs.proofs.Holds.{said-answer}
 use Rattle.decide.specs.declared.steps.Progress.{Progress}

@@ -21,7 +21,6 @@ use Rattle.decision.specs.Reading.{Rule, Request, asks, ruleOf, requestOf}
 use Rattle.decision.specs.Decide.{tests, covers}
 use Rattle.decide.specs.Inner.Parts.{setIn, setAt, requestIn}
 use Rattle.decide.specs.Inner.Rules.{allowAt, mayAt, ifAsked}
-use Rattle.decide.proofs.RuleLaws.{allow-not}
 
 -- ---- what a rule's tests come to
 

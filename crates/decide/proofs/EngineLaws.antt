@@ -10,7 +10,7 @@ use Rattle.format.specs.declared.Refusal.{Refusal}
 use Rattle.format.specs.Refusals.{refusal}
 use Rattle.format.specs.Format.{countOf, isType}
 use Rattle.format.specs.Policy.{policyOf}
-use Rattle.format.specs.Check.{check, Accepted}
+use Rattle.format.specs.Check.{Accepted}
 use Rattle.format.specs.Claims.{IsType}
 use Rattle.format.specs.Answers.{refused, gives, outcome}
 use Rattle.decision.specs.declared.Query.{Query}

@@ -7,14 +7,13 @@
 --     near-empty                    there are no rules
 use Prim.Native.Nat.{ℕ, suc, _+_, _-_, _≤_, _<_}
 use native.Mathlib.Omega.{arith}
-use native.Mathlib.Numerals.{add-one}
-use mathlib.Core.Path.{_≡_, refl, sym, subst, ap, _∙_}
+use mathlib.Core.Path.{_≡_, refl, sym, ap, _∙_}
 use mathlib.Core.Logic.{⊎-elim}
 use mathlib.Core.Bool.{Bool, true, false, not, cond}
-use mathlib.Core.List.{List, [], _∷_, map, List·Memᴰ}
+use mathlib.Core.List.{List, [], _∷_, map}
 use lib.ListN.{getD, take}
-use lib.Dec.{eqb, leb, ltb}
-use borrow.Author.Tests.{eq-eqb, ne-eqb, lt-ltb, le-ltb, ltb-true, ltb-false, not-true}
+use lib.Dec.{eqb, ltb}
+use borrow.Author.Tests.{eq-eqb, ne-eqb, lt-ltb, le-ltb, ltb-true, ltb-false}
 use Rattle.format.specs.declared.Section.the-variants.{Rules}
 use Rattle.format.specs.Bytes.{wordAt}
 use Rattle.format.specs.Policy.{policyOf, recordAt, recordsAt, startOf}
@@ -27,7 +26,7 @@ use Rattle.format.proofs.Shapes.{stands-word}
 use Rattle.decision.specs.declared.Query.{Query}
 use Rattle.decision.specs.declared.Nearest.{Nearest}
 use Rattle.decision.specs.declared.Nearest.the-variants.{NoRules, Near}
-use Rattle.decision.specs.Sets.{anyOf, allOf, within}
+use Rattle.decision.specs.Sets.{allOf, within}
 use Rattle.decision.specs.Conditions.{isOn}
 use Rattle.decision.specs.Reading.{Rule, Request, asks, ruleOf, requestOf}
 use Rattle.decision.specs.Decide.{tests, covers, passes, steps, nearest, nearestBy, nearestOf, firstAt}

@@ -3,7 +3,7 @@
 --     begun-numbers              what it begins with
 --     row-slot, row-few, row-numbers   of a row that is decided: its slot, its number, its six numbers
 --     row-run, row-code          what the run comes to after it, and its slot
-use Prim.Native.Nat.{ℕ, suc, _+_, _*_, _/_, _<_}
+use Prim.Native.Nat.{ℕ, _+_, _*_, _/_, _<_}
 use mathlib.Core.Path.{_≡_, sym, ap, subst, _∙_}
 use mathlib.Core.Bool.{Bool}
 use mathlib.Core.Option.{Option, none}

@@ -1,13 +1,13 @@
--- Laws of the verdicts that are kept under a switch word. Assumes nothing.
+-- Laws of the verdicts that are kept under two switch words. Assumes nothing.
 --     front-none, front-says, front-adds   in front: nothing at first, what is read back, and one more kept
 --     written-same, written-after, left-same   what stands behind stays
 --     Turning, turning-next  the table turned before a number, and one number further
 --     kept-fresh             none is kept at first
---     recalled-first, recalled-same, recalled-plain, recalled-turned, recalled-refused   made right for a word, one for each way
---                            that it is
+--     recalled-first, recalled-plain, recalled-turned, recalled-refused   made right for a word, one for each way that it is
 --     tables-for, rows-after   what a query is lent, and what it leaves for the next row
 --     any-named              all rules, by their records from the first on
 --     names-not, names-allow what a rule at a place names
+--     refused-not            a refused image is not accepted
 use Prim.Native.Nat.{ℕ, _+_, _/_, _%_, _≤_, _<_}
 use native.Mathlib.Omega.{arith}
 use mathlib.Core.Path.{_≡_, refl, sym, subst, ap, _∙_}
@@ -189,9 +189,6 @@ module _ (l : List ℕ) (w : ℕ) where
           word = refl;
           some = omega arith;
         }
-
-    pub recalled-same : (h .known ≡ 0 → ⊥) → h .word ≡ w → Recalled l w h vs
-    recalled-same n e = record { kept = k; word = e; some = omega (arith, n) }
 
     -- no rule names a switch, so every word gives the same
     pub recalled-plain : Accepted l → anyNamed l ≡ false → Recalled l w (holds (h .other) 2) vs

@@ -2,7 +2,7 @@
 --     walk-start, walk-next, walk-hit, walk-end   its laws
 --     walk-rule, walk-constraint            what stands at the running place
 --     FirstOf, AnyOf                        a walk for the first record that passes a test, and for any
-use Prim.Native.Nat.{ℕ, _+_, _-_, _≤_, _<_}
+use Prim.Native.Nat.{ℕ, _+_, _-_, _<_}
 use mathlib.Core.Path.{_≡_, sym, ap, _∙_}
 use mathlib.Core.Bool.{Bool, true, false}
 use mathlib.Core.List.{List, [], _∷_, map}
@@ -12,7 +12,7 @@ use lib.ListN.{getD}
 use Rattle.format.specs.declared.Section.{Section}
 use Rattle.format.specs.declared.Section.the-variants.{Rules, Constraints}
 use Rattle.format.specs.Format.{countOf}
-use Rattle.format.specs.Policy.{policyOf, recordAt, recordsAt, startOf, placeOf}
+use Rattle.format.specs.Policy.{policyOf, recordAt, recordsAt, startOf}
 use Rattle.format.specs.Check.{Accepted}
 use Rattle.format.proofs.Accepted.{accepted-header, place-first, place-next, policy-rules, policy-constraints}
 use Rattle.format.proofs.ByCase.{limit-constraints}

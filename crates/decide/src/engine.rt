@@ -115,8 +115,8 @@ fn judge(
     answer
 }
 
-// The engine's answer on an image that `survey` has checked, with what it gave. Three tables serve for every query on the image
-// under one word: what is found of constraints, of zeros at first, and marks, of which none is set.
+// The engine's answer on an image that `survey` has checked, with what it gave. Three tables are lent from
+// query to query: what is found of constraints, in front under this query's word, and marks, of which none is set.
 pub(crate) fn decide_surveyed(
     image: &[u8],
     groups: &[u16; 256],

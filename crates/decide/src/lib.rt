@@ -13,7 +13,7 @@ mod separation; // separation.rt: what a separation asks of them
 mod cover; // cover.rt: the lowest rule that covers a query
 mod passes; // passes.rt: how many steps a rule passes
 mod nearest; // nearest.rt: the rule that came nearest to a query that none covers
-mod verdicts; // verdicts.rt: what is found of constraints, kept under the word that it was found for
+mod verdicts; // verdicts.rt: what is found of constraints, kept under two words
 mod constraint; // constraint.rt: whether a constraint fails, and the lowest that does
 mod engine; // engine.rt: the decision on an image and a query
 mod rows; // rows.rt: many queries at once

@@ -5,7 +5,7 @@ use native.Mathlib.Omega.{arith}
 use mathlib.Core.Path.{_≡_, refl, sym, ap, _∙_}
 use mathlib.Core.Logic.{inl, ⊎-elim}
 use mathlib.Core.List.{List, [], _∷_, flatten, map, List·Memᴰ·not-nil, List·Memᴰ·cases-cons, Memᴰ·append-left}
-use lib.ListN.{length, getD, set}
+use lib.ListN.{length, getD}
 use Rattle.format.specs.Bytes.{wordAt, words, putWord}
 use Rattle.format.proofs.Tests.{false-not-true}
 use Rattle.format.specs.Refusals.{refusal, need, _orElse_, unlessRefused}
@@ -27,7 +27,7 @@ use Rattle.decision.specs.Clauses.{allowGroup, companionOfGroup, rosterO
 use Rattle.decision.specs.Steps.{off, stepCases, StepCases}
 use Rattle.decision.specs.Separation.{sameSet, separationWas, brokenWas, failsWas, decideWas, answerWas, separation, separate, cross, story, elsewhere, separateGroup, ownTransition, pair, sharedCases, SharedCases, wasCases, givenWas, SharedWas}
 use Rattle.decision.specs.Growth.{reordered}
-use Rattle.decision.specs.Switches.{upTo, OneSwitch, allowIf, rinse, switchCases, SwitchCases}
+use Rattle.decision.specs.Switches.{upTo, OneSwitch, allowIf, sampleIf, switchCases, SwitchCases}
 use Rattle.decision.proofs.Switches.{none-on}
 
 -- a predicate that is no companion
@@ -45,7 +45,7 @@ unfolding
     switchOn isOn asks live ruleOf constraintOf requestOf rulesOf constraintsOf
     tests covers passes steps nearestOf greatest nearestBy nearest reaches separationBroken rosterBroken companionBroken broken applies inside fails firstAt decisionOf judge decide queryFault answerFault answer
     withSpace extended g0 allow companion oneMember banned allowGroup backTransition longRoster companionOfGroup rosterOfGroup ask cases clauseCases off stepCases separation separate cross story elsewhere separateGroup ownTransition pair sharedCases wasCases given expectedOf reordered
-    askOn allowIf rinse switchCases sameSet separationWas brokenWas failsWas decideWas answerWas givenWas
+    askOn allowIf sampleIf switchCases sameSet separationWas brokenWas failsWas decideWas answerWas givenWas
 computed = (refl, adds, order, refl, refusals, refl, refl, refl, refl)
   where
     adds : MarkedAdds

@@ -9,7 +9,7 @@ use native.Mathlib.Omega.{arith}
 use native.Mathlib.Nat.{le-max-left, le-max-right, max-le, max-eq-left, max-eq-right}
 use mathlib.Core.Path.{_≡_, refl, sym, subst, ap, _∙_}
 use mathlib.Core.Logic.{⊎-elim}
-use mathlib.Core.Bool.{Bool, true, false, cond}
+use mathlib.Core.Bool.{Bool, false, cond}
 use mathlib.Core.Option.{Option, none, some}
 use mathlib.Core.List.{List, [], _∷_, List·Memᴰ, List·Memᴰ·head, List·Memᴰ·tail, List·Memᴰ·not-nil, List·Memᴰ·cases-cons}
 use lib.ListN.{take}
@@ -22,7 +22,7 @@ use Rattle.decision.specs.Sets.{anyOf}
 use Rattle.decision.specs.Decide.{firstAt, greatest, nearestOf, nearestBy}
 use Rattle.decision.specs.Lowest.{Lowest, Most}
 use Rattle.decision.specs.Inner.OnePass.{nearer, nearestFrom}
-use Rattle.decision.proofs.Search.{by-test, anyOf-intro, anyOf-elim, anyOf-none, anyOf-none-intro, anyOf-same, firstAt-any, firstAt-none, firstAt-some, firstAt-some-intro, isFound}
+use Rattle.decision.proofs.Search.{by-test, anyOf-intro, anyOf-elim, anyOf-none, anyOf-none-intro, firstAt-any, firstAt-none, firstAt-some, firstAt-some-intro, isFound}
 
 -- ---- the greatest
 

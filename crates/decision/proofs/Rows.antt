@@ -1,7 +1,7 @@
 -- Laws of rows and their numbers. Assumes nothing.
 --     numbers-length   a number for each whole row
 --     numbers-at       the number of a row is its answer's
---     rows-whole, rows-answered, slots-stay, row-alone   the claims
+--     rows-whole, rows-answered, slots-stay, row-alone, query-read   the claims
 use Prim.Native.Nat.{ℕ, zero, suc, _+_, _-_, _*_, _/_, _%_, _<_, _≤_}
 use native.Mathlib.Omega.{arith}
 use mathlib.Core.Path.{_≡_, refl, sym, ap, _∙_}

@@ -1,7 +1,7 @@
 -- A policy whose conditions a word settles. Claim AnswersSettled. Assumes nothing.
 --     settled-reads     a settled rule reads as the rule did under the word, whatever the word now
 --     map-same          equal on each element, equal on the list
-use Prim.Native.Nat.{ℕ, _+_, _≤_, _<_}
+use Prim.Native.Nat.{ℕ, _+_, _<_}
 use native.Mathlib.Omega.{arith}
 use mathlib.Core.Path.{_≡_, refl, sym, subst, ap, ap₂, _∙_}
 use mathlib.Core.Logic.{inl, inr, ⊎-elim}

@@ -1,23 +1,22 @@
 -- The steps and the nearest rule: claims StepsInOrder, StepsOfRecord, CoversAll, DeniedSteps, NearestPasses, NearestOfAll,
 -- NoRulesExactly. Assumes nothing.
 --     uncovered-few    a rule that does not cover passes at most 4 steps
-use Prim.Native.Nat.{ℕ, zero, suc, _≤_, _<_}
+use Prim.Native.Nat.{ℕ, suc, _≤_, _<_}
 use native.Mathlib.Omega.{arith}
-use mathlib.Core.Path.{_≡_, refl, sym, subst, ap, _∙_}
+use mathlib.Core.Path.{_≡_, refl, sym, ap, _∙_}
 use mathlib.Core.Bool.{Bool, true, false, cond}
 use mathlib.Core.List.{List, [], _∷_, map, List·Memᴰ}
 use lib.ListN.{length, getD, length-map, List·getD-map}
 use lib.Dec.{eqb, leb, ltb}
 use borrow.Author.Tests.{eqb-true, eqb-false, leb-false, ltb-false}
 use Rattle.format.specs.Policy.{Policy, policyOf}
-use Rattle.format.specs.Check.{Accepted}
 use Rattle.format.specs.Answers.{gives}
 use Rattle.decision.specs.declared.Query.{Query}
 use Rattle.decision.specs.declared.Nearest.{Nearest}
 use Rattle.decision.specs.declared.Nearest.the-variants.{NoRules, Near}
 use Rattle.decision.specs.Sets.{anyOf, allOf, within}
 use Rattle.decision.specs.Reading.{Rule, Request, asks, ruleOf, requestOf, rulesOf, constraintsOf}
-use Rattle.decision.specs.Decide.{tests, covers, passes, steps, firstAt, greatest, nearestOf, nearestBy, nearest, fails, Decision, notPermitted, decisionOf, judge, decide, answer, Valid}
+use Rattle.decision.specs.Decide.{tests, covers, passes, steps, firstAt, nearestOf, nearestBy, nearest, notPermitted, decisionOf, judge, decide, answer}
 use Rattle.decision.specs.Lowest.{Most}
 use Rattle.decision.specs.Steps.{stepsOf, StepsInOrder, CoversAll, stepsAt, sourceIn, destIn, StepsOfRecord, FewSteps, DeniedSteps, NearestPasses, NearestOfAll, NoRulesExactly}
 use Rattle.decision.proofs.Search.{member-at, anyOf-map, anyOf-none, none-at, lowest-inside, lowest-at}

@@ -1,18 +1,19 @@
 -- What switches do. Claims ConditionMeans, WordUnread, SwitchesAdd, SwitchOrder. Assumes nothing.
---     none-on           the word 0 has no switch on
-use Prim.Native.Nat.{ℕ, _+_, _*_, _-_, _/_, _%_, _≤_, _<_, _^_}
+--     by-switch                 condition 2 + k is switch k
+--     none-on                   the word 0 has no switch on
+--     plain-rule, plain-rules   a rule that names no switch, and such rules, read the same under every word
+use Prim.Native.Nat.{ℕ, _+_, _*_, _-_, _%_, _<_, _^_}
 use native.Mathlib.Nat.{zero-div}
 use native.Mathlib.Omega.{arith}
 use mathlib.Core.Path.{_≡_, refl, sym, subst, ap, _∙_}
 use mathlib.Core.Logic.{inl, inr, ⊎-elim}
-use mathlib.Core.Bool.{Bool, true, false, _&&_, cond}
-use mathlib.Core.List.{List, [], _∷_, map, List·Memᴰ, List·Memᴰ·head, List·Memᴰ·tail, List·Memᴰ·not-nil, List·Memᴰ·cases-cons, Memᴰ·cast, Memᴰ·map, Memᴰ·of-map}
-use lib.ListN.{length, getD, set}
+use mathlib.Core.Bool.{true, false}
+use mathlib.Core.List.{List, [], _∷_, List·Memᴰ, List·Memᴰ·head, List·Memᴰ·tail, List·Memᴰ·not-nil, List·Memᴰ·cases-cons, Memᴰ·cast, Memᴰ·map, Memᴰ·of-map}
+use lib.ListN.{length, getD}
 use lib.Seq.{set-out}
-use lib.Dec.{eqb, leb}
+use lib.Dec.{eqb}
 use borrow.Author.Tests.{le-leb, lt-leb, eqb-true}
 use Rattle.format.specs.Policy.{Policy, policyOf}
-use Rattle.format.specs.Check.{Accepted}
 use Rattle.format.specs.Answers.{outcome}
 use Rattle.format.proofs.Tests.{both}
 use Rattle.decision.specs.declared.Query.{Query}
@@ -31,7 +32,7 @@ use Rattle.decision.proofs.Settled.{settled-reads, map-same}
 
 -- ---- a condition
 
-by-switch : (w k : ℕ) → isOn w (2 + k) ≡ switchOn w k
+pub by-switch : (w k : ℕ) → isOn w (2 + k) ≡ switchOn w k
 unfolding isOn
 by-switch w k = let e : 2 + k - 2 ≡ k = omega arith in simp (le-leb 2 (2 + k) (omega arith)) (ap (switchOn w) e)
 

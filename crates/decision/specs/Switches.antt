@@ -9,17 +9,19 @@
 --     settled w p         a policy with its rules so
 --     AnswersSettled      under a word a policy answers as the one that the word settles, under any word: refusals, rule, constraint
 --                         and steps; that one is accepted, and names no switch
---     onlyOn w p          the policy whose rules are those that are on under the word w, settled
+--     onOf p w rs         those of some rules of p that are on under the word w, settled
+--     onlyOn w p          the policy whose rules are those
 --     SwitchesAdd         more switches on, and that policy holds no fewer rules; and it decides as high as p does under w
 --     SwitchOrder         so turning switches on counts as adding rules: no decision is lower, if there is no companion
 --     allowIf b r         the allow rule r with another condition
+--     sampleIf b          the sample with its rule 3 under another condition
 --     switchCases         a rule by switch 0, 1, 16 and 31, under words that have it on and off; its steps where it is off; a
 --                         transition; a rule that is on, and one that is off, under every switch; each predicate by a rule that a
 --                         switch turns on and off; conditions 33 and 34
 --     SwitchCases         the definitions give these answers
 use Prim.Native.Nat.{ℕ, zero, suc, _+_, _*_, _-_, _/_, _<_, _≤_, _^_}
 use mathlib.Core.Path.{_≡_}
-use mathlib.Core.Bool.{Bool, true, false, not, cond}
+use mathlib.Core.Bool.{true, false, not, cond}
 use mathlib.Core.List.{List, [], _∷_, _++_, map, List·Memᴰ}
 use lib.ListN.{getD, set}
 use lib.Dec.{eqb}
@@ -31,7 +33,7 @@ use Rattle.format.specs.Answers.{refused, gives}
 use Rattle.format.specs.Sample.{sample}
 use Rattle.decision.specs.declared.Query.{Query}
 use Rattle.decision.specs.declared.Nearest.the-variants.{Near}
-use Rattle.decision.specs.Conditions.{switchOn, isOn}
+use Rattle.decision.specs.Conditions.{isOn}
 use Rattle.decision.specs.Reading.{ruleOf}
 use Rattle.decision.specs.Decide.{Decision, notPermitted, permitted, unknown, decide, answer, queryOf}
 use Rattle.decision.specs.Order.{height, Grows, NoCompanion, SwitchedOn}
@@ -98,25 +100,25 @@ unfoldable pub allowIf : ℕ → List ℕ → List ℕ
 allowIf b r = set r 10 b
 
 -- the sample with its rule 3, 13 to 21, class 5, action 1, under a condition: its byte 55
-unfoldable pub rinse : ℕ → List ℕ
-rinse b = set sample 55 b
+unfoldable pub sampleIf : ℕ → List ℕ
+sampleIf b = set sample 55 b
 
 unfoldable pub switchCases : List Case
 switchCases =
     -- switch 0, 1, 16 and 31; a rule that is off passes no step, and rule 0 stops at its source
-    askOn 0 (rinse 2) 13 21 5 1 (gives (notPermitted (Near 1 0)))
-    ∷ askOn 1 (rinse 2) 13 21 5 1 (gives (permitted 3))
-    ∷ askOn 2 (rinse 2) 13 21 5 1 (gives (notPermitted (Near 1 0)))
-    ∷ askOn 2 (rinse 3) 13 21 5 1 (gives (permitted 3))
-    ∷ askOn 1 (rinse 3) 13 21 5 1 (gives (notPermitted (Near 1 0)))
-    ∷ askOn 0x10000 (rinse 18) 13 21 5 1 (gives (permitted 3))
-    ∷ askOn 0xFFFEFFFF (rinse 18) 13 21 5 1 (gives (notPermitted (Near 1 0)))
-    ∷ askOn 0x80000000 (rinse 33) 13 21 5 1 (gives (permitted 3))
-    ∷ askOn 0x7FFFFFFF (rinse 33) 13 21 5 1 (gives (notPermitted (Near 1 0)))
-    ∷ askOn 0xFFFFFFFF (rinse 17) 13 21 5 1 (gives (permitted 3))
+    askOn 0 (sampleIf 2) 13 21 5 1 (gives (notPermitted (Near 1 0)))
+    ∷ askOn 1 (sampleIf 2) 13 21 5 1 (gives (permitted 3))
+    ∷ askOn 2 (sampleIf 2) 13 21 5 1 (gives (notPermitted (Near 1 0)))
+    ∷ askOn 2 (sampleIf 3) 13 21 5 1 (gives (permitted 3))
+    ∷ askOn 1 (sampleIf 3) 13 21 5 1 (gives (notPermitted (Near 1 0)))
+    ∷ askOn 0x10000 (sampleIf 18) 13 21 5 1 (gives (permitted 3))
+    ∷ askOn 0xFFFEFFFF (sampleIf 18) 13 21 5 1 (gives (notPermitted (Near 1 0)))
+    ∷ askOn 0x80000000 (sampleIf 33) 13 21 5 1 (gives (permitted 3))
+    ∷ askOn 0x7FFFFFFF (sampleIf 33) 13 21 5 1 (gives (notPermitted (Near 1 0)))
+    ∷ askOn 0xFFFFFFFF (sampleIf 17) 13 21 5 1 (gives (permitted 3))
     -- all of its steps are asked once it is on
-    ∷ askOn 1 (rinse 2) 13 21 5 2 (gives (notPermitted (Near 4 3)))
-    ∷ askOn 0 (rinse 2) 13 21 5 2 (gives (notPermitted (Near 1 0)))
+    ∷ askOn 1 (sampleIf 2) 13 21 5 2 (gives (notPermitted (Near 4 3)))
+    ∷ askOn 0 (sampleIf 2) 13 21 5 2 (gives (notPermitted (Near 1 0)))
     -- no switch turns off a rule that is on, or on one that is off; a transition has no condition
     ∷ askOn 0 sample 10 21 5 1 (gives (permitted 0))
     ∷ askOn 0xFFFFFFFF sample 10 21 5 1 (gives (permitted 0))
@@ -133,8 +135,8 @@ switchCases =
     ∷ askOn 31 (extended (extended sample companion) (allowIf 7 (allow 21 10 5 9))) 10 21 5 1 (gives (unknown 0 2))
     ∷ askOn 32 (extended (extended sample companion) (allowIf 7 (allow 21 10 5 9))) 10 21 5 1 (gives (permitted 0))
     -- 33 is the last condition, whatever the word
-    ∷ askOn 0 (rinse 34) 10 21 5 1 (refused (refusal 6 55))
-    ∷ askOn 0 (rinse 255) 10 21 5 1 (refused (refusal 6 55))
+    ∷ askOn 0 (sampleIf 34) 10 21 5 1 (refused (refusal 6 55))
+    ∷ askOn 0 (sampleIf 255) 10 21 5 1 (refused (refusal 6 55))
     ∷ []
 
 abbrev pub SwitchCases : Type 0

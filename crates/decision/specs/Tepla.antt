@@ -1,6 +1,6 @@
 -- TEpla's own evaluation (source document 000, algorithms 2 and 3 and figure 1; 001 where 000 leaves a function out), with
--- document 01's sets, predicates (a separation as in request [5]), transitions and conditions (switches as in request [6]) for what the paper leaves to
--- parameters. Lines of the two documents' texts are cited as 000:149.
+-- document 01's sets, predicates (a separation as in request [5]), transitions and conditions (switches as in request [6]) for
+-- what the paper leaves to parameters. Lines of the two documents' texts are cited as 000:149.
 --     Dcs, compareDecisions, maximalDcs, maximum   decisions without numbers, their order, the greater, the greatest
 --     typesWithin, allows      what a rule's record asks of a query: a transition's the first, an allow rule's the second
 --     permits p q r            what the record asks, by its kind
@@ -14,8 +14,8 @@
 --     PublishedAnswer          and so the engine answers every valid query on an accepted policy
 --     PublishedOrder           the order on decisions is the paper's
 -- Both sides read a constraint alike, hand its predicate the same rules (`rulesOf`), take a type for its set and ask `isOn`,
--- `within` and `broken` alike; what those mean is document 01's, and other claims pin it. The evaluation shares nothing with `judge`, and puts a
--- query against a rule's record, not against a `Rule`.
+-- `within` and `broken` alike; what those mean is document 01's, and other claims pin it. The evaluation shares nothing with
+-- `judge`, and puts a query against a rule's record, not against a `Rule`.
 use Prim.Native.Nat.{ℕ}
 use mathlib.Core.Path.{_≡_}
 use mathlib.Core.Bool.{Bool, true, false, not, _&&_, cond}

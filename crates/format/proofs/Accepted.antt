@@ -15,7 +15,7 @@ use Prim.Native.Nat.{ℕ, zero, suc, _+_, _≤_, _<_}
 use mathlib.Core.Path.{_≡_, refl, sym, ap, ap₂, _∙_}
 use mathlib.Core.Bool.{Bool, true, _&&_}
 use mathlib.Core.Option.{none, some}
-use mathlib.Core.List.{List, [], _∷_, List·Memᴰ}
+use mathlib.Core.List.{List, [], _∷_}
 use native.Mathlib.Omega.{arith}
 use native.Mathlib.Nat.{add-zero}
 use native.Mathlib.Numerals.{add-one}
@@ -36,7 +36,7 @@ use Rattle.format.proofs.Tests.{both, and-true}
 use Rattle.format.proofs.Chain.{orElse-split, orElse-none, orElse-next, orElse-first, need-true, need-none, need-some}
 use Rattle.format.specs.Inner.Places.{Stands}
 use Rattle.format.proofs.Shapes.{Formed, stands, record-part}
-use Rattle.format.proofs.Records.{place-snoc, place-least, records-length, records-nth, records-mem, section-formed, section-rest}
+use Rattle.format.proofs.Records.{place-snoc, place-least, records-length, records-nth, section-formed, section-rest}
 
 pub record Header (fits : ℕ → ℕ → Bool) (l : List ℕ) : Type 0 where
   pub long : 9 ≤ length l
@@ -179,11 +179,6 @@ module _ (l : List ℕ) where
 pub record-nth : (l : List ℕ) (s : Section) (n : ℕ) → n < countOf l s → getD (recordsOf (policyOf l) s) n [] ≡ recordAt l (placeOf l s n)
 unfolding placeOf
 record-nth l s n h = ap (λ (rs : List (List ℕ)). getD rs n []) (policy-records l s) ∙ records-nth l (startOf l s) (countOf l s) n h
-
-pub record-mem :
-    (l : List ℕ) (s : Section) (r : List ℕ) → List·Memᴰ r (recordsAt l (startOf l s) (countOf l s)) → (n : ℕ) × (n < countOf l s) × (r ≡ recordAt l (placeOf l s n))
-unfolding placeOf
-record-mem l s r m = records-mem l (startOf l s) (countOf l s) r m
 
 pub group-nth : (l : List ℕ) (n : ℕ) → n < countOf l Groups → getD (policyOf l .groups) n [] ≡ recordAt l (placeOf l Groups n)
 unfolding recordsOf

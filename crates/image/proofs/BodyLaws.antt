@@ -13,7 +13,7 @@ use Rattle.format.specs.declared.Section.{Section}
 use Rattle.format.specs.declared.Section.the-variants.{Groups, Rules, Constraints}
 use Rattle.format.specs.declared.Refusal.{Refusal}
 use Rattle.format.specs.declared.Extent.{Extent}
-use Rattle.format.specs.Refusals.{refusal, need, _orElse_}
+use Rattle.format.specs.Refusals.{refusal, need}
 use Rattle.format.specs.Format.{countOf}
 use Rattle.format.specs.Policy.{recordAt, placeAfter, startOf, placeOf, endOf}
 use Rattle.format.specs.Check.{sectionFault, headerFault, bodyFault, check, Accepted}

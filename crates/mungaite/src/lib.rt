@@ -61,8 +61,8 @@ pub extern "C" fn mungaite_decide(
     number(decide(image, q))
 }
 
-// A run of 1 to 64 queries, six numbers for each, the halves of its word last: the number of each answer, and 0, 1, 0, 0 where every row is Permitted, else
-// 0, 0, 0, row. A refused call leaves the answers as they were.
+// A run of 1 to 64 queries, six numbers for each, the halves of its word last: the number of each answer, and 0, 1, 0, 0 where
+// every row is Permitted, else 0, 0, 0, row. A refused call leaves the answers as they were.
 #[no_mangle]
 pub extern "C" fn mungaite_run(queries: &[u16], answers: &mut [u64], image: &[u8]) -> u64
     ensures { λ r. ⌜ (r ≡ runCode (numbersRun (now (image .entry)) (now (queries .entry)) (length (now (answers .entry)))))

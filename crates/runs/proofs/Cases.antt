@@ -14,11 +14,11 @@ use Rattle.decision.specs.Reading.{asks, live, ruleOf, constraintOf, requestOf,
 use Rattle.decision.specs.Decide.{tests, covers, passes, steps, nearestOf, greatest, nearestBy, nearest, reaches, separationBroken, rosterBroken, companionBroken, broken, applies, inside, fails, firstAt, decisionOf, judge, decide, queryFault, answerFault, answer}
 use Rattle.decision.specs.Cases.{withSpace, extended, g0, allow}
 use Rattle.decision.specs.Steps.{off}
-use Rattle.decision.specs.Switches.{allowIf, rinse}
+use Rattle.decision.specs.Switches.{allowIf, sampleIf}
 use Rattle.runs.specs.Runs.{rowsFault, runFault, queriesFault, unfit, firstUnfit, runOf, rowAnswer, answersAfter}
 use Rattle.decision.specs.Numbers.{partsOf, refusalCode}
 use Rattle.runs.specs.Numbers.{rowsOf, numbersFault, numbersRun, rowCode, codesAfter}
-use Rattle.runs.specs.Cases.{member, group, transition, separated, offRule, otherAction, noSource, noDest, rinsing, apart, comesOf, saysOf, runCases, RunCases, calls, numberCases, numberOf, codesOf, NumberCases}
+use Rattle.runs.specs.Cases.{member, group, transition, separated, offRule, otherAction, noSource, noDest, waiting, apart, comesOf, saysOf, runCases, RunCases, calls, numberCases, numberOf, codesOf, NumberCases}
 use Rattle.runs.specs.Cases as table
 
 computed : RunCases × NumberCases
@@ -31,9 +31,9 @@ unfolding
     anyOf allOf isIn setOf unionOf within touches
     switchOn isOn asks live ruleOf constraintOf requestOf rulesOf constraintsOf
     tests covers passes steps nearestOf greatest nearestBy nearest reaches separationBroken rosterBroken companionBroken broken applies inside fails firstAt decisionOf judge decide queryFault answerFault answer
-    withSpace extended g0 allow off allowIf rinse
+    withSpace extended g0 allow off allowIf sampleIf
     rowsFault runFault queriesFault unfit firstUnfit runOf rowAnswer answersAfter
-    member group transition separated offRule otherAction noSource noDest rinsing apart comesOf saysOf runCases table.asks
+    member group transition separated offRule otherAction noSource noDest waiting apart comesOf saysOf runCases table.asks
     partsOf refusalCode rowsOf numbersFault numbersRun rowCode codesAfter calls numberCases numberOf codesOf
 computed = (record { come = refl; say = refl }, record { come = refl; say = refl })
 

@@ -7,18 +7,18 @@ use mathlib.Core.Option.{Option, none, some}
 use mathlib.Core.List.{List, [], _∷_, _++_, map}
 use native.Mathlib.Nat.{not-suc-le-zero, zero-add}
 use native.Mathlib.Omega.{arith}
-use lib.ListN.{length, take, length-append, length-map, getD, List·getD-append, List·getD-map}
+use lib.ListN.{length, take, length-append, length-map, getD, List·getD-append}
 use lib.Seq.{getD-append-seam, take-length}
 use borrow.Author.Tests.{not-false}
 use Rattle.format.specs.declared.Refusal.{Refusal}
-use Rattle.format.specs.Check.{check, Accepted}
+use Rattle.format.specs.Check.{Accepted}
 use Rattle.format.specs.Answers.{Outcome, refused, gives, outcome}
-use Rattle.format.proofs.Chain.{some-not-none, unless-accepted, unless-refused, outcome-gives, outcome-refused}
+use Rattle.format.proofs.Chain.{unless-accepted, unless-refused, outcome-gives, outcome-refused}
 use Rattle.format.proofs.Tests.{true-not-false, false-not-true}
 use Rattle.decision.specs.declared.Query.{Query}
 use Rattle.decision.specs.declared.Answer.{Answer}
 use Rattle.decision.specs.declared.Answer.the-variants as answers
-use Rattle.decision.specs.Decide.{Decision, notPermitted, permitted, unknown, firstAt, answer, answerOutcome}
+use Rattle.decision.specs.Decide.{Decision, notPermitted, permitted, unknown, answer, answerOutcome}
 use Rattle.decision.specs.Numbers.{decisionCode}
 use Rattle.decision.specs.Sets.{anyOf}
 use Rattle.decision.specs.Lowest.{Lowest}

@@ -1,6 +1,7 @@
--- Runs on the sample sheet, worked out by hand from document 01's cases and from document 02, requests 1 and 2.
+-- Runs on the sample sheet, worked out by hand from document 01's cases and from document 02, requests 1, 2 and 6.
 --     member, group, transition, separated, offRule, otherAction, noSource, noDest   rows: document 01's marked queries, one of an
 --                         action that no rule has, and two of a type that is none
+--     waiting w, apart w  rows under a word: one that the sample's rule 3 covers while it is on, and one that a separation stops
 --     P r, N s r, R8, R9  what a row is answered: Permitted by rule r, NotPermitted with s steps at rule r, refused with 8 and
 --                         with 9
 --     blank n             n slots before the run
@@ -25,7 +26,7 @@ use Rattle.decision.specs.declared.Nearest.the-variants.{NoRules, Near}
 use Rattle.decision.specs.Decide.{Decision, notPermitted, permitted, unknown, answerOutcome, queryOf}
 use Rattle.decision.specs.Cases.{g0, allow, extended}
 use Rattle.decision.specs.Steps.{off}
-use Rattle.decision.specs.Switches.{allowIf, rinse}
+use Rattle.decision.specs.Switches.{allowIf, sampleIf}
 use Rattle.runs.specs.Runs.{runOf, answerOf, answersAfter}
 use Rattle.runs.specs.Numbers.{numbersRun, codesAfter, runCode}
 
@@ -55,8 +56,8 @@ unfoldable pub noDest : Query
 noDest = queryOf 10 32769 5 1 0
 
 -- 13 to 21, class 5, action 1, under a word: rule 3 of the sample, where a switch turns it on
-unfoldable pub rinsing : ℕ → Query
-rinsing = queryOf 13 21 5 1
+unfoldable pub waiting : ℕ → Query
+waiting = queryOf 13 21 5 1
 
 -- 20 to 30, class 5, action 2, under a word
 unfoldable pub apart : ℕ → Query
@@ -106,7 +107,7 @@ runCases =
     ∷ asks sample (noDest ∷ []) 1 (gives (some 0)) (R9 ∷ [])
     ∷ asks (extended sample (allow 10 30 5 3)) (member ∷ separated ∷ transition ∷ []) 3 (gives (some 1)) (P 0 ∷ gives (unknown 1 1) ∷ P 2 ∷ [])
     -- each row under its own word: rule 3 by switch 0; and a separation that a rule of switch 5 breaks, found again for each word
-    ∷ asks (rinse 2) (rinsing 1 ∷ rinsing 0 ∷ rinsing 0xFFFFFFFF ∷ rinsing 0xFFFFFFFE ∷ []) 4 (gives (some 1)) (P 3 ∷ N 1 0 ∷ P 3 ∷ N 1 0 ∷ [])
+    ∷ asks (sampleIf 2) (waiting 1 ∷ waiting 0 ∷ waiting 0xFFFFFFFF ∷ waiting 0xFFFFFFFE ∷ []) 4 (gives (some 1)) (P 3 ∷ N 1 0 ∷ P 3 ∷ N 1 0 ∷ [])
     ∷ asks (extended sample (allowIf 7 (allow 10 30 5 3))) (apart 31 ∷ apart 32 ∷ apart 31 ∷ apart 0 ∷ []) 4 (gives (some 1)) (P 1 ∷ gives (unknown 1 1) ∷ P 1 ∷ P 1 ∷ [])
     ∷ asks sample (replicate 64 transition) 64 (gives none) (replicate 64 (P 2))
     ∷ asks sample (replicate 63 transition ++ (offRule ∷ [])) 64 (gives (some 63)) (replicate 63 (P 2) ++ (N 1 0 ∷ []))
@@ -160,8 +161,8 @@ numberCases =
     ∷ calls (extended sample (allow 10 30 5 3)) (20 ∷ 30 ∷ 5 ∷ 2 ∷ 0 ∷ 0 ∷ []) 1 0 (0x300010001 ∷ [])
     ∷ calls sample (replicate 384 0) 64 0 (replicate 64 0x10000)
     -- switch 16 is the lowest of the high half, switch 0 of the low one
-    ∷ calls (rinse 18) (13 ∷ 21 ∷ 5 ∷ 1 ∷ 1 ∷ 0 ∷ 13 ∷ 21 ∷ 5 ∷ 1 ∷ 0 ∷ 1 ∷ []) 2 1 (0x100000003 ∷ 0x10000 ∷ [])
-    ∷ calls (rinse 2) (13 ∷ 21 ∷ 5 ∷ 1 ∷ 1 ∷ 0 ∷ 13 ∷ 21 ∷ 5 ∷ 1 ∷ 0 ∷ 1 ∷ []) 2 0 (0x10000 ∷ 0x100000003 ∷ [])
+    ∷ calls (sampleIf 18) (13 ∷ 21 ∷ 5 ∷ 1 ∷ 1 ∷ 0 ∷ 13 ∷ 21 ∷ 5 ∷ 1 ∷ 0 ∷ 1 ∷ []) 2 1 (0x100000003 ∷ 0x10000 ∷ [])
+    ∷ calls (sampleIf 2) (13 ∷ 21 ∷ 5 ∷ 1 ∷ 1 ∷ 0 ∷ 13 ∷ 21 ∷ 5 ∷ 1 ∷ 0 ∷ 1 ∷ []) 2 0 (0x10000 ∷ 0x100000003 ∷ [])
     ∷ calls sample [] 0 0x200100000 []
     ∷ calls sample (12 ∷ 20 ∷ 9 ∷ 9 ∷ 0 ∷ []) 1 0x200100000 (7 ∷ [])
     ∷ calls sample (12 ∷ 20 ∷ 9 ∷ 9 ∷ 0 ∷ 0 ∷ 12 ∷ []) 1 0x200110000 (7 ∷ [])

@@ -1,5 +1,4 @@
 -- `is_on` meets its contract: a shift by b is the quotient by 2^b, and a mask of 1 its remainder by 2. Assumes nothing.
-use native.Mathlib.Omega.{arith}
 use borrow.Author.Needs.{needs}
 use Prim.Native.Nat.{_+_, _*_, _/_, _^_}
 use mathlib.Core.Path.{ap, _∙_}

@@ -1,8 +1,7 @@
 -- `judge_marked` meets its contract: the lowest covering rule and the lowest failing constraint make the decision. Assumes nothing.
 use borrow.Author.Needs.{needs}
-use mathlib.Core.Path.{refl, sym, subst, ap, _∙_}
+use mathlib.Core.Path.{refl, sym, ap, _∙_}
 use Rattle.format.specs.Answers.{gives}
-use Rattle.format.specs.Claims.{IsType}
 use Rattle.format.proofs.Fields.{type-is}
 use Rattle.decision.specs.Decide.{notPermitted, decisionOf}
 use Rattle.decide.specs.declared.cover.Found.the-variants.{At, Nothing}

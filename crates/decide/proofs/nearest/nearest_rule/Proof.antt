@@ -2,11 +2,9 @@
 use native.Mathlib.Omega.{arith}
 use Prim.Native.Nat.{_-_}
 use mathlib.Core.Path.{sym, _∙_}
-use denote.Ref.{now}
 use Rattle.format.proofs.Tests.{false-not-true}
 use Rattle.format.proofs.Accepted.{accepted-header}
 use Rattle.format.proofs.ByCase.{count-rules}
-use Rattle.decide.specs.Inner.Parts.{RuleHere}
 use Rattle.decide.specs.Inner.Kept.{Sides}
 use Rattle.decide.specs.Inner.Nearer.{AtNearest}
 use Rattle.decide.proofs.PartLaws.{ready-rules}

@@ -1,7 +1,6 @@
 -- `begin` meets its contract: the check, the run's refusal, the rows that are decided. Assumes nothing.
 use borrow.Author.Needs.{needs}
 use mathlib.Core.Path.{_≡_, refl, ap, _∙_}
-use mathlib.Core.Bool.{Bool}
 use denote.Ref.{now}
 use Rattle.format.specs.Answers.{starts}
 use Rattle.image.proofs.SurveyLaws.{survey-placed}

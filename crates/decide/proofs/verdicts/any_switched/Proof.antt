@@ -1,13 +1,11 @@
 -- `any_switched` meets its contract: the rules from the running one on answer as all do. Assumes nothing.
 use native.Mathlib.Omega.{arith}
 use Prim.Native.Nat.{_-_}
-use mathlib.Core.Path.{sym, ap, _∙_}
-use mathlib.Core.List.{List}
+use mathlib.Core.Path.{sym, _∙_}
 use denote.Ref.{now}
 use Rattle.format.specs.declared.Section.the-variants.{Rules}
-use Rattle.format.proofs.Accepted.{accepted-header, policy-rules}
+use Rattle.format.proofs.Accepted.{accepted-header}
 use Rattle.format.proofs.ByCase.{count-rules}
-use Rattle.decision.specs.Sets.{anyOf}
 use Rattle.decide.specs.Inner.Parts.{RuleHere}
 use Rattle.decide.specs.Inner.Verdicts.{namesSwitch, anyNamed}
 use Rattle.decide.proofs.PartLaws.{ready-rules}

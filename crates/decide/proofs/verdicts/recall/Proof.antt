@@ -1,10 +1,8 @@
 -- `recall` meets its contract: a refused image has no verdicts. Assumes nothing.
 use borrow.Author.Needs.{needs}
 use mathlib.Core.Path.{sym, ap, _∙_}
-use denote.Ref.{now}
 use Rattle.format.specs.Answers.{sectionsOutcome}
 use Rattle.format.proofs.Chain.{outcome-gives, outcome-refused}
-use Rattle.decide.specs.Inner.Parts.{Ready}
 use Rattle.decide.proofs.VerdictLaws.{recalled-refused, refused-not}
 use Rattle.decide.proofs.verdicts.recall.Statement.{statement}
 use Rattle.decide.proofs.verdicts.recall.Tie as tie

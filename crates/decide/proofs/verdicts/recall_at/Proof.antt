@@ -1,4 +1,4 @@
--- `recall_at` meets its contract: nothing was kept, or it is right, or all is forgotten, or no rule names a switch. Assumes nothing.
+-- `recall_at` meets its contract: nothing was kept, or it is right, or front and back change, or no rule names a switch. Assumes nothing.
 use borrow.Author.Needs.{needs}
 use mathlib.Core.Path.{refl, sym, _∙_}
 use Rattle.decide.proofs.VerdictLaws.{recalled-first, recalled-plain, recalled-turned}

@@ -3,7 +3,7 @@ use Rattle.format.specs.Refusals.{need, _orElse_}
 use Rattle.format.specs.Check.{readFields}
 use Rattle.image.proofs.FieldLaws.{told-false, told-true}
 use mathlib.Core.Path.{_≡_, ap, sym, _∙_}
-use Prim.Native.Nat.{_-_, _/_}
+use Prim.Native.Nat.{_/_}
 use denote.Ref.{now}
 use lib.ListN.{length, getD, drop, length-drop}
 use Rattle.format.specs.Bytes.{words}
