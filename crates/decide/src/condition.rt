@@ -3,12 +3,16 @@ ghost use mathlib.Core.Path.{_≡_};
 ghost use Prim.Native.Nat.{_<_};
 ghost use Rattle.decision.specs.Conditions.{isOn};
 
-// Whether a condition is on. With off and on put in front of the switches, a condition's byte is the place of its bit: 0 is off, 1
-// is on, and 2 + k is switch k.
+// Whether a condition is on: 1 always, and 2 + k where switch k of the word is. The switch's number is the byte less 2, counted round
+// 64, so that 0 has 62, which is past the switches and off.
 pub(crate) fn is_on(switches: u32, condition: u8) -> bool
     requires { ⌜ condition < 34 ⌝ }
     ensures { λ r. ⌜ r ≡ isOn switches condition ⌝ }
 {
-    let word = switches as u64 * 4 + 2;
-    (word >> condition) & 1 == 1
+    if condition == 1 {
+        return true;
+    }
+    let word = switches as u64;
+    let k = (condition as u32 + 62) % 64;
+    (word >> k) & 1 == 1
 }

@@ -108,7 +108,8 @@ runCases =
     ∷ asks (extended sample (allow 10 30 5 3)) (member ∷ separated ∷ transition ∷ []) 3 (gives (some 1)) (P 0 ∷ gives (unknown 1 1) ∷ P 2 ∷ [])
     -- each row under its own word: rule 3 by switch 0; and a separation that a rule of switch 5 breaks, found again for each word
     ∷ asks (sampleIf 2) (waiting 1 ∷ waiting 0 ∷ waiting 0xFFFFFFFF ∷ waiting 0xFFFFFFFE ∷ []) 4 (gives (some 1)) (P 3 ∷ N 1 0 ∷ P 3 ∷ N 1 0 ∷ [])
-    ∷ asks (extended sample (allowIf 7 (allow 10 30 5 3))) (apart 31 ∷ apart 32 ∷ apart 31 ∷ apart 0 ∷ []) 4 (gives (some 1)) (P 1 ∷ gives (unknown 1 1) ∷ P 1 ∷ P 1 ∷ [])
+    ∷ asks (extended sample (allowIf 7 (allow 10 30 5 3))) (apart 31 ∷ apart 32 ∷ apart 31 ∷ apart 0 ∷ []) 4 (gives (some 1))
+    (P 1 ∷ gives (unknown 1 1) ∷ P 1 ∷ P 1 ∷ [])
     ∷ asks sample (replicate 64 transition) 64 (gives none) (replicate 64 (P 2))
     ∷ asks sample (replicate 63 transition ++ (offRule ∷ [])) 64 (gives (some 63)) (replicate 63 (P 2) ++ (N 1 0 ∷ []))
     ∷ asks sample (replicate 65 transition) 65 (refused (refusal 16 0)) (blank 65)
