@@ -6,6 +6,7 @@ mod images; // images.rt: images that are longer than a line
 mod show; // show.rt: a case's line
 mod switches; // switches.rt: rules that a switch turns on
 mod texts; // texts.rt: policies as text
+mod twins; // twins.rt: twin groups, and an old image converted
 
 use batch::runs;
 use format::Section;
@@ -18,6 +19,7 @@ use show::check;
 use show::give;
 use switches::switches;
 use texts::texts;
+use twins::twins;
 
 fn main() {
     queries();
@@ -33,6 +35,7 @@ fn main() {
     records();
     runs();
     texts();
+    twins();
 }
 
 fn queries() {

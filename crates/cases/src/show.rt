@@ -92,10 +92,20 @@ pub(crate) fn comes(label: &[u8], answer: u64) {
 
 // What a text builds: the image's length, or the refusal; and whether the image is the one that is told.
 pub(crate) fn built(label: &[u8], answer: u64, same: bool) {
+    said(label, answer >> 48, answer, same);
+}
+
+// What converting answers, and whether its bytes are those wanted: the image's length, or R, the number and the place.
+pub(crate) fn converted(label: &[u8], answer: u64, same: bool) {
+    said(label, (answer >> 16) % 65536, answer, same);
+}
+
+// A refusal's number, where there is one, the lowest 16 bits of an answer, and whether bytes are the same.
+fn said(label: &[u8], refusal: u64, answer: u64, same: bool) {
     io::write_all(STDOUT_FILENO, label);
     io::write_all(STDOUT_FILENO, b":");
-    if answer >> 48 != 0 {
-        number(b" R", answer >> 48);
+    if refusal != 0 {
+        number(b" R", refusal);
     }
     number(b"", answer);
     if same {

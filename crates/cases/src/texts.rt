@@ -29,7 +29,7 @@ pub(crate) fn texts() {
 }
 
 // The answer, and whether the image that is left is these bytes.
-fn build(label: &[u8], text: &[u8], image: &[u8]) {
+pub(crate) fn build(label: &[u8], text: &[u8], image: &[u8]) {
     let mut buffer = [7u8; 90];
     let answer = mungaite::mungaite_build(text, &mut buffer);
     built(label, answer, check::same(image::leading(&buffer), image));

@@ -18,7 +18,7 @@ use Rattle.claims.specs.Promises.{Promises}
 use Rattle.claims.specs.Terms.{trans, left, BuildingMet}
 use Rattle.claims.proofs.Worked.{texts, sample-records, one-added, one-after}
 use Rattle.claims.proofs.Worked.{off-row, switch-0-row, switch-31-row, list-row, return-outside, zero-outside, class-outside, switch-32-outside, switch-01-outside}
-use Rattle.claims.proofs.Worked.{full-12, full-18, full-11, full-13, sample-built, trans-built, trans-short, outside-full, switch-built, return-refused}
+use Rattle.claims.proofs.Worked.{full-12, full-20, full-18, full-11, full-13, sample-built, trans-built, trans-short, outside-full, switch-built, return-refused}
 use Rattle.claims.proofs.TextTerms.{behind-feed, cause-outside, cause-added, cause-there}
 use Rattle.claims.proofs.TextTerms.{none-built, empty-built, row-counts, rows-left, left-well-formed, left-behind, next-outside, far-outside, first-built, own-alone, never}
 
@@ -85,7 +85,7 @@ building-met p =
       never-14 = λ text b f e h. never p text b f e 14 h refl;
       never-0 = λ text b f e h. never p text b f e 0 h refl;
       longest-enough = λ text b f h. c .space-enough text b f (omega (arith, h));
-      space-own = λ text b f h e h₁ h₂ h₃. own-alone p text b f e h₁ h₂ (c .space-enough text b f h e) h₃;
+      space-own = λ text b f h e h₁ h₂ h₃ h₄. own-alone p text b f e h₁ h₂ (c .space-enough text b f h e) h₃ h₄;
       worked-all = (texts .rows, texts .outside, texts .texts);
       off-row = off-row (c .worked-rows);
       switch-0-row = switch-0-row (c .worked-rows);
@@ -101,6 +101,7 @@ building-met p =
       members-outside = c .worked-outside .members-65;
       members-most = c .worked-outside .members-64;
       full-12 = full-12 (c .worked-full);
+      full-20 = full-20 (c .worked-full);
       full-18 = full-18 (c .worked-full);
       full-11 = full-11 (c .worked-full);
       full-13 = full-13 (c .worked-full);

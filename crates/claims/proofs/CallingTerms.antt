@@ -22,7 +22,8 @@ use Rattle.decision.specs.Numbers.{OutcomeFits, DecisionFits}
 use Rattle.text.specs.Words.{ascii}
 use Rattle.text.proofs.Rows.{answerOf}
 use Rattle.lines.specs.Compiled.{compiled, reads, begun}
-use Rattle.mungaite.specs.Claims.{FaultFits, ExtentFits, NumberFits, RowFits, BuiltFits}
+use Rattle.conversion.specs.Convert.{convertedImage}
+use Rattle.mungaite.specs.Claims.{FaultFits, ExtentFits, NumberFits, ConvertedFits, RowFits, BuiltFits}
 use Rattle.mungaite.specs.Code.{buildCode}
 use Rattle.mungaite.specs.Host.{hostRun, hostBuilt}
 use Rattle.runs.specs.Runs.{runOf}
@@ -124,6 +125,10 @@ module _ (p : Promises) where
         unknown-fits = λ l b q r k e. (let h = subst (OutcomeFits DecisionFits) e (c .decide-whole l b q) in (omega (arith, h .0), omega (arith, h .1)));
         record-fits = λ l b s n e. (let h = subst (λ f. OutcomeFits ExtentFits (outcome f (extent l s n))) e (c .record-whole l b .0 s n) in (omega (arith, h .0), omega (arith, h .1)));
         number-fits = λ b h r e. (let k = subst (λ f. OutcomeFits NumberFits (outcome f (newNumber b r))) e (c .add-whole b h r) in omega (arith, k));
+        length-fits = λ l b n e.
+            subst (λ f. OutcomeFits ConvertedFits (outcome f (length (convertedImage l)))) e (c .convert-whole l b n);
+        length-read = λ l b n e. c .convert-read l b n ∙ ap (λ f. outcome f (length (convertedImage l))) e;
+        short-read = λ l b n f e. c .convert-read l b n ∙ ap (λ f. outcome f (length (convertedImage l))) e;
         near-code = λ s r h k. c .parts-whole 0 s r (omega arith) (omega arith) ∙ omega arith;
         no-rules-code = c .parts-whole 0 0 65535 (omega arith) (omega arith);
         permitted-code = λ r h. c .parts-whole 1 0 r (omega arith) (omega arith) ∙ omega arith;

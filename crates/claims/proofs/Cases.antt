@@ -1,10 +1,10 @@
 -- Facts of values that are written out, by computation. Assumes nothing.
 use Prim.Native.Nat.{ℕ, zero, suc, _+_, _<_}
 use native.Mathlib.Omega.{arith}
-use mathlib.Core.Path.{_≡_, refl, sym, ap, _∙_}
+use mathlib.Core.Path.{_≡_, refl, sym, subst, ap, _∙_}
 use mathlib.Core.Bool.{Bool, true}
 use mathlib.Core.Option.{none, some}
-use mathlib.Core.List.{List, [], _∷_, _++_, flatten, map, List·Memᴰ, List·Memᴰ·head, List·Memᴰ·tail, Memᴰ·map}
+use mathlib.Core.List.{List, [], _∷_, _++_, flatten, map, append-nil, List·Memᴰ, List·Memᴰ·head, List·Memᴰ·tail, Memᴰ·map}
 use lib.ListN.{length, getD, take, drop, replicate, length-append, List·getD-append}
 use lib.Seq.{getD-append-add, getD-set-other}
 use lib.Dec.{eqb, ltb}
@@ -15,15 +15,18 @@ use Rattle.format.specs.Format.{knownVersion, limitOf, countPlace, countOf, kin
 use Rattle.format.specs.Format.{isType, isCondition, listOk}
 use Rattle.format.specs.Format.{badMember, badType, badGroup, badAllow, badTransition, badConstraint, badField}
 use Rattle.format.specs.Policy.{Policy, bodyOf, imageOf, recordAt, placeAfter, recordsAt, startOf, placeOf, endOf, policyOf}
-use Rattle.format.specs.Check.{readFields, readOf, readFault, sectionFault, countFault, headerFault, bodyFault, check, Accepted, imageIn, checkFront}
+use Rattle.format.specs.Twins.{sameBytes, listed, firstTwin, twinAt, twinFault}
+use Rattle.format.specs.Check.{readFields, readOf, readFault, sectionFault, countFault, headerFault, bodyFault, restFault, check, Accepted, imageIn, checkFront}
 use Rattle.format.specs.Claims.{typeFields}
 use Rattle.format.specs.Sample.{sample, empty}
 use Rattle.format.proofs.ByCase.{kind-constraints}
 use Rattle.format.proofs.Bytes.{bytes-of}
-use Rattle.format.proofs.Front.{image-in-of}
-use Rattle.extension.specs.Add.{sectionOf, withRecord, fieldFault, newNumber, ownFault, addFault, newImage, overwrite, bufferAfter}
+use Rattle.format.proofs.Front.{front-of, image-in-of}
+use Rattle.extension.specs.Add.{sectionOf, withRecord, fieldFault, newNumber, addedTwin, ownFault, addFault, newImage, overwrite, bufferAfter}
 use Rattle.extension.proofs.Adds.{section-of}
 use Rattle.format.specs.Answers.{Outcome, refused, gives}
+use Rattle.conversion.specs.Cases.{old}
+use Rattle.claims.specs.Converting.{oldImage, sampleGroup}
 use Rattle.decision.specs.declared.Query.{Query}
 use Rattle.decision.specs.declared.Nearest.the-variants.{Near}
 use Rattle.decision.specs.Sets.{anyOf, allOf, isIn, setOf, touches}
@@ -62,6 +65,35 @@ roster-fields = refl
 pub space-image : (r : List ℕ) → Accepted sample → imageIn (withSpace sample r) ≡ sample
 unfolding withSpace
 space-image r e = image-in-of sample (replicate (length r) 0) e
+
+-- ---- the sample's group, and the worked case's old image
+
+pub sample-length : length sample ≡ 80
+unfolding sample
+sample-length = refl
+
+own-group : List·Memᴰ sampleGroup (policyOf sample .groups)
+unfolding wordAt countPlace countOf firstRecord recordAt placeAfter recordsAt startOf policyOf sample
+own-group = List·Memᴰ·head refl
+
+pub space-front : Accepted sample → checkFront (withSpace sample sampleGroup) ≡ none
+unfolding withSpace
+space-front e = front-of sample (replicate 6 0) e
+
+pub space-group : Accepted sample → List·Memᴰ sampleGroup (policyOf (imageIn (withSpace sample sampleGroup)) .groups)
+space-group e = subst (λ (l : List ℕ). List·Memᴰ sampleGroup (policyOf l .groups)) (sym (space-image sampleGroup e)) own-group
+
+pub sample-front : Accepted sample → checkFront sample ≡ none
+sample-front e = subst (λ (l : List ℕ). checkFront l ≡ none) (append-nil sample) (front-of sample [] e)
+
+pub sample-group : Accepted sample → List·Memᴰ sampleGroup (policyOf (imageIn sample) .groups)
+sample-group e =
+    subst (λ (l : List ℕ). List·Memᴰ sampleGroup (policyOf l .groups))
+    (sym (ap imageIn (sym (append-nil sample)) ∙ image-in-of sample [] e)) own-group
+
+pub old-bytes : Bytes oldImage
+unfolding flatten putWord bodyOf imageOf old
+old-bytes = bytes-of oldImage refl
 
 -- ---- the companion
 
@@ -234,8 +266,8 @@ unfolding
     knownVersion limitOf countPlace countOf kindIn lengthOk isType isCondition listOk firstRecord shapeOk
     badMember badType badGroup badAllow badTransition badConstraint badField
     bodyOf imageOf recordAt placeAfter recordsAt startOf placeOf endOf policyOf
-    readFields readOf readFault sectionFault countFault headerFault bodyFault check imageIn checkFront
-    sample sectionOf withRecord fieldFault newNumber ownFault addFault newImage overwrite bufferAfter
+    readFields readOf readFault sectionFault countFault headerFault bodyFault restFault check sameBytes listed firstTwin twinAt twinFault imageIn checkFront
+    sample sectionOf withRecord fieldFault newNumber addedTwin ownFault addFault newImage overwrite bufferAfter
     withSpace extended allow allowIf allowGroup story
     anyOf allOf isIn setOf touches switchOn isOn live ruleOf rulesOf
 shared-rules =

@@ -10,5 +10,6 @@ pub mod BuildingTerms
 pub mod ReachingTerms
 pub mod SeparatingTerms
 pub mod SwitchingTerms
+pub mod ConvertingTerms
 pub mod CallingTerms
 pub mod Terms

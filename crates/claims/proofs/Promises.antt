@@ -9,6 +9,14 @@ use Rattle.format.proofs.Furthest as furthest
 use Rattle.format.proofs.Sample as sample
 use Rattle.extension.proofs.Adds as adds
 use Rattle.extension.proofs.Trip as trip
+use Rattle.extension.proofs.Twins as added
+use Rattle.format.proofs.Twins as twins
+use Rattle.format.proofs.Members as members
+use Rattle.conversion.proofs.Groups as kept
+use Rattle.conversion.proofs.Records as records
+use Rattle.conversion.proofs.Convert as converted
+use Rattle.conversion.proofs.Buffers as buffers
+use Rattle.conversion.proofs.Cases as conversions
 use Rattle.decision.proofs.Filled as filled
 use Rattle.decision.proofs.Lowest as lowest
 use Rattle.decision.proofs.Steps as steps
@@ -37,6 +45,7 @@ use Rattle.text.proofs.Cases as texts
 use Rattle.lines.proofs.Numbers as numbers
 use Rattle.lines.proofs.Output as output
 use Rattle.lines.proofs.Compiled as compiled
+use Rattle.lines.proofs.Converted as written
 use Rattle.lines.proofs.Worked as worked
 use Rattle.mungaite.proofs.Whole as whole
 use Rattle.mungaite.proofs.Host as host
@@ -166,20 +175,49 @@ promises =
         condition-words = conditions.condition-words;
         switch-cases = cases.switch-cases;
       };
+      converting = record {
+        laid-is-well-formed = images.laid-is-well-formed;
+        well-formed-is-laid = images.well-formed-is-laid;
+        accepted-means = accepted.accepted-means;
+        no-twins-means = twins.no-twins-means;
+        first-twin = twins.first-twin;
+        twins-by-members = members.twins-by-members;
+        twins-found = buffers.twins-found;
+        twin-refused = added.twin-refused;
+        groups-stay = kept.groups-stay;
+        records-stay = records.records-stay;
+        types-follow = records.types-follow;
+        converted-reads = converted.converted-reads;
+        converted-answers = converted.converted-answers;
+        converted-accepted = converted.converted-accepted;
+        converted-bytes = converted.converted-bytes;
+        converted-once = converted.converted-once;
+        past-stays = buffers.past-stays;
+        refused-stays = buffers.refused-stays;
+        convert-numbers = buffers.convert-numbers;
+        converted-cases = conversions.converted-cases;
+      };
       printing = record {
         decimal-fewest = numbers.decimal-fewest;
         decimal-read = numbers.decimal-read;
         any-reads = output.any-reads;
         any-compiled = compiled.any-compiled;
+        any-converted = written.any-converted;
+        old-written = written.old-written;
+        accepted-written = written.accepted-written;
+        refused-written = written.refused-written;
+        one-written = written.one-written;
         worked-lines = worked.worked-lines;
         worked-runs = worked.worked-runs;
         worked-compiled = worked.worked-compiled;
+        worked-converted = worked.worked-converted;
       };
       calling = record {
         check-whole = whole.check-whole;
         decide-whole = coded.decide-whole;
         record-whole = whole.record-whole;
         add-whole = whole.add-whole;
+        convert-whole = whole.convert-whole;
         run-whole = whole.run-whole;
         build-whole = number.build-whole;
         parts-whole = coded.parts-whole;
@@ -188,6 +226,7 @@ promises =
         decide-read = coded.decide-read;
         record-read = host.record-read;
         add-read = host.add-read;
+        convert-read = host.convert-read;
         run-read = host.run-read;
         build-read = number.build-read;
         numbers-run = numbered.numbers-run;

@@ -11,6 +11,7 @@ use Rattle.format.specs.Bytes.{Bytes}
 use Rattle.format.specs.Refusals.{refusal}
 use Rattle.format.specs.Format.{limitOf}
 use Rattle.format.specs.Policy.{Policy, recordsOf, imageOf, policyOf}
+use Rattle.format.specs.Twins.{NoTwins}
 use Rattle.format.specs.Check.{imageIn}
 use Rattle.format.specs.Give.{giveFault}
 use Rattle.format.specs.Claims.{WellFormed, givenFrom}
@@ -36,6 +37,11 @@ module _ (p : Promises) where
       let r = p .reading .longest-reached in
       subst WellFormed (r .policy) (p .reading .accepted-is-well-formed (imageOf longest) (r .bytes) (r .accepted) .0)
 
+  longest-twins : NoTwins (longest .groups)
+  longest-twins =
+      let r = p .reading .longest-reached in
+      subst (λ (x : Policy). NoTwins (x .groups)) (r .policy) (p .reading .accepted-is-well-formed (imageOf longest) (r .bytes) (r .accepted) .2)
+
   longest-given : (s : Section) → givenFrom (imageOf longest) s 0 (limitOf s) ≡ recordsOf longest s
   longest-given s =
       let r = p .reading .longest-reached in
@@ -54,7 +60,7 @@ module _ (p : Promises) where
       let a = p .reading .sample-accepted in
       let sample-is = p .reading .accepted-is-well-formed sample (a .sample-bytes) (a .sample-passes) in
       let empty-is = p .reading .accepted-is-well-formed empty (a .empty-bytes) (a .empty-passes) in
-      let longest-is = p .reading .well-formed-is-accepted longest longest-formed in
+      let longest-is = p .reading .well-formed-is-accepted longest longest-formed longest-twins in
       record {
         sample-well-formed = sample-is .0;
         sample-image = sample-is .1;

@@ -114,12 +114,12 @@ module _ (p : Promises) where
     image-is : imageIn (left text b) ≡ i
     unfolding i
     image-is =
-        ap imageIn whole ∙ image-in-of i (drop (length i) b) (p .reading .well-formed-is-accepted (holds .policy) (holds .well-formed) .1)
+        ap imageIn whole ∙ image-in-of i (drop (length i) b) (p .reading .well-formed-is-accepted (holds .policy) (holds .well-formed) (holds .twins) .1)
 
     pub left-well-formed : WellFormed (policyOf (imageIn (left text b)))
     unfolding i
     left-well-formed =
-        subst WellFormed (sym (ap policyOf image-is ∙ p .reading .well-formed-is-accepted (holds .policy) (holds .well-formed) .2))
+        subst WellFormed (sym (ap policyOf image-is ∙ p .reading .well-formed-is-accepted (holds .policy) (holds .well-formed) (holds .twins) .2))
         (holds .well-formed)
 
     pub left-behind :
@@ -154,14 +154,14 @@ module _ (p : Promises) where
 
   pub own-alone :
       (text b : List ℕ) (f : Refusal) → built text b .answer ≡ refused f → (f .number ≡ 11 → ⊥) → (f .number ≡ 12 → ⊥)
-      → (f .number ≡ 13 → ⊥) → (f .number ≡ 18 → ⊥) → ⊥
-  own-alone text b f e h₁ h₂ h₃ h₄ =
+      → (f .number ≡ 13 → ⊥) → (f .number ≡ 18 → ⊥) → (f .number ≡ 20 → ⊥) → ⊥
+  own-alone text b f e h₁ h₂ h₃ h₄ h₅ =
       let n = f .number in
-      false-not-true (rw (ne-eqb n 11 h₁, ne-eqb n 12 h₂, ne-eqb n 13 h₃, ne-eqb n 18 h₄) at (p .building .own-numbers text b f e))
+      false-not-true (rw (ne-eqb n 11 h₁, ne-eqb n 12 h₂, ne-eqb n 13 h₃, ne-eqb n 18 h₄, ne-eqb n 20 h₅) at (p .building .own-numbers text b f e))
 
   pub never :
       (text b : List ℕ) (f : Refusal) → built text b .answer ≡ refused f → (n : ℕ) → f .number ≡ n
-      → (eqb n 11 || eqb n 12 || eqb n 13 || eqb n 18) ≡ false → ⊥
+      → (eqb n 11 || eqb n 12 || eqb n 13 || eqb n 18 || eqb n 20) ≡ false → ⊥
   never text b f e n h z =
       let own = p .building .own-numbers text b f e in
-      false-not-true (sym z ∙ subst (λ (k : ℕ). (eqb k 11 || eqb k 12 || eqb k 13 || eqb k 18) ≡ true) h own)
+      false-not-true (sym z ∙ subst (λ (k : ℕ). (eqb k 11 || eqb k 12 || eqb k 13 || eqb k 18 || eqb k 20) ≡ true) h own)

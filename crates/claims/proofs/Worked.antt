@@ -102,7 +102,7 @@ pub record Texts : Type 0 where
   pub outside-length : length (ascii "x") ≡ 1
   pub rows : length workedRows ≡ 17
   pub outside : length outsideRows ≡ 92
-  pub texts : length workedTexts ≡ 25
+  pub texts : length workedTexts ≡ 28
   pub compiled : length workedCompiled ≡ 7
 
 pub texts : Texts
@@ -243,25 +243,31 @@ module _ (e : WorkedOutside) where
 module _ (e : WorkedFull) where
   full-row :
       (n : ℕ)
-      → getD (map fullFault ("group 1" ∷ "x" ∷ "group 1024" ∷ "trans 1 g255 3" ∷ [])) n none
-      ≡ getD (some (refusal 12 5) ∷ some (refusal 18 5) ∷ some (refusal 11 5) ∷ some (refusal 13 5) ∷ []) n none
+      → getD (map fullFault ("group 256" ∷ "group 0" ∷ "group 255" ∷ "x" ∷ "group 1024" ∷ "trans 1 g255 3" ∷ [])) n none
+      ≡ getD
+      (some (refusal 12 5) ∷ some (refusal 20 5) ∷ some (refusal 20 5) ∷ some (refusal 18 5) ∷ some (refusal 11 5) ∷ some (refusal 13 5) ∷ [])
+      n none
   full-row n = ap (λ (xs : List (Option Refusal)). getD xs n none) e
 
-  pub full-12 : rowFault 5 (ascii "group 1") fullGroups ≡ some (refusal 12 5)
+  pub full-12 : rowFault 5 (ascii "group 256") fullGroups ≡ some (refusal 12 5)
   unfolding fullFault
   full-12 = full-row 0
 
+  pub full-20 : rowFault 5 (ascii "group 255") fullGroups ≡ some (refusal 20 5)
+  unfolding fullFault
+  full-20 = full-row 2
+
   pub full-18 : rowFault 5 (ascii "x") fullGroups ≡ some (refusal 18 5)
   unfolding fullFault
-  full-18 = full-row 1
+  full-18 = full-row 3
 
   pub full-11 : rowFault 5 (ascii "group 1024") fullGroups ≡ some (refusal 11 5)
   unfolding fullFault
-  full-11 = full-row 2
+  full-11 = full-row 4
 
   pub full-13 : rowFault 5 (ascii "trans 1 g255 3") fullGroups ≡ some (refusal 13 5)
   unfolding fullFault
-  full-13 = full-row 3
+  full-13 = full-row 5
 
 module _ (e : WorkedTexts) where
   text-row : (n : ℕ) → getD (map textGives workedTexts) n (built [] []) ≡ getD (map textMakes workedTexts) n (built [] [])

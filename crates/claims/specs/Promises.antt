@@ -2,14 +2,16 @@
 -- it says beside it. The one proof of all is `promises` (proofs/Promises.antt), and specs/Terms.antt says what meets the claims' terms.
 --
 -- What is not here: that the code answers what the definitions say. That is each function's contract, above its body in src/:
--- `check`, `record`, `add`, `decide`, `run`, `build` and those for C each give, for every input, the answer and the bytes that a
--- definition gives (`check`, `givenRecord`, `bufferAfter`, `answer`, `runOf`, `answersAfter`, `built`, `decisionCode`, ..).
+-- `check`, `record`, `add`, `decide`, `run`, `build`, `convert` and those for C each give, for every input, the answer and the bytes
+-- that a definition gives (`check`, `givenRecord`, `bufferAfter`, `answer`, `runOf`, `answersAfter`, `built`, `bufferConverted`, ..).
 -- docs/CLAIMS.md leads from each sentence of the documents to its claim or its contract.
+use Rattle.format.specs.Twins.{NoTwinsMeans, FirstTwin}
+use Rattle.format.specs.Claims.{AcceptedMeans, LaidOutIsWellFormed, WellFormedIsLaidOut, TwinsByMembers}
 use Rattle.format.specs.Claims.{AcceptedIsWellFormed, WellFormedIsAccepted, RecordsGiven, AllGiven, NoneGiven, EmptyTells, ReferencesHeld}
 use Rattle.format.specs.Longest.{LongestImage, LongestReached}
 use Rattle.format.specs.Reach.{PlacesBounded, StopsReached, BoundReached}
 use Rattle.format.specs.Sample.{SampleAccepted}
-use Rattle.extension.specs.Claims.{AddedAccepted, NumberNamed, GroupsKept, RestStays, RefusedUnchanged, RoundTrip, RoundTripExact}
+use Rattle.extension.specs.Claims.{AddedAccepted, NumberNamed, GroupsKept, RestStays, RefusedUnchanged, TwinRefused, RoundTrip, RoundTripExact}
 use Rattle.decision.specs.Filled.{TypesFilled, FieldsFilled}
 use Rattle.decision.specs.Lowest.{LowestNamed, NamedAlone, LowestAnswered}
 use Rattle.decision.specs.Tepla.{PublishedMeaning, PublishedAnswer, PublishedOrder}
@@ -24,6 +26,9 @@ use Rattle.decision.specs.Cases.{MarkedCases, MarkedAdds, MarkedOrder}
 use Rattle.decision.specs.Clauses.{ClauseCases, RefusalCases}
 use Rattle.decision.specs.Numbers.{DecideWhole, PartsWhole, PartsRead, DecideRead}
 use Rattle.decision.specs.Rows.{QueryRead, RowsAnswered, SlotsStay, RowsWhole, RowAlone}
+use Rattle.conversion.specs.Claims.{TwinsFound, GroupsStay, RecordsStay, TypesFollow, ConvertedReads, ConvertedAnswers, ConvertedAccepted}
+use Rattle.conversion.specs.Claims.{ConvertedBytes, ConvertedOnce, PastStays, RefusedStays, ConvertNumbers}
+use Rattle.conversion.specs.Cases.{ConvertedCases}
 use Rattle.runs.specs.Claims.{FitExactly, UnfitFirst, LastCounts, RunRefused, RunFaults, EachAnswered, SlotsLeft, OwnRow, OneRow, AnswerSaid}
 use Rattle.runs.specs.Claims.{NumbersRun, NumbersWhole, NumbersAnswered, NumbersRefused, NumbersLeft, NumbersFaults}
 use Rattle.runs.specs.Cases.{RunCases, NumberCases}
@@ -31,12 +36,14 @@ use Rattle.text.specs.Claims.{EachRowAdded, RowsEnough, BuiltAccepted, LastLine
 use Rattle.text.specs.Claims.{RefusedShort, OwnNumbers, SpaceEnough, ConditionWords}
 use Rattle.text.specs.Cases.{WorkedRows, WorkedOutside, WorkedFull, WorkedTexts}
 use Rattle.lines.specs.Claims.{DecimalFewest, DecimalRead, AnyReads, AnyCompiled}
-use Rattle.lines.specs.Worked.{WorkedLines, WorkedRuns, WorkedCompiled}
-use Rattle.mungaite.specs.Claims.{CheckWhole, RecordWhole, AddWhole, RunWhole, BuildWhole, CheckRead, RecordRead, AddRead, RunRead, BuildRead}
+use Rattle.lines.specs.Converted.{AnyConverted, OldWritten, AcceptedWritten, RefusedWritten, OneWritten}
+use Rattle.lines.specs.Worked.{WorkedLines, WorkedRuns, WorkedCompiled, WorkedConverted}
+use Rattle.mungaite.specs.Claims.{CheckWhole, RecordWhole, AddWhole, ConvertWhole, RunWhole, BuildWhole}
+use Rattle.mungaite.specs.Claims.{CheckRead, RecordRead, AddRead, ConvertRead, RunRead, BuildRead}
 
 -- Demand 1: every policy that meets the layout is accepted with all its records, the last included; everything else is refused.
 pub record Reading : Type 0 where
-  -- an accepted image is the image of a policy that meets the layout, in plain numbers
+  -- an accepted image is the image of a policy that meets the layout, in plain numbers, and has no twins
   pub accepted-is-well-formed : AcceptedIsWellFormed
   -- and the image of every such policy is accepted, and gives that policy back
   pub well-formed-is-accepted : WellFormedIsAccepted
@@ -202,7 +209,7 @@ pub record Building : Type 0 where
   pub refused-keeps : RefusedKeeps
   -- a buffer under 9 bytes is untouched, and 13 at place 0 comes before any row
   pub refused-short : RefusedShort
-  -- no other number than 11, 12, 13 and 18
+  -- no other number than 11, 12, 13, 18 and 20
   pub own-numbers : OwnNumbers
   -- a buffer that holds the longest image is never short
   pub space-enough : SpaceEnough
@@ -263,6 +270,46 @@ pub record Switching : Type 0 where
   -- cases worked out from the request
   pub switch-cases : SwitchCases
 
+-- Request 7: twin groups are refused, and old images converted. An old image is one that passes 1 to 7; it may have twins.
+pub record Converting : Type 0 where
+  -- an old image is the image of a policy that meets the layout, and the image of every such policy is one
+  pub laid-is-well-formed : LaidOutIsWellFormed
+  pub well-formed-is-laid : WellFormedIsLaidOut
+  -- accepted is that and no twins
+  pub accepted-means : AcceptedMeans
+  -- no twins: no two groups have one record; else the first twin is the first group whose record an earlier one has
+  pub no-twins-means : NoTwinsMeans
+  pub first-twin : FirstTwin
+  -- and groups have one record exactly where they have the same members
+  pub twins-by-members : TwinsByMembers
+  -- the check gives 19 there, and 1 to 7 before it
+  pub twins-found : TwinsFound
+  -- an added twin is refused with 20 and the place 0, whatever the counts and the space, and nothing else is
+  pub twin-refused : TwinRefused
+  -- the lowest of each set of twins stays, in the old order, and no other group
+  pub groups-stay : GroupsStay
+  -- each rule and each constraint stays, in the old order: its type fields move, and no other byte changes
+  pub records-stay : RecordsStay
+  -- a type field names, once moved, the set that it named; a basic type is itself
+  pub types-follow : TypesFollow
+  -- so rules, under every word, and constraints read as they did
+  pub converted-reads : ConvertedReads
+  -- and every query that is well formed on the old image, its types moved the same way, gets the same whole answer
+  pub converted-answers : ConvertedAnswers
+  -- the new image is accepted, and no longer than the old one
+  pub converted-accepted : ConvertedAccepted
+  -- an image without twins comes out byte for byte
+  pub converted-bytes : ConvertedBytes
+  -- converting twice is converting once
+  pub converted-once : ConvertedOnce
+  -- bytes past the new image stay, and a refused call changes no byte
+  pub past-stays : PastStays
+  pub refused-stays : RefusedStays
+  -- 1 to 7 as the image says, then 13 exactly where the new image does not fit
+  pub convert-numbers : ConvertNumbers
+  -- cases worked out from the request
+  pub converted-cases : ConvertedCases
+
 -- The programs' output.
 pub record Printing : Type 0 where
   -- a number has the fewest digits that hold it, and they read back as that number
@@ -272,10 +319,18 @@ pub record Printing : Type 0 where
   pub any-reads : AnyReads
   -- however reads cut a text, what `compile` writes is the same
   pub any-compiled : AnyCompiled
+  -- however reads cut an input, what `convert` writes is the same
+  pub any-converted : AnyConverted
+  -- of an old image the new one, of an accepted one that image, and of any other input its line; one of them, and never both
+  pub old-written : OldWritten
+  pub accepted-written : AcceptedWritten
+  pub refused-written : RefusedWritten
+  pub one-written : OneWritten
   -- lines and whole outputs, written out from the documents
   pub worked-lines : WorkedLines
   pub worked-runs : WorkedRuns
   pub worked-compiled : WorkedCompiled
+  pub worked-converted : WorkedConverted
 
 -- The C interface's numbers.
 pub record Calling : Type 0 where
@@ -284,6 +339,7 @@ pub record Calling : Type 0 where
   pub decide-whole : DecideWhole
   pub record-whole : RecordWhole
   pub add-whole : AddWhole
+  pub convert-whole : ConvertWhole
   pub run-whole : RunWhole
   pub build-whole : BuildWhole
   -- parts that fit are in the number as they are, and are read back from it
@@ -294,6 +350,7 @@ pub record Calling : Type 0 where
   pub decide-read : DecideRead
   pub record-read : RecordRead
   pub add-read : AddRead
+  pub convert-read : ConvertRead
   pub run-read : RunRead
   pub build-read : BuildRead
   -- a run over the numbers of rows is the run over the rows, and every list of whole rows of 16-bit numbers is such numbers
@@ -319,5 +376,6 @@ pub record Promises : Type 0 where
   pub reaching : Reaching
   pub separating : Separating
   pub switching : Switching
+  pub converting : Converting
   pub printing : Printing
   pub calling : Calling

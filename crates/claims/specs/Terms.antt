@@ -21,7 +21,7 @@
 --     allOn               the word that has all 32 switches on
 --     SwitchRows          every row of request 6's table by itself
 --     ReadingMet, AddingMet, DecidingMet, OrderingMet, RunningMet, NearingMet, BuildingMet, ReachingMet, SeparatingMet, SwitchingMet,
---     PrintingMet, CallingMet   by the parts of the statement
+--     PrintingMet, CallingMet   by the parts of the statement; ConvertingMet is in Converting.antt
 use Prim.Native.Nat.{ℕ, suc, _+_, _*_, _-_, _/_, _%_, _<_, _≤_, _^_}
 use Prim.Native.String.{String}
 use mathlib.Core.Path.{_≡_}
@@ -85,8 +85,10 @@ use Rattle.lines.specs.Claims.{readFrom}
 use Rattle.lines.specs.Worked.{workedLines, askedOn, asked, workedRuns, workedCompiled}
 use Rattle.decision.specs.Numbers.{partsOf, decisionCode, hostDecision}
 use Rattle.decision.specs.Rows.{queryAt, rowsIn, answered, rowAt, queryBytes}
-use Rattle.mungaite.specs.Code.{faultCode, recordCode, addCode, buildCode}
+use Rattle.conversion.specs.Convert.{convertedImage, convertFault}
+use Rattle.mungaite.specs.Code.{faultCode, recordCode, addCode, convertCode, buildCode}
 use Rattle.mungaite.specs.Host.{hostChecked, hostFound, hostAdded, hostRun, hostBuilt}
+use Rattle.claims.specs.Converting.{ConvertingMet}
 
 abbrev pub query : ℕ → ℕ → ℕ → ℕ → Query
 query s d c a = queryOf s d c a 0
@@ -557,20 +559,20 @@ pub record BuildingMet : Type 0 where
   pub eight-bytes : (text b : List ℕ) → length b ≡ 8 → built text b ≡ record { answer = refused (refusal 13 0); buffer = b }
   pub no-bytes : (text : List ℕ) → built text [] ≡ record { answer = refused (refusal 13 0); buffer = [] }
   pub short-left : (text b : List ℕ) → length b ≤ 8 → left text b ≡ b
-  -- OwnNumbers: one of the four; so neither 10, nor 14, nor 0
+  -- OwnNumbers: one of the five; so neither 10, nor 14, nor 0
   pub own-alone :
       (text b : List ℕ) (f : Refusal) → built text b .answer ≡ refused f → (f .number ≡ 11 → ⊥) → (f .number ≡ 12 → ⊥)
-      → (f .number ≡ 13 → ⊥) → (f .number ≡ 18 → ⊥) → ⊥
+      → (f .number ≡ 13 → ⊥) → (f .number ≡ 18 → ⊥) → (f .number ≡ 20 → ⊥) → ⊥
   pub never-10 : (text b : List ℕ) (f : Refusal) → built text b .answer ≡ refused f → f .number ≡ 10 → ⊥
   pub never-14 : (text b : List ℕ) (f : Refusal) → built text b .answer ≡ refused f → f .number ≡ 14 → ⊥
   pub never-0 : (text b : List ℕ) (f : Refusal) → built text b .answer ≡ refused f → f .number ≡ 0 → ⊥
-  -- SpaceEnough: a buffer of 55,561 bytes, and of more; so what is refused there is a row's own, 11, 12 or 18
+  -- SpaceEnough: a buffer of 55,561 bytes, and of more; so what is refused there is a row's own, 11, 12, 18 or 20
   pub longest-enough : (text b : List ℕ) (f : Refusal) → length b ≡ 55561 → built text b .answer ≡ refused f → f .number ≡ 13 → ⊥
   pub space-own :
       (text b : List ℕ) (f : Refusal) → 55561 ≤ length b → built text b .answer ≡ refused f → (f .number ≡ 11 → ⊥) → (f .number ≡ 12 → ⊥)
-      → (f .number ≡ 18 → ⊥) → ⊥
+      → (f .number ≡ 18 → ⊥) → (f .number ≡ 20 → ⊥) → ⊥
   -- WorkedRows, WorkedOutside, WorkedFull, WorkedTexts: all of them, and some by themselves
-  pub worked-all : (length workedRows ≡ 17) × (length outsideRows ≡ 92) × (length workedTexts ≡ 25)
+  pub worked-all : (length workedRows ≡ 17) × (length outsideRows ≡ 92) × (length workedTexts ≡ 28)
   pub off-row :
       recordOfRow (ascii "allow g32767 32767 65535 0 off") ≡ some (11 ∷ 2 ∷ 255 ∷ 255 ∷ 127 ∷ 255 ∷ 255 ∷ 255 ∷ 0 ∷ 0 ∷ 0 ∷ [])
   pub switch-0-row : recordOfRow (ascii "allow 10 g0 5 1 s0") ≡ some (11 ∷ 2 ∷ 0 ∷ 10 ∷ 128 ∷ 0 ∷ 0 ∷ 5 ∷ 0 ∷ 1 ∷ 2 ∷ [])
@@ -587,7 +589,8 @@ pub record BuildingMet : Type 0 where
   pub high-byte : recordOfRow (ascii "group " ++ (177 ∷ [])) ≡ none
   pub members-outside : recordOfRow (ascii "group" ++ groupOf (members 65)) ≡ none
   pub members-most : recordOfRow (ascii "group" ++ groupOf (members 64)) ≡ some (130 ∷ 1 ∷ groupOf (replicate 64 (0 ∷ 7 ∷ [])))
-  pub full-12 : rowFault 5 (ascii "group 1") fullGroups ≡ some (refusal 12 5)
+  pub full-12 : rowFault 5 (ascii "group 256") fullGroups ≡ some (refusal 12 5)
+  pub full-20 : rowFault 5 (ascii "group 255") fullGroups ≡ some (refusal 20 5)
   pub full-18 : rowFault 5 (ascii "x") fullGroups ≡ some (refusal 18 5)
   pub full-11 : rowFault 5 (ascii "group 1024") fullGroups ≡ some (refusal 11 5)
   pub full-13 : rowFault 5 (ascii "trans 1 g255 3") fullGroups ≡ some (refusal 13 5)
@@ -887,6 +890,10 @@ pub record CallingMet : Type 0 where
   pub record-fits :
       (l : List ℕ) → Bytes l → (s : Section) (n : ℕ) → giveFault l s n ≡ none → (placeOf l s n ≤ 65535) × (length (givenRecord l s n) ≤ 130)
   pub number-fits : (b : List ℕ) → Bytes b → (r : List ℕ) → addFault b r ≡ none → newNumber b r ≤ 1023
+  -- ConvertWhole, ConvertRead: a new image's length, for any buffer that holds it; the refusal 13
+  pub length-fits : (l : List ℕ) → Bytes l → (n : ℕ) → convertFault l n ≡ none → (9 ≤ length (convertedImage l)) × (length (convertedImage l) ≤ 55561)
+  pub length-read : (l : List ℕ) → Bytes l → (n : ℕ) → convertFault l n ≡ none → hostAdded (convertCode l n) ≡ gives (length (convertedImage l))
+  pub short-read : (l : List ℕ) → Bytes l → (n : ℕ) (f : Refusal) → convertFault l n ≡ some f → hostAdded (convertCode l n) ≡ refused f
   -- PartsWhole: the numbers that include/mungaite.h gives
   pub near-code : (s r : ℕ) → s ≤ 65535 → r ≤ 65535 → decisionCode (gives (notPermitted (Near s r))) ≡ s * 65536 + r
   pub no-rules-code : decisionCode (gives (notPermitted NoRules)) ≡ 65535
@@ -929,7 +936,7 @@ pub record CallingMet : Type 0 where
   pub built-fits : (text b : List ℕ) (n : ℕ) → length text ≤ 281474976710655 → built text b .answer ≡ gives n → (9 ≤ n) × (n ≤ 55561)
   pub built-refusal-fits :
       (text b : List ℕ) (f : Refusal) → length text ≤ 281474976710655 → built text b .answer ≡ refused f
-      → (1 ≤ f .number) × (f .number ≤ 18) × (f .place ≤ 281474976710655)
+      → (1 ≤ f .number) × (f .number ≤ 20) × (f .place ≤ 281474976710655)
   pub any-build-read :
       (text b : List ℕ) (o : Outcome ℕ) → length text ≤ 281474976710655 → built text b .answer ≡ o → hostBuilt (buildCode o) ≡ o
   pub sample-build-read : hostBuilt (buildCode (built sampleBytes (replicate 83 7) .answer)) ≡ gives 80
@@ -988,5 +995,6 @@ pub record TermsMet : Type 0 where
   pub reaching : ReachingMet
   pub separating : SeparatingMet
   pub switching : SwitchingMet
+  pub converting : ConvertingMet
   pub printing : PrintingMet
   pub calling : CallingMet

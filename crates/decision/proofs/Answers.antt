@@ -3,11 +3,13 @@
 --     image-refused        and the check's is every query's
 --     denied-inside, permitted-inside, unknown-inside   the numbers that a decision names are below the sections' counts, and
 --                                steps are at most 4
+--     decide-alike         policies and queries that are read the same are decided the same
+--     answer-gives         on an accepted image a query with valid types is answered with the decision
 use Prim.Native.Nat.{ℕ, _≤_, _<_}
 use mathlib.Core.Path.{_≡_, refl, sym, ap, _∙_}
 use mathlib.Core.Logic.{_⊎_, inl, inr}
 use mathlib.Core.Bool.{Bool}
-use mathlib.Core.Option.{some}
+use mathlib.Core.Option.{none, some}
 use mathlib.Core.List.{List, map}
 use native.Mathlib.Omega.{arith}
 use lib.ListN.{length, length-map}
@@ -15,16 +17,16 @@ use Rattle.format.specs.declared.Section.the-variants.{Groups, Rules, Constrain
 use Rattle.format.specs.declared.Refusal.{Refusal}
 use Rattle.format.specs.Refusals.{refusal, need}
 use Rattle.format.specs.Format.{isType, countOf}
-use Rattle.format.specs.Policy.{policyOf}
-use Rattle.format.specs.Check.{check}
+use Rattle.format.specs.Policy.{Policy, policyOf}
+use Rattle.format.specs.Check.{check, Accepted}
 use Rattle.format.specs.Answers.{refused, gives, outcome}
-use Rattle.format.proofs.Chain.{orElse-first, orElse-refuses, need-refuses, outcome-refused}
+use Rattle.format.proofs.Chain.{orElse-first, orElse-none, orElse-refuses, need-none, need-refuses, outcome-refused}
 use Rattle.format.proofs.ByCase.{records-of-rules, records-of-constraints}
 use Rattle.format.proofs.Accepted.{records-count}
 use Rattle.decision.specs.declared.Query.{Query}
 use Rattle.decision.specs.declared.Nearest.the-variants.{Near}
-use Rattle.decision.specs.Reading.{rulesOf, constraintsOf}
-use Rattle.decision.specs.Decide.{decide, notPermitted, permitted, unknown, queryFault, answerFault, answer}
+use Rattle.decision.specs.Reading.{requestOf, rulesOf, constraintsOf}
+use Rattle.decision.specs.Decide.{decide, notPermitted, permitted, unknown, queryFault, answerFault, answer, Valid}
 use Rattle.decision.specs.Lowest.{Lowest}
 use Rattle.decision.proofs.Search.{lowest-inside}
 use Rattle.decision.proofs.Lowest.{lowest-answered}
@@ -79,3 +81,18 @@ module _ (l : List ℕ) where
           inside _ _ (policyOf l .rules) r (countOf l Rules) rules-are (n .0),
           inside _ _ (policyOf l .constraints) c (countOf l Constraints) constraints-are (n .1),
         )
+
+pub decide-alike :
+    (p p′ : Policy) (q q′ : Query) → rulesOf p′ (q′ .switches) ≡ rulesOf p (q .switches) → constraintsOf p′ ≡ constraintsOf p
+    → requestOf p′ q′ ≡ requestOf p q → decide p′ q′ ≡ decide p q
+unfolding decide
+decide-alike p p′ q q′ h k l = rw (h, k, l)
+
+module _ (l : List ℕ) (q : Query) where
+  pub valid-none : Valid l q → queryFault (countOf l Groups) q ≡ none
+  unfolding queryFault
+  valid-none v = orElse-none (need-none _ (v .0)) (need-none _ (v .1))
+
+  pub answer-gives : Accepted l → Valid l q → answer l q ≡ gives (decide (policyOf l) q)
+  unfolding answer answerFault
+  answer-gives e v = ap (λ x. outcome x (decide (policyOf l) q)) (orElse-none e (valid-none v))

@@ -11,10 +11,11 @@ use Rattle.format.proofs.Tests.{false-not-true}
 use Rattle.format.specs.Refusals.{refusal, need, _orElse_, unlessRefused}
 use Rattle.format.specs.Format.{knownVersion, limitOf, countPlace, countOf, kindIn, lengthOk, isType, isCondition, listOk, firstRecord, shapeOk, badMember, badType, badGroup, badAllow, badTransition, badConstraint, badField}
 use Rattle.format.specs.Policy.{bodyOf, imageOf, recordAt, placeAfter, recordsAt, startOf, placeOf, endOf, policyOf}
-use Rattle.format.specs.Check.{readFields, readOf, readFault, sectionFault, countFault, headerFault, bodyFault, check, imageIn, checkFront}
+use Rattle.format.specs.Twins.{sameBytes, listed, firstTwin, twinAt, twinFault}
+use Rattle.format.specs.Check.{readFields, readOf, readFault, sectionFault, countFault, headerFault, bodyFault, restFault, check, imageIn, checkFront}
 use Rattle.format.specs.Answers.{Outcome, refused, gives}
 use Rattle.format.specs.Sample.{sample, empty}
-use Rattle.extension.specs.Add.{sectionOf, withRecord, fieldFault, newNumber, ownFault, addFault, newImage, overwrite, bufferAfter}
+use Rattle.extension.specs.Add.{sectionOf, withRecord, fieldFault, newNumber, addedTwin, ownFault, addFault, newImage, overwrite, bufferAfter}
 use Rattle.decision.specs.declared.Query.{Query}
 use Rattle.decision.specs.declared.Nearest.the-variants.{NoRules, Near}
 use Rattle.decision.specs.Sets.{anyOf, allOf, isIn, setOf, unionOf, within, touches}
@@ -39,8 +40,8 @@ unfolding
     flatten wordAt words putWord need _orElse_ unlessRefused
     knownVersion limitOf countPlace countOf kindIn lengthOk isType isCondition listOk firstRecord shapeOk badMember badType badGroup badAllow badTransition badConstraint badField
     bodyOf imageOf recordAt placeAfter recordsAt startOf placeOf endOf policyOf
-    readFields readOf readFault sectionFault countFault headerFault bodyFault check imageIn checkFront
-    sample empty sectionOf withRecord fieldFault newNumber ownFault addFault newImage overwrite bufferAfter
+    readFields readOf readFault sectionFault countFault headerFault bodyFault restFault check sameBytes listed firstTwin twinAt twinFault imageIn checkFront
+    sample empty sectionOf withRecord fieldFault newNumber addedTwin ownFault addFault newImage overwrite bufferAfter
     anyOf allOf isIn setOf unionOf within touches
     switchOn isOn asks live ruleOf constraintOf requestOf rulesOf constraintsOf
     tests covers passes steps nearestOf greatest nearestBy nearest reaches separationBroken rosterBroken companionBroken broken applies inside fails firstAt decisionOf judge decide queryFault answerFault answer

@@ -138,6 +138,14 @@ module _ (p : Policy) where
         bytes = reordered-all (λ s r. Bytes r) (w .bytes);
       }
 
+reordered-accepted :
+    (l : List ℕ) → Bytes l → Accepted l → length (policyOf l .rules) + length (policyOf l .rules) ≤ 1024
+    → Bytes (imageOf (reordered (policyOf l))) × Accepted (imageOf (reordered (policyOf l))) × (policyOf (imageOf (reordered (policyOf l))) ≡ reordered (policyOf l))
+unfolding reordered
+reordered-accepted l by e h =
+    let w = accepted-is-well-formed l by e in
+    well-formed-is-accepted (reordered (policyOf l)) (reordered-formed (policyOf l) (w .0) h) (w .2)
+
 pub rules-reordered : RulesReordered
 rules-reordered l by e h = (ok .1, level)
   where
@@ -148,7 +156,7 @@ rules-reordered l by e h = (ok .1, level)
     l₂ = imageOf (reordered (policyOf l))
 
     ok : Bytes l₂ × Accepted l₂ × (policyOf l₂ ≡ reordered p)
-    ok = well-formed-is-accepted (reordered p) (reordered-formed p (accepted-is-well-formed l by e .0) h)
+    ok = reordered-accepted l by e h
 
     alike : Alike p (policyOf l₂)
     alike = subst (Alike p) (sym (ok .2)) (reordered-alike p)

@@ -2,11 +2,16 @@
 --     set-kept            a type's set
 --     Typed p             the records of a policy are well formed; `accepted-typed`: an accepted image's are
 --     rule-kept, constraint-kept    a record that reads the same
-use Prim.Native.Nat.{ℕ, suc, _-_, _<_, _≤_}
+--     set-basic, set-group          the set of a type field, and of a group's number
+--     union-moved                   the union of types that are moved
+--     RuleAlike, ConstraintAlike    two records of a policy each, with types that stand for the same sets and all else equal
+--     rule-alike, constraint-alike  such records read the same; request-alike, such queries
+--     rules-mapped, constraints-mapped   a policy's rules and constraints, record by record
+use Prim.Native.Nat.{ℕ, suc, _+_, _-_, _<_, _≤_}
 use native.Mathlib.Omega.{arith}
 use mathlib.Core.Path.{_≡_, refl, sym, subst, ap, ap₂}
 use mathlib.Core.Logic.{_⊎_, inl, inr, ⊎-elim}
-use mathlib.Core.List.{List, [], _∷_, _++_, List·Memᴰ}
+use mathlib.Core.List.{List, [], _∷_, _++_, map, List·Memᴰ, List·Memᴰ·head, List·Memᴰ·tail}
 use lib.ListN.{length, getD, drop, length-drop}
 use borrow.Author.Tests.{lt-ltb, le-ltb}
 use Rattle.format.specs.declared.Section.{Section}
@@ -21,7 +26,8 @@ use Rattle.format.proofs.ByCase.{records-of-rules, records-of-constraints}
 use Rattle.format.proofs.Fields.{formed-is, record-rule, record-constraint}
 use Rattle.format.proofs.Images.{policy-formed, group-count}
 use Rattle.decision.specs.Sets.{setOf, unionOf}
-use Rattle.decision.specs.Reading.{ruleOf, constraintOf}
+use Rattle.decision.specs.declared.Query.{Query}
+use Rattle.decision.specs.Reading.{ruleOf, constraintOf, requestOf, rulesOf, constraintsOf}
 use Rattle.decision.specs.Order.{Keeps}
 
 -- ---- what a type field stands for, over the old groups and the new
@@ -86,3 +92,63 @@ module _ (p₁ p₂ : Policy) (typed : Typed p₁) (k : Keeps (p₁ .groups) (p�
         kept (wordAt c 8) (t .1 .second),
         union-kept (p₁ .groups) (p₂ .groups) k (words (drop 11 c)) (list-types _ c (t .0) (t .1)),
       )
+
+-- ---- types that are moved
+
+pub set-basic : (gs : List (List ℕ)) (t : ℕ) → t < 32768 → setOf gs t ≡ t ∷ []
+unfolding setOf
+set-basic gs t h = rw (lt-ltb t 32768 h)
+
+pub set-group : (gs : List (List ℕ)) (k : ℕ) → setOf gs (32768 + k) ≡ words (drop 2 (getD gs k []))
+unfolding setOf
+set-group gs k =
+    let z : 32768 + k - 32768 ≡ k = omega arith in
+    rw (le-ltb (32768 + k) 32768 (omega arith), z)
+
+pub union-moved :
+    (gs gs′ : List (List ℕ)) (f : ℕ → ℕ) (ts : List ℕ) → ((t : ℕ) → List·Memᴰ t ts → setOf gs′ (f t) ≡ setOf gs t)
+    → unionOf gs′ (map f ts) ≡ unionOf gs ts
+unfolding unionOf
+union-moved gs gs′ f [] h = refl
+union-moved gs gs′ f (t ∷ ts) h =
+    ap₂ (λ (a b : List ℕ). a ++ b) (h t (List·Memᴰ·head refl)) (union-moved gs gs′ f ts (λ u m. h u (List·Memᴰ·tail m)))
+
+pub record RuleAlike (p p′ : Policy) (r r′ : List ℕ) : Type 0 where
+  pub kind : getD r′ 1 0 ≡ getD r 1 0
+  pub source : setOf (p′ .groups) (wordAt r′ 2) ≡ setOf (p .groups) (wordAt r 2)
+  pub dest : setOf (p′ .groups) (wordAt r′ 4) ≡ setOf (p .groups) (wordAt r 4)
+  pub class : wordAt r′ 6 ≡ wordAt r 6
+  pub action : wordAt r′ 8 ≡ wordAt r 8
+  pub condition : getD r′ 10 0 ≡ getD r 10 0
+
+pub record ConstraintAlike (p p′ : Policy) (r r′ : List ℕ) : Type 0 where
+  pub class : wordAt r′ 2 ≡ wordAt r 2
+  pub action : wordAt r′ 4 ≡ wordAt r 4
+  pub first : setOf (p′ .groups) (wordAt r′ 6) ≡ setOf (p .groups) (wordAt r 6)
+  pub second : setOf (p′ .groups) (wordAt r′ 8) ≡ setOf (p .groups) (wordAt r 8)
+  pub predicate : getD r′ 10 0 ≡ getD r 10 0
+  pub list : unionOf (p′ .groups) (words (drop 11 r′)) ≡ unionOf (p .groups) (words (drop 11 r))
+
+module _ (p p′ : Policy) where
+  pub rule-alike : (w : ℕ) (r r′ : List ℕ) → RuleAlike p p′ r r′ → ruleOf p′ w r′ ≡ ruleOf p w r
+  unfolding ruleOf
+  rule-alike w r r′ a = rw (a .kind, a .source, a .dest, a .class, a .action, a .condition)
+
+  pub constraint-alike : (r r′ : List ℕ) → ConstraintAlike p p′ r r′ → constraintOf p′ r′ ≡ constraintOf p r
+  unfolding constraintOf
+  constraint-alike r r′ a = rw (a .class, a .action, a .first, a .second, a .predicate, a .list)
+
+  pub request-alike :
+      (q q′ : Query) → setOf (p′ .groups) (q′ .source) ≡ setOf (p .groups) (q .source)
+      → setOf (p′ .groups) (q′ .dest) ≡ setOf (p .groups) (q .dest) → q′ .class ≡ q .class → q′ .action ≡ q .action
+      → requestOf p′ q′ ≡ requestOf p q
+  unfolding requestOf
+  request-alike q q′ s d c a = rw (s, d, c, a)
+
+pub rules-mapped : (p : Policy) (w : ℕ) → rulesOf p w ≡ map (ruleOf p w) (p .rules)
+unfolding rulesOf
+rules-mapped p w = refl
+
+pub constraints-mapped : (p : Policy) → constraintsOf p ≡ map (constraintOf p) (p .constraints)
+unfolding constraintsOf
+constraints-mapped p = refl

@@ -169,15 +169,22 @@ unfolding queryFault settled withWord
 answers l q w b e =
     let p : Policy = policyOf l in
     let p′ : Policy = settled (q .switches) p in
-    let a = well-formed-is-accepted p′ (settled-formed (q .switches) p (accepted-is-well-formed l b e .0)) in
+    let f = accepted-is-well-formed l b e in
+    let a = well-formed-is-accepted p′ (settled-formed (q .switches) p (f .0)) (f .2) in
     answer-of (imageOf p′) (withWord w q) p′ (a .1) (a .2)
     ∙ ap (outcome (queryFault (length (p .groups)) q)) (settled-decides p q w)
     ∙ sym (answer-of l q p e refl)
+
+settled-accepted : (l : List ℕ) (w : ℕ) → Bytes l → Accepted l → Accepted (imageOf (settled w (policyOf l)))
+unfolding settled
+settled-accepted l w b e =
+    let f = accepted-is-well-formed l b e in
+    well-formed-is-accepted _ (settled-formed w (policyOf l) (f .0)) (f .2) .1
 
 pub answers-settled : AnswersSettled
 answers-settled =
     record {
       answers = answers;
-      accepted = λ l w b e. well-formed-is-accepted _ (settled-formed w (policyOf l) (accepted-is-well-formed l b e .0)) .1;
+      accepted = settled-accepted;
       plain = λ p w. settled-plain w p;
     }

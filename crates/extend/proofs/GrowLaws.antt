@@ -45,14 +45,14 @@ unfolding movedStarts withRecord
 starts-with Groups p r w v =
     let n = flatten-more (p .groups) r in
     rw count-place-groups
-    (ap₂ places (omega (arith, start-rules p w, start-rules _ v, n)) (omega (arith, start-constraints p w, start-constraints _ v, n)))
+    (ap₂ places (omega (arith, start-rules p (w .regular), start-rules _ (v .regular), n)) (omega (arith, start-constraints p (w .regular), start-constraints _ (v .regular), n)))
 starts-with Rules p r w v =
     let n = flatten-more (p .rules) r in
     rw count-place-rules
-    (ap₂ places (omega (arith, start-rules p w, start-rules _ v)) (omega (arith, start-constraints p w, start-constraints _ v, n)))
+    (ap₂ places (omega (arith, start-rules p (w .regular), start-rules _ (v .regular))) (omega (arith, start-constraints p (w .regular), start-constraints _ (v .regular), n)))
 starts-with Constraints p r w v =
     rw count-place-constraints
-    (ap₂ places (omega (arith, start-rules p w, start-rules _ v)) (omega (arith, start-constraints p w, start-constraints _ v)))
+    (ap₂ places (omega (arith, start-rules p (w .regular), start-rules _ (v .regular))) (omega (arith, start-constraints p (w .regular), start-constraints _ (v .regular))))
 
 pub starts-moved :
     (b r : List ℕ) → Bytes b → Bytes r → addFault b r ≡ none

@@ -6,6 +6,7 @@ use format::Section;
 use format::Sections;
 use format::Starts;
 use format::header;
+use image::same_record;
 use image::word_at;
 ghost use mathlib.Core.Path.{_≡_};
 ghost use mathlib.Core.Option.{none};
@@ -14,9 +15,11 @@ ghost use Prim.Native.Nat.{_≤_};
 ghost use lib.ListN.{length, getD};
 ghost use Rattle.format.specs.Refusals.{refusal};
 ghost use Rattle.format.specs.Format.{countPlace, limitOf, kindIn};
-ghost use Rattle.format.specs.Check.{imageIn, checkFront};
+ghost use Rattle.format.specs.Policy.{policyOf};
+ghost use Rattle.format.specs.Twins.{listed};
+ghost use Rattle.format.specs.Check.{imageIn, checkFront, Accepted};
 ghost use Rattle.format.specs.Answers.{outcome, starts};
-ghost use Rattle.extension.specs.Add.{ownFault, addFault};
+ghost use Rattle.extension.specs.Add.{addedTwin, ownFault, addFault};
 ghost use Rattle.extend.specs.Inner.Plans.{planOutcome, slotAt, slotOf};
 
 // The place that a record goes to, the image's size, and the place and the value of its section's count.
@@ -58,7 +61,36 @@ fn limit_of(section: Section) -> usize
     }
 }
 
-// A whole record of a section that ends at a place of an accepted image: refusals 11 to 13, and 10 for its length.
+// Whether an accepted image has a group with this record: from group to group.
+fn is_listed(image: &[u8], part: &[u8]) -> bool
+    requires { ⌜ Accepted (now image) ⌝ }
+    ensures { λ r. ⌜ r ≡ listed (now (part .entry)) (policyOf (now (image .entry)) .groups) ⌝ }
+{
+    let count = word_at(image, header::GROUPS_AT);
+    let mut at = header::SIZE;
+    for k in 0..count {
+        let next = at + wide(image[at]);
+        if same_record(part, &image[at..next]) {
+            return true;
+        }
+        at = next;
+    }
+    false
+}
+
+// Whether a record of a section would be a twin.
+fn is_twin(buffer: &[u8], part: &[u8], section: Section) -> bool
+    requires { ⌜ checkFront (now buffer) ≡ none ⌝ }
+    ensures { λ r. ⌜ r ≡ addedTwin section (policyOf (imageIn (now (buffer .entry)))) (now (part .entry)) ⌝ }
+{
+    match section {
+        Section::Groups => is_listed(image::leading(buffer), part),
+        Section::Rules => false,
+        Section::Constraints => false,
+    }
+}
+
+// A whole record of a section that ends at a place of an accepted image: refusals 11, 20, 12 and 13, and 10 for its length.
 fn room(buffer: &[u8], part: &[u8], section: Section, at: usize) -> Plan
     requires { ⌜ (checkFront (now buffer) ≡ none) × (getD (now part) 0 0 ≡ length (now part)) × (kindIn section (getD (now part) 1 0) ≡ true) ⌝ }
     ensures { λ r. ⌜ planOutcome r ≡ outcome (ownFault (now (buffer .entry)) (now (part .entry))) (slotAt (now (buffer .entry)) section at) ⌝ }
@@ -67,6 +99,9 @@ fn room(buffer: &[u8], part: &[u8], section: Section, at: usize) -> Plan
         Read::Malformed => refused(10, 0),
         Read::BadField(i) => refused(11, i),
         Read::Whole(_) => {
+            if is_twin(buffer, part, section) {
+                return refused(20, 0);
+            }
             let field = count_place(section);
             let count = word_at(buffer, field);
             if limit_of(section) <= count {

@@ -4,7 +4,7 @@
 --     own-refused, add-refused   a refusal's number and place, and whose it is
 --     number-few           the new record's number is below its section's limit
 --     buffer-refused       a refused call leaves the buffer
---     with-sound           a sound policy with one formed record more is sound
+--     with-sound           a sound policy with one formed record more, which is no twin, is sound
 --     add-image            adding to an image with bytes behind it
 --     buffer-inserted      the buffer after adding, as the bytes are moved and written
 --     added-accepted, number-named, groups-kept, rest-stays, refused-unchanged   claims AddedAccepted, NumberNamed, GroupsKept,
@@ -12,7 +12,7 @@
 use Prim.Native.Nat.{ℕ, _+_, _≤_, _<_}
 use mathlib.Core.Path.{_≡_, refl, sym, subst, ap, _∙_}
 use mathlib.Core.Logic.{_⊎_, inl, inr, ⊎-elim}
-use mathlib.Core.Bool.{true}
+use mathlib.Core.Bool.{Bool, true, false, not}
 use mathlib.Core.Option.{Option, none, some}
 use mathlib.Core.List.{List, [], _∷_, _++_, List·Memᴰ, Memᴰ·append-left, List·Memᴰ·append-cases, List·Memᴰ·eq-of-singleton}
 use native.Mathlib.Omega.{arith}
@@ -27,15 +27,18 @@ use Rattle.format.specs.Bytes.{Bytes, wordAt}
 use Rattle.format.specs.Refusals.{refusal, need}
 use Rattle.format.specs.Format.{limitOf, countPlace, countOf, kindIn, shapeOk, badField}
 use Rattle.format.specs.Policy.{Policy, recordsOf, imageOf, policyOf}
+use Rattle.format.specs.Twins.{NoTwins}
 use Rattle.format.specs.Check.{imageIn, checkFront, Accepted}
 use Rattle.format.proofs.Bytes.{bytes-append, bytes-drop}
 use Rattle.format.proofs.Chain.{orElse-split, orElse-none, need-true, need-none, some-not-none, orElse-refuses, need-refuses, unless-accepted, unless-refused}
 use Rattle.format.proofs.ByCase.{kind-groups, kind-rules, kind-constraints, groups-kind, rules-kind, constraints-kind, records-of-groups, records-of-rules, records-of-constraints}
 use Rattle.format.proofs.Shapes.{Formed, length-cases, shape-kind, shape-most}
 use Rattle.format.proofs.Fields.{formed-more, field-inside}
-use Rattle.format.proofs.Images.{Sound, policy-sound, image-of-policy, policy-of-image, image-accepted, image-bytes, image-length, image-count}
+use Rattle.format.proofs.Tests.{false-not-true}
+use Rattle.format.proofs.Twins.{no-twins-snoc}
+use Rattle.format.proofs.Images.{Regular, Sound, policy-sound, image-of-policy, policy-of-image, image-accepted, image-bytes, image-length, image-count}
 use Rattle.format.proofs.Front.{front-accepted, front-length, front-count, front-split, front-bytes, front-of, image-in-of, front-of-length, front-of-count}
-use Rattle.extension.specs.Add.{sectionOf, withRecord, fieldFault, newNumber, ownFault, addFault, newImage, overwrite, bufferAfter}
+use Rattle.extension.specs.Add.{sectionOf, withRecord, addedTwin, fieldFault, newNumber, ownFault, addFault, newImage, overwrite, bufferAfter}
 use Rattle.extension.specs.Inner.Splice.{inserted, endOfSection}
 use Rattle.extension.specs.Claims.{AddedAccepted, NumberNamed, GroupsKept, RestStays, RefusedUnchanged}
 use Rattle.extension.proofs.Splices.{before, section-end, length-with, inserted-image}
@@ -64,8 +67,13 @@ kind-of r e =
 
 pub record OwnPasses (b r : List ℕ) : Type 0 where
   pub formed : Formed (sectionOf (getD r 1 0)) (countOf b Groups) r
+  pub fresh : addedTwin (sectionOf (getD r 1 0)) (policyOf (imageIn b)) r ≡ false
   pub few : countOf b (sectionOf (getD r 1 0)) < limitOf (sectionOf (getD r 1 0))
   pub room : wordAt b 1 + length r ≤ length b
+
+pub not-true : (t : Bool) → not t ≡ true → t ≡ false
+not-true true e = false-not-true e
+not-true false e = refl
 
 pub field-none : (f : Option ℕ) → fieldFault f ≡ none → f ≡ none
 unfolding fieldFault
@@ -83,10 +91,12 @@ module _ (b r : List ℕ) where
       let s : Section = sectionOf (getD r 1 0) in
       let a = orElse-split (need (shapeOk r) (refusal 10 0)) _ e in
       let c = orElse-split (fieldFault (badField (countOf b Groups) r)) _ (a .1) in
-      let d = orElse-split (need (ltb (countOf b s) (limitOf s)) (refusal 12 0)) (need (leb (wordAt b 1 + length r) (length b)) (refusal 13 0)) (c .1) in
+      let g = orElse-split (need (not (addedTwin s (policyOf (imageIn b)) r)) (refusal 20 0)) _ (c .1) in
+      let d = orElse-split (need (ltb (countOf b s) (limitOf s)) (refusal 12 0)) (need (leb (wordAt b 1 + length r) (length b)) (refusal 13 0)) (g .1) in
       let shape = need-true (shapeOk r) (refusal 10 0) (a .0) in
       record {
         formed = record { shape = shape; kind = kind-of r shape; fields = field-none (badField (countOf b Groups) r) (c .0) };
+        fresh = not-true (addedTwin s (policyOf (imageIn b)) r) (need-true _ _ (g .0));
         few = ltb-true (countOf b s) (limitOf s) (need-true _ _ (d .0));
         room = leb-true (wordAt b 1 + length r) (length b) (need-true _ _ (d .1));
       }
@@ -97,11 +107,12 @@ module _ (b r : List ℕ) where
       let s : Section = sectionOf (getD r 1 0) in
       orElse-none (need-none _ (q .formed .shape))
       (orElse-none (none-field (q .formed .fields))
-      (orElse-none (need-none _ (lt-ltb (countOf b s) (limitOf s) (q .few))) (need-none _ (le-leb (wordAt b 1 + length r) (length b) (q .room)))))
+      (orElse-none (need-none _ (rw (q .fresh)))
+      (orElse-none (need-none _ (lt-ltb (countOf b s) (limitOf s) (q .few))) (need-none _ (le-leb (wordAt b 1 + length r) (length b) (q .room))))))
 
   -- what a refusal of the call's own is
   abbrev Own : Refusal → Type 0
-  Own f = (10 ≤ f .number) × (f .number ≤ 13) × (f .place < 130)
+  Own f = (10 ≤ f .number) × (f .number ≤ 20) × (f .place < 130)
 
   field-refused : shapeOk r ≡ true → (o : Option ℕ) → badField (countOf b Groups) r ≡ o → (f : Refusal) → fieldFault o ≡ some f → Own f
   unfolding fieldFault
@@ -112,16 +123,18 @@ module _ (b r : List ℕ) where
       let z : refusal 11 i ≡ f = cc in
       subst Own z (omega arith, omega arith, omega arith)
 
-  pub own-refused : (f : Refusal) → ownFault b r ≡ some f → (10 ≤ f .number) × (f .number ≤ 13) × (f .place < 130)
+  pub own-refused : (f : Refusal) → ownFault b r ≡ some f → (10 ≤ f .number) × (f .number ≤ 20) × (f .place < 130)
   unfolding ownFault
   own-refused =
       let s : Section = sectionOf (getD r 1 0) in
       orElse-refuses Own (need (shapeOk r) (refusal 10 0)) _ (need-refuses Own (shapeOk r) (refusal 10 0) (omega arith, omega arith, omega arith))
       (λ e. orElse-refuses Own (fieldFault (badField (countOf b Groups) r)) _
       (field-refused (need-true (shapeOk r) (refusal 10 0) e) (badField (countOf b Groups) r) refl)
+      (λ _. orElse-refuses Own (need (not (addedTwin s (policyOf (imageIn b)) r)) (refusal 20 0)) _
+      (need-refuses Own (not (addedTwin s (policyOf (imageIn b)) r)) (refusal 20 0) (omega arith, omega arith, omega arith))
       (λ _. orElse-refuses Own (need (ltb (newNumber b r) (limitOf s)) (refusal 12 0)) (need (leb (wordAt b 1 + length r) (length b)) (refusal 13 0))
       (need-refuses Own (ltb (newNumber b r) (limitOf s)) (refusal 12 0) (omega arith, omega arith, omega arith))
-      (λ _. need-refuses Own (leb (wordAt b 1 + length r) (length b)) (refusal 13 0) (omega arith, omega arith, omega arith))))
+      (λ _. need-refuses Own (leb (wordAt b 1 + length r) (length b)) (refusal 13 0) (omega arith, omega arith, omega arith)))))
 
   pub add-refused : (f : Refusal) → addFault b r ≡ some f → (checkFront b ≡ some f) ⊎ (ownFault b r ≡ some f)
   unfolding addFault
@@ -200,15 +213,15 @@ module _ (p : Policy) (r : List ℕ) where
       (List·Memᴰ·append-cases (recordsOf p s′) (subst (List·Memᴰ x) (with-records s′) (subst (λ z. List·Memᴰ x (recordsOf (withRecord z p r) s′)) e m))))
       (with-section s s′)
 
-  with-few : (s : Section) → Sound p → length (recordsOf p s) < limitOf s → (s′ : Section) → length (recordsOf (withRecord s p r) s′) ≤ limitOf s′
+  with-few : (s : Section) → Regular p → length (recordsOf p s) < limitOf s → (s′ : Section) → length (recordsOf (withRecord s p r) s′) ≤ limitOf s′
   with-few s w h s′ =
       ⊎-elim (λ e. rw e (w .few s′))
       (λ e. subst (λ z. length (recordsOf (withRecord s p r) z) ≤ limitOf z) e
       (rw (with-records s) (omega (arith, length-append (recordsOf p s) (r ∷ [])))))
       (with-section s s′)
 
-  pub with-sound : (s : Section) → Sound p → Formed s (length (p .groups)) r → Bytes r → length (recordsOf p s) < limitOf s → Sound (withRecord s p r)
-  with-sound s w f b h =
+  with-regular : (s : Section) → Regular p → Formed s (length (p .groups)) r → Bytes r → length (recordsOf p s) < limitOf s → Regular (withRecord s p r)
+  with-regular s w f b h =
       let g′ : ℕ = length (withRecord s p r .groups) in
       record {
         version = rw (with-version s) (w .version);
@@ -216,6 +229,17 @@ module _ (p : Policy) (r : List ℕ) where
         formed = with-all (λ s′ x. Formed s′ g′ x) (λ s′ x m. formed-more _ g′ x s′ (with-groups s) (w .formed s′ x m)) s (formed-more _ g′ r s (with-groups s) f);
         bytes = with-all (λ s′ x. Bytes x) (w .bytes) s b;
       }
+
+  with-twins : (s : Section) → NoTwins (p .groups) → addedTwin s p r ≡ false → NoTwins (withRecord s p r .groups)
+  unfolding withRecord addedTwin
+  with-twins Groups n e = no-twins-snoc (p .groups) r n e
+  with-twins Rules n e = n
+  with-twins Constraints n e = n
+
+  pub with-sound :
+      (s : Section) → Sound p → Formed s (length (p .groups)) r → Bytes r → addedTwin s p r ≡ false → length (recordsOf p s) < limitOf s
+      → Sound (withRecord s p r)
+  with-sound s w f b e h = record { regular = with-regular s (w .regular) f b h; twins = with-twins s (w .twins) e }
 
 pub with-length : (s : Section) (p : Policy) (r : List ℕ) → length (imageOf (withRecord s p r)) ≡ length (imageOf p) + length r
 with-length s p r = image-length (withRecord s p r) ∙ sym (length-with s p r [])
@@ -226,7 +250,8 @@ pub count-is : (p : Policy) (t : List ℕ) → Sound p → (s : Section) → cou
 count-is p t w s = front-of-count (imageOf p) t (image-accepted p w) s ∙ image-count p s
 
 module _ (p : Policy) (t : List ℕ) (s : Section) (r : List ℕ) (w : Sound p) (f : Formed s (length (p .groups)) r)
-    (few : length (recordsOf p s) < limitOf s) (room : length (imageOf p) + length r ≤ length (imageOf p ++ t)) where
+    (fresh : addedTwin s p r ≡ false) (few : length (recordsOf p s) < limitOf s)
+    (room : length (imageOf p) + length r ≤ length (imageOf p ++ t)) where
   groups-are : countOf (imageOf p ++ t) Groups ≡ length (p .groups)
   groups-are = count-is p t w Groups ∙ ap length (records-of-groups p)
 
@@ -236,6 +261,9 @@ module _ (p : Policy) (t : List ℕ) (s : Section) (r : List ℕ) (w : Sound p) 
   is-section : sectionOf (getD r 1 0) ≡ s
   is-section = section-of s (getD r 1 0) (f .kind)
 
+  policy-is : policyOf (imageIn (imageOf p ++ t)) ≡ p
+  policy-is = ap policyOf (image-in-of (imageOf p) t (image-accepted p w)) ∙ policy-of-image p (w .regular)
+
   pub add-passes : addFault (imageOf p ++ t) r ≡ none
   unfolding addFault
   add-passes =
@@ -243,13 +271,14 @@ module _ (p : Policy) (t : List ℕ) (s : Section) (r : List ℕ) (w : Sound p) 
       (passes-own (imageOf p ++ t) r
       (record {
         formed = rw (is-section, groups-are) f;
+        fresh = rw (is-section, policy-is) fresh;
         few = rw (is-section, count-is p t w s) few;
         room = rw size-is room;
       }))
 
   new-image : newImage (imageOf p ++ t) r ≡ imageOf (withRecord s p r)
   unfolding newImage
-  new-image = rw (is-section, image-in-of (imageOf p) t (image-accepted p w), policy-of-image p w)
+  new-image = rw (is-section, policy-is)
 
   pub add-image : bufferAfter (imageOf p ++ t) r ≡ imageOf (withRecord s p r) ++ drop (length r) t
   unfolding bufferAfter overwrite
@@ -309,8 +338,12 @@ module _ (b r : List ℕ) (by : Bytes b) (e : addFault b r ≡ none) where
   room : length (imageOf p) + length r ≤ length (imageOf p ++ t)
   room = rw (size, ap length buffer-is) at (own .room)
 
+  fresh : addedTwin s p r ≡ false
+  unfolding s p
+  fresh = own .fresh
+
   buffer-image : bufferAfter b r ≡ imageOf (withRecord s p r) ++ drop (length r) t
-  buffer-image = ap (λ (x : List ℕ). bufferAfter x r) buffer-is ∙ add-image p t s r sound formed few room
+  buffer-image = ap (λ (x : List ℕ). bufferAfter x r) buffer-is ∙ add-image p t s r sound formed fresh few room
 
   pub buffer-inserted :
       inserted b r (endOfSection (imageIn b) (sectionOf (getD r 1 0))) (wordAt b 1) (countPlace (sectionOf (getD r 1 0))) (countOf b (sectionOf (getD r 1 0)))
@@ -343,8 +376,11 @@ module _ (b r : List ℕ) (by : Bytes b) (e : addFault b r ≡ none) where
       )
 
   module _ (bytes : Bytes r) where
+    sound-with : Sound (withRecord s p r)
+    sound-with = with-sound p r s sound formed bytes fresh few
+
     with-accepted : Accepted (imageOf (withRecord s p r))
-    with-accepted = image-accepted (withRecord s p r) (with-sound p r s sound formed bytes few)
+    with-accepted = image-accepted (withRecord s p r) sound-with
 
     after-accepted : checkFront (bufferAfter b r) ≡ none
     after-accepted = rw buffer-image (front-of (imageOf (withRecord s p r)) (drop (length r) t) with-accepted)
@@ -352,7 +388,7 @@ module _ (b r : List ℕ) (by : Bytes b) (e : addFault b r ≡ none) where
     after-bytes : Bytes (bufferAfter b r)
     unfolding t
     after-bytes =
-        let i : Bytes (imageOf (withRecord s p r)) = image-bytes (withRecord s p r) (with-sound p r s sound formed bytes few) in
+        let i : Bytes (imageOf (withRecord s p r)) = image-bytes (withRecord s p r) (sound-with .regular) in
         subst Bytes (sym buffer-image)
         (bytes-append (imageOf (withRecord s p r)) (drop (length r) t) i (bytes-drop (length r) t (bytes-drop (wordAt b 1) b by)))
 
@@ -360,7 +396,7 @@ module _ (b r : List ℕ) (by : Bytes b) (e : addFault b r ≡ none) where
     after-policy =
         rw buffer-image
         (ap policyOf (image-in-of (imageOf (withRecord s p r)) (drop (length r) t) with-accepted)
-        ∙ policy-of-image (withRecord s p r) (with-sound p r s sound formed bytes few))
+        ∙ policy-of-image (withRecord s p r) (sound-with .regular))
 
     after-number : getD (recordsOf (policyOf (imageIn (bufferAfter b r))) s) (newNumber b r) [] ≡ r
     unfolding newNumber s

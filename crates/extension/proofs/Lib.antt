@@ -3,3 +3,4 @@ pub mod Adds
 pub mod Causes
 pub mod Counts
 pub mod Trip
+pub mod Twins

@@ -62,8 +62,8 @@ body-with Constraints p r =
 
 pub section-end : (s : Section) (p : Policy) → Sound p → endOfSection (imageOf p) s ≡ 9 + length (before s p)
 unfolding endOfSection before
-section-end Groups p w = start-rules p w
-section-end Rules p w = start-constraints p w ∙ omega (arith, length-append (flatten (p .groups)) (flatten (p .rules)))
+section-end Groups p w = start-rules p (w .regular)
+section-end Rules p w = start-constraints p (w .regular) ∙ omega (arith, length-append (flatten (p .groups)) (flatten (p .rules)))
 section-end Constraints p w = image-length p ∙ ap (λ (l : List ℕ). 9 + length l) (body-parts p)
 
 -- the nine bytes of a header

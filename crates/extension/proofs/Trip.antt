@@ -3,6 +3,7 @@
 --     round-trip, round-trip-exact   claims RoundTrip and RoundTripExact
 use Prim.Native.Nat.{ℕ, _+_, _≤_, _<_}
 use mathlib.Core.Path.{_≡_, refl, sym, subst, ap, ap₂, _∙_}
+use mathlib.Core.Bool.{false}
 use mathlib.Core.List.{List, [], _∷_, _++_, flatten, append-assoc, append-nil, List·Memᴰ, List·Memᴰ·head, List·Memᴰ·tail}
 use native.Mathlib.Omega.{arith}
 use lib.ListN.{length, drop, length-append, length-drop}
@@ -12,13 +13,15 @@ use Rattle.format.specs.declared.Section.the-variants.{Groups, Rules, Constrain
 use Rattle.format.specs.Bytes.{Bytes}
 use Rattle.format.specs.Format.{limitOf}
 use Rattle.format.specs.Policy.{Policy, recordsOf, bodyOf, imageOf, policyOf}
+use Rattle.format.specs.Twins.{NoTwins}
 use Rattle.format.specs.Sample.{empty}
 use Rattle.format.proofs.ByCase.{records-of-groups, records-of-rules, records-of-constraints, known-version}
 use Rattle.format.proofs.Shapes.{Formed}
 use Rattle.format.proofs.Fields.{formed-more, group-any}
+use Rattle.format.proofs.Twins.{no-twins-next}
 use Rattle.format.proofs.Images.{Sound, policy-sound, image-of-policy, image-length}
 use Rattle.format.proofs.Written.{body-parts, image-empty, length-empty, sound-empty}
-use Rattle.extension.specs.Add.{withRecord, bufferAfter, overwrite}
+use Rattle.extension.specs.Add.{withRecord, addedTwin, bufferAfter, overwrite}
 use Rattle.extension.specs.Claims.{addAll, allRecords, RoundTrip, RoundTripExact}
 use Rattle.extension.proofs.Adds.{with-records, with-groups, with-sound, add-image}
 
@@ -36,25 +39,44 @@ record Section-added (s : Section) (p : Policy) (t : List ℕ) (rs : List (List 
   buffer : addAll (imageOf p ++ t) rs ≡ imageOf (withAll s p rs) ++ drop (length (flatten rs)) t
   sound : Sound (withAll s p rs)
 
+-- none of the records, one after the other, will be a twin
+Fresh : Section → Policy → List (List ℕ) → Type 0
+Fresh Groups p rs = NoTwins (p .groups ++ rs)
+Fresh Rules p rs = Unit {0}
+Fresh Constraints p rs = Unit {0}
+
+fresh-first : (s : Section) (p : Policy) (r : List ℕ) (rs : List (List ℕ)) → Fresh s p (r ∷ rs) → addedTwin s p r ≡ false
+unfolding Fresh addedTwin
+fresh-first Groups p r rs n = no-twins-next (p .groups) r rs n
+fresh-first Rules p r rs n = refl
+fresh-first Constraints p r rs n = refl
+
+fresh-rest : (s : Section) (p : Policy) (r : List ℕ) (rs : List (List ℕ)) → Fresh s p (r ∷ rs) → Fresh s (withRecord s p r) rs
+unfolding Fresh withRecord
+fresh-rest Groups p r rs n = subst NoTwins (sym (append-assoc (p .groups) (r ∷ []) rs)) n
+fresh-rest Rules p r rs n = tt
+fresh-rest Constraints p r rs n = tt
+
 add-section :
-    (s : Section) (p : Policy) (t : List ℕ) (g : ℕ) (rs : List (List ℕ)) → Sound p → g ≤ length (p .groups)
+    (s : Section) (p : Policy) (t : List ℕ) (g : ℕ) (rs : List (List ℕ)) → Sound p → Fresh s p rs → g ≤ length (p .groups)
     → ((r : List ℕ) → List·Memᴰ r rs → Formed s g r) → ((r : List ℕ) → List·Memᴰ r rs → Bytes r)
     → length (recordsOf p s) + length rs ≤ limitOf s → length (flatten rs) ≤ length t
     → Section-added s p t rs
 unfolding addAll withAll flatten
-add-section s p t g [] w h f b few room = record { buffer = refl; sound = w }
-add-section s p t g (r ∷ rs) w h f b few room =
+add-section s p t g [] w n h f b few room = record { buffer = refl; sound = w }
+add-section s p t g (r ∷ rs) w fresh h f b few room =
     let n = length-append r (flatten rs) in
     let k = length-append (imageOf p) t in
     let fr : Formed s (length (p .groups)) r = formed-more g (length (p .groups)) r s h (f r (List·Memᴰ·head refl)) in
     let lr : length (recordsOf p s) < limitOf s = omega arith in
     let p₁ : Policy = withRecord s p r in
     let t₁ : List ℕ = drop (length r) t in
-    let step : bufferAfter (imageOf p ++ t) r ≡ imageOf p₁ ++ t₁ = add-image p t s r w fr lr (omega arith) in
+    let step : bufferAfter (imageOf p ++ t) r ≡ imageOf p₁ ++ t₁ = add-image p t s r w fr (fresh-first s p r rs fresh) lr (omega arith) in
     let few₁ : length (recordsOf p₁ s) + length rs ≤ limitOf s =
     omega (arith, ap length (with-records p r s), length-append (recordsOf p s) (r ∷ [])) in
     let room₁ : length (flatten rs) ≤ length t₁ = omega (arith, length-drop (length r) t) in
-    let rest = add-section s p₁ t₁ g rs (with-sound p r s w fr (b r (List·Memᴰ·head refl)) lr) (omega (arith, with-groups p r s))
+    let rest = add-section s p₁ t₁ g rs (with-sound p r s w fr (b r (List·Memᴰ·head refl)) (fresh-first s p r rs fresh) lr)
+    (fresh-rest s p r rs fresh) (omega (arith, with-groups p r s))
     (λ x m. f x (List·Memᴰ·tail m)) (λ x m. b x (List·Memᴰ·tail m)) few₁ room₁ in
     record {
       buffer =
@@ -92,7 +114,7 @@ emptyPolicy = policyFor 1 [] [] []
 
 module _ (q : Policy) (w : Sound q) (t : List ℕ) (room : length (bodyOf q) ≤ length t) where
   version-one : q .version ≡ 1
-  version-one = known-version (q .version) (w .version)
+  version-one = known-version (q .version) (w .regular .version)
 
   p₁ : Policy
   p₁ = policyFor 1 (q .groups) [] []
@@ -121,11 +143,23 @@ module _ (q : Policy) (w : Sound q) (t : List ℕ) (room : length (bodyOf q) ≤
   in-constraints : (r : List ℕ) → List·Memᴰ r (q .constraints) → List·Memᴰ r (recordsOf q Constraints)
   in-constraints r m = rw (records-of-constraints q) m
 
+  groups-fresh : Fresh Groups emptyPolicy (q .groups)
+  unfolding Fresh
+  groups-fresh = w .twins
+
+  rules-fresh : Fresh Rules p₁ (q .rules)
+  unfolding Fresh
+  rules-fresh = tt
+
+  constraints-fresh : Fresh Constraints p₂ (q .constraints)
+  unfolding Fresh
+  constraints-fresh = tt
+
   groups-added : Section-added Groups emptyPolicy t (q .groups)
   groups-added =
-      add-section Groups emptyPolicy t 0 (q .groups) sound-empty (omega arith)
-      (λ r m. group-any (length (q .groups)) 0 r (w .formed Groups r (in-groups r m))) (λ r m. w .bytes Groups r (in-groups r m))
-      (omega (arith, w .few Groups, ap length (records-of-groups q), ap length (records-of-groups emptyPolicy))) (omega (arith, body-length))
+      add-section Groups emptyPolicy t 0 (q .groups) sound-empty groups-fresh (omega arith)
+      (λ r m. group-any (length (q .groups)) 0 r (w .regular .formed Groups r (in-groups r m))) (λ r m. w .regular .bytes Groups r (in-groups r m))
+      (omega (arith, w .regular .few Groups, ap length (records-of-groups q), ap length (records-of-groups emptyPolicy))) (omega (arith, body-length))
 
   groups-full : withAll Groups emptyPolicy (q .groups) ≡ p₁
   unfolding p₁
@@ -134,9 +168,9 @@ module _ (q : Policy) (w : Sound q) (t : List ℕ) (room : length (bodyOf q) ≤
   rules-added : Section-added Rules p₁ t₁ (q .rules)
   unfolding p₁ t₁
   rules-added =
-      add-section Rules p₁ t₁ (length (q .groups)) (q .rules) (subst Sound groups-full (groups-added .sound)) (omega arith)
-      (λ r m. w .formed Rules r (in-rules r m)) (λ r m. w .bytes Rules r (in-rules r m))
-      (omega (arith, w .few Rules, ap length (records-of-rules q), ap length (records-of-rules p₁))) (omega (arith, body-length, length-drop (length (flatten (q .groups))) t))
+      add-section Rules p₁ t₁ (length (q .groups)) (q .rules) (subst Sound groups-full (groups-added .sound)) rules-fresh (omega arith)
+      (λ r m. w .regular .formed Rules r (in-rules r m)) (λ r m. w .regular .bytes Rules r (in-rules r m))
+      (omega (arith, w .regular .few Rules, ap length (records-of-rules q), ap length (records-of-rules p₁))) (omega (arith, body-length, length-drop (length (flatten (q .groups))) t))
 
   rules-full : withAll Rules p₁ (q .rules) ≡ p₂
   unfolding p₁ p₂
@@ -145,9 +179,9 @@ module _ (q : Policy) (w : Sound q) (t : List ℕ) (room : length (bodyOf q) ≤
   constraints-added : Section-added Constraints p₂ t₂ (q .constraints)
   unfolding p₂ t₁ t₂
   constraints-added =
-      add-section Constraints p₂ t₂ (length (q .groups)) (q .constraints) (subst Sound rules-full (rules-added .sound)) (omega arith)
-      (λ r m. w .formed Constraints r (in-constraints r m)) (λ r m. w .bytes Constraints r (in-constraints r m))
-      (omega (arith, w .few Constraints, ap length (records-of-constraints q), ap length (records-of-constraints p₂)))
+      add-section Constraints p₂ t₂ (length (q .groups)) (q .constraints) (subst Sound rules-full (rules-added .sound)) constraints-fresh (omega arith)
+      (λ r m. w .regular .formed Constraints r (in-constraints r m)) (λ r m. w .regular .bytes Constraints r (in-constraints r m))
+      (omega (arith, w .regular .few Constraints, ap length (records-of-constraints q), ap length (records-of-constraints p₂)))
       (omega (arith, body-length, length-drop (length (flatten (q .groups))) t, length-drop (length (flatten (q .rules))) t₁))
 
   constraints-full : withAll Constraints p₂ (q .constraints) ≡ q

@@ -2,8 +2,9 @@
 --     sectionOf k          the section of a record's kind (of an unknown one, which 10 refuses first, the rules)
 --     fieldFault o         11, for a bad field
 --     withRecord s p r     the policy p with the record r at the end of a section
---     addFault b r         refusals 1 to 7, then 10 to 13
---     ownFault b r         10 to 13: the causes of the call's own
+--     addedTwin s p r      the record r, of a section, would be a twin: a group that p has (document 02 [7])
+--     addFault b r         refusals 1 to 7 and 19, then 10, 11, 20, 12 and 13
+--     ownFault b r         10, 11, 20, 12 and 13: the causes of the call's own
 --     newNumber b r        the number that the record gets: the count of its section before
 --     newImage b r         the image with the record
 --     overwrite new b      the buffer b with other bytes at its front; those past them stay
@@ -12,7 +13,7 @@
 --     Adds b r a after     what a call answers and leaves
 use Prim.Native.Nat.{ℕ, _+_}
 use mathlib.Core.Path.{_≡_}
-use mathlib.Core.Bool.{cond}
+use mathlib.Core.Bool.{Bool, false, not, cond}
 use mathlib.Core.Option.{Option, none, some}
 use mathlib.Core.List.{List, [], _∷_, _++_}
 use lib.ListN.{length, getD, drop}
@@ -24,6 +25,7 @@ use Rattle.format.specs.Bytes.{wordAt}
 use Rattle.format.specs.Refusals.{refusal, need, _orElse_, unlessRefused}
 use Rattle.format.specs.Format.{limitOf, countOf, shapeOk, badField}
 use Rattle.format.specs.Policy.{Policy, imageOf, policyOf}
+use Rattle.format.specs.Twins.{listed}
 use Rattle.format.specs.Check.{imageIn, checkFront}
 use Rattle.format.specs.Answers.{Outcome, refused, gives, outcome}
 use Rattle.extension.specs.declared.Added.{Added}
@@ -48,10 +50,16 @@ fieldFault (some i) = some (refusal 11 i)
 unfoldable pub newNumber : List ℕ → List ℕ → ℕ
 newNumber b r = countOf b (sectionOf (getD r 1 0))
 
+unfoldable pub addedTwin : Section → Policy → List ℕ → Bool
+addedTwin Groups p r = listed r (p .groups)
+addedTwin Rules p r = false
+addedTwin Constraints p r = false
+
 unfoldable pub ownFault : List ℕ → List ℕ → Option Refusal
 ownFault b r =
     need (shapeOk r) (refusal 10 0)
     orElse fieldFault (badField (countOf b Groups) r)
+    orElse need (not (addedTwin (sectionOf (getD r 1 0)) (policyOf (imageIn b)) r)) (refusal 20 0)
     orElse need (ltb (newNumber b r) (limitOf (sectionOf (getD r 1 0)))) (refusal 12 0)
     orElse need (leb (wordAt b 1 + length r) (length b)) (refusal 13 0)
 

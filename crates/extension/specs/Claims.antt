@@ -7,16 +7,19 @@
 --     GroupsKept        groups have their old numbers
 --     RestStays         the bytes past the new image stay, and the buffer is as long as it was
 --     RefusedUnchanged  a refused add changes no byte
+--     TwinRefused       a record that is one of the policy's groups is refused with 20 and the place 0, full sections and short
+--                       buffers or not; and no other record is (document 02 [7])
 --     RoundTrip         adding an accepted policy's records in order to the empty policy, in a buffer that holds it,
 --                       gives it byte for byte, and the bytes past it stay
 --     RoundTripExact    a buffer that has just the space is enough
 use Prim.Native.Nat.{ℕ, _≤_, _<_}
 use mathlib.Core.Path.{_≡_}
 use mathlib.Core.Option.{none, some}
-use mathlib.Core.List.{List, [], _∷_, _++_}
+use mathlib.Core.List.{List, [], _∷_, _++_, List·Memᴰ}
 use lib.ListN.{length, getD, drop}
 use Rattle.format.specs.declared.Refusal.{Refusal}
 use Rattle.format.specs.Bytes.{Bytes}
+use Rattle.format.specs.Refusals.{refusal}
 use Rattle.format.specs.Policy.{Policy, recordsOf, policyOf}
 use Rattle.format.specs.Check.{Accepted, imageIn, checkFront}
 use Rattle.format.specs.Sample.{empty}
@@ -54,6 +57,13 @@ RestStays =
 
 abbrev pub RefusedUnchanged : Type 0
 RefusedUnchanged = (b r : List ℕ) (f : Refusal) → addFault b r ≡ some f → bufferAfter b r ≡ b
+
+pub record TwinRefused : Type 0 where
+  pub refused :
+      (b r : List ℕ) → checkFront b ≡ none → List·Memᴰ r (policyOf (imageIn b) .groups) → addFault b r ≡ some (refusal 20 0)
+  pub only :
+      (b r : List ℕ) (f : Refusal) → addFault b r ≡ some f → f .number ≡ 20
+      → (f .place ≡ 0) × List·Memᴰ r (policyOf (imageIn b) .groups)
 
 abbrev pub RoundTrip : Type 0
 RoundTrip =

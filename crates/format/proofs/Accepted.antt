@@ -1,10 +1,12 @@
 -- What acceptance says of an image, for the layers above, which never open the check. Assumes nothing.
 --     Header l            the header of an accepted image
 --     header-holds, holds-header   no refusal from 1 to 4, and its parts
---     accepted-header     the header holds
---     accepted-end        the last record ends where the image does
---     record-formed       each record of a section is formed
---     record-stands       and lies in the image, at its place
+--     laid-header, laid-length, laid-body, laid-end, laid-formed, laid-stands   of an image that passes 1 to 7: the header
+--                         holds, with the length field; the last record ends where the image does; each record of a section
+--                         is formed, and lies in the image, at its place
+--     accepted-laid, accepted-twins, laid-accepted, accepted-means   accepted is that and no twins: claim AcceptedMeans
+--     accepted-header, accepted-length, accepted-body, accepted-end, record-formed, record-stands   the same of an accepted one
+--     twins-none, none-twins, twin-fault-some, rest-is, check-split   the twins' refusal, and where it stands
 --     place-first, place-next   the first record's place, and the next
 --     start-least   no section starts before 9
 --     policy-rules, policy-constraints   the records of an image's policy
@@ -14,7 +16,7 @@
 use Prim.Native.Nat.{ℕ, zero, suc, _+_, _≤_, _<_}
 use mathlib.Core.Path.{_≡_, refl, sym, ap, ap₂, _∙_}
 use mathlib.Core.Bool.{Bool, true, _&&_}
-use mathlib.Core.Option.{none, some}
+use mathlib.Core.Option.{Option, none, some}
 use mathlib.Core.List.{List, [], _∷_}
 use native.Mathlib.Omega.{arith}
 use native.Mathlib.Nat.{add-zero}
@@ -26,14 +28,15 @@ use Rattle.format.specs.declared.Section.{Section}
 use Rattle.format.specs.declared.Section.the-variants.{Groups, Rules, Constraints}
 use Rattle.format.specs.declared.Refusal.{Refusal}
 use Rattle.format.specs.Bytes.{wordAt}
-use Rattle.format.specs.Refusals.{refusal, need, unlessRefused}
+use Rattle.format.specs.Refusals.{refusal, need, _orElse_, unlessRefused}
 use Rattle.format.specs.Format.{knownVersion, limitOf, countOf}
 use Rattle.format.specs.Policy.{policyOf, recordsOf, recordAt, recordsAt, placeAfter, startOf, placeOf, endOf}
-use Rattle.format.specs.Check.{sectionFault, countFault, headerFault, bodyFault, check, Accepted}
+use Rattle.format.specs.Twins.{firstTwin, twinAt, twinFault, NoTwins}
+use Rattle.format.specs.Check.{sectionFault, countFault, headerFault, bodyFault, layoutFault, LaidOut, restFault, check, Accepted}
 use Rattle.format.specs.Give.{giveFault, givenRecord}
-use Rattle.format.specs.Claims.{GivenAt, RecordsGiven, givenFrom, AllGiven, NoneGiven, EmptyTells}
+use Rattle.format.specs.Claims.{AcceptedMeans, GivenAt, RecordsGiven, givenFrom, AllGiven, NoneGiven, EmptyTells}
 use Rattle.format.proofs.Tests.{both, and-true}
-use Rattle.format.proofs.Chain.{orElse-split, orElse-none, orElse-next, orElse-first, need-true, need-none, need-some}
+use Rattle.format.proofs.Chain.{some-not-none, orElse-split, orElse-none, orElse-next, orElse-first, need-true, need-none, need-some}
 use Rattle.format.specs.Inner.Places.{Stands}
 use Rattle.format.proofs.Shapes.{Formed, stands, record-part}
 use Rattle.format.proofs.Records.{place-snoc, place-least, records-length, records-nth, section-formed, section-rest}
@@ -78,17 +81,78 @@ holds-header fits l h =
     few : (s : Section) → countFault l s ≡ none
     few s = need-none _ (le-leb (countOf l s) (limitOf s) (h .few s))
 
+module _ (l : List ℕ) (e : LaidOut l) where
+  pub laid-header : Header eqb l
+  unfolding layoutFault
+  laid-header = header-holds eqb l (orElse-split (headerFault eqb l) (bodyFault l) e .0)
+
+  pub laid-length : wordAt l 1 ≡ length l
+  laid-length = eqb-true (wordAt l 1) (length l) (laid-header .fit)
+
+  pub laid-body : bodyFault l ≡ none
+  unfolding layoutFault
+  laid-body = orElse-split (headerFault eqb l) (bodyFault l) e .1
+
+twin-at-none : (l : List ℕ) (o : Option ℕ) → twinAt l o ≡ none → o ≡ none
+unfolding twinAt
+twin-at-none l none e = refl
+twin-at-none l (some n) e = some-not-none e
+
+pub twins-none : (l : List ℕ) → twinFault l ≡ none → NoTwins (policyOf l .groups)
+unfolding twinFault
+twins-none l e = twin-at-none l _ e
+
+pub none-twins : (l : List ℕ) → NoTwins (policyOf l .groups) → twinFault l ≡ none
+unfolding twinFault twinAt
+none-twins l e = rw e
+
+pub twin-fault-some : (l : List ℕ) (n : ℕ) → firstTwin [] 0 (policyOf l .groups) ≡ some n → twinFault l ≡ some (refusal 19 (placeOf l Groups n))
+unfolding twinFault twinAt
+twin-fault-some l n e = rw e
+
+pub rest-is : (l : List ℕ) → restFault l ≡ bodyFault l orElse twinFault l
+unfolding restFault
+rest-is l = refl
+
+-- 1 to 7, and then 19
+pub check-split : (l : List ℕ) → check l ≡ layoutFault l orElse twinFault l
+unfolding check restFault layoutFault _orElse_
+check-split l = go (headerFault eqb l)
+  where
+    go : (o : Option Refusal) → o orElse restFault l ≡ (o orElse bodyFault l) orElse twinFault l
+    go none = refl
+    go (some f) = refl
+
 module _ (l : List ℕ) (e : Accepted l) where
-  pub accepted-header : Header eqb l
+  pub accepted-rest : restFault l ≡ none
   unfolding check
-  accepted-header = header-holds eqb l (orElse-split (headerFault eqb l) (bodyFault l) e .0)
+  accepted-rest = orElse-split (headerFault eqb l) (restFault l) e .1
+
+  pub accepted-laid : LaidOut l
+  unfolding check restFault layoutFault
+  accepted-laid = orElse-none (orElse-split (headerFault eqb l) (restFault l) e .0) (orElse-split (bodyFault l) (twinFault l) accepted-rest .0)
+
+  pub accepted-twins : NoTwins (policyOf l .groups)
+  unfolding restFault
+  accepted-twins = twins-none l (orElse-split (bodyFault l) (twinFault l) accepted-rest .1)
+
+  pub accepted-header : Header eqb l
+  accepted-header = laid-header l accepted-laid
 
   pub accepted-length : wordAt l 1 ≡ length l
-  accepted-length = eqb-true (wordAt l 1) (length l) (accepted-header .fit)
+  accepted-length = laid-length l accepted-laid
 
   pub accepted-body : bodyFault l ≡ none
-  unfolding check
-  accepted-body = orElse-split (headerFault eqb l) (bodyFault l) e .1
+  accepted-body = laid-body l accepted-laid
+
+pub laid-accepted : (l : List ℕ) → LaidOut l → NoTwins (policyOf l .groups) → Accepted l
+unfolding check restFault layoutFault
+laid-accepted l e n =
+    let q = orElse-split (headerFault eqb l) (bodyFault l) e in
+    orElse-none (q .0) (orElse-none (q .1) (none-twins l n))
+
+pub accepted-means : AcceptedMeans
+accepted-means l = (λ e. (accepted-laid l e, accepted-twins l e), laid-accepted l)
 
 pub section-inside : (l : List ℕ) (s : Section) (at n : ℕ) → at ≤ length l → sectionFault l s at n ≡ none → placeAfter l at n ≤ length l
 unfolding placeAfter
@@ -132,17 +196,28 @@ module _ (l : List ℕ) (e : bodyFault l ≡ none) where
       let k = section-inside l Constraints (startOf l Constraints) (countOf l Constraints) (start-inside h Constraints) (body-sections Constraints) in
       omega (arith, body-end)
 
+module _ (l : List ℕ) (e : LaidOut l) where
+  pub laid-end : endOf l ≡ length l
+  laid-end = body-ends l (laid-body l e) (laid-header l e .long)
+
+  module _ (s : Section) (n : ℕ) (h : n < countOf l s) where
+    pub laid-formed : Formed s (countOf l Groups) (recordAt l (placeOf l s n))
+    unfolding placeOf
+    laid-formed = section-formed l s (startOf l s) (countOf l s) n h (body-sections l (laid-body l e) s)
+
+    pub laid-stands : Stands l (placeOf l s n) (recordAt l (placeOf l s n))
+    laid-stands = stands l (placeOf l s n) (laid-formed .shape)
+
 module _ (l : List ℕ) (e : Accepted l) where
   pub accepted-end : endOf l ≡ length l
-  accepted-end = body-ends l (accepted-body l e) (accepted-header l e .long)
+  accepted-end = laid-end l (accepted-laid l e)
 
   module _ (s : Section) (n : ℕ) (h : n < countOf l s) where
     pub record-formed : Formed s (countOf l Groups) (recordAt l (placeOf l s n))
-    unfolding placeOf
-    record-formed = section-formed l s (startOf l s) (countOf l s) n h (body-sections l (accepted-body l e) s)
+    record-formed = laid-formed l (accepted-laid l e) s n h
 
     pub record-stands : Stands l (placeOf l s n) (recordAt l (placeOf l s n))
-    record-stands = stands l (placeOf l s n) (record-formed .shape)
+    record-stands = laid-stands l (accepted-laid l e) s n h
 
 pub start-least : (l : List ℕ) (s : Section) → 9 ≤ startOf l s
 unfolding startOf
@@ -152,6 +227,10 @@ start-least l Constraints =
     let a = place-least l 9 (countOf l Groups) in
     let b = place-least l (startOf l Rules) (countOf l Rules) in
     omega arith
+
+pub start-groups : (l : List ℕ) → startOf l Groups ≡ 9
+unfolding startOf
+start-groups l = refl
 
 pub place-first : (l : List ℕ) (s : Section) → placeOf l s 0 ≡ startOf l s
 unfolding placeOf placeAfter

@@ -1,6 +1,6 @@
 -- Laws of byte lists and of the words in them. Assumes nothing.
 use Prim.Native.Nat.{ℕ, zero, suc, _+_, _*_, _/_, _%_, _≤_, _<_}
-use mathlib.Core.Path.{_≡_, refl, ap, _∙_}
+use mathlib.Core.Path.{_≡_, refl, ap, ap₂, _∙_}
 use mathlib.Core.List.{List, [], _∷_, _++_, flatten, List·Memᴰ, List·Memᴰ·head, List·Memᴰ·tail}
 use mathlib.Core.Bool.{Bool, true, _&&_}
 use native.Mathlib.Omega.{arith}
@@ -9,7 +9,7 @@ use lib.ListN.{length, getD, take, drop, length-drop, List·getD-append}
 use lib.Seq.{getD-take, getD-drop, drop-cons}
 use lib.Dec.{ltb}
 use borrow.Author.Tests.{ltb-true}
-use Rattle.format.specs.Bytes.{Bytes, wordAt, words, putWord}
+use Rattle.format.specs.Bytes.{Bytes, wordAt, words, putWord, putWords}
 use Rattle.format.proofs.Tests.{both}
 
 pub bytes-nil : Bytes []
@@ -126,3 +126,29 @@ words-nth l at (suc i) h =
     let e : words (drop at l) ≡ wordAt l at ∷ words (drop (at + 2) l) = words-next l at k in
     let z : at + 2 + 2 * i ≡ at + 2 * suc i = omega arith in
     rw e (words-nth l (at + 2) i (omega (arith, ap length e)) ∙ ap (wordAt l) z)
+
+-- ---- words put
+
+pub words-put : (ns : List ℕ) → words (putWords ns) ≡ ns
+unfolding words putWords putWord
+words-put [] = refl
+words-put (n ∷ ns) = ap₂ _∷_ (word-back n) (words-put ns)
+
+pub length-put : (ns : List ℕ) → length (putWords ns) ≡ 2 * length ns
+unfolding putWords putWord
+length-put [] = refl
+length-put (n ∷ ns) = omega (arith, length-put ns)
+
+pub bytes-put : (ns : List ℕ) → ((n : ℕ) → List·Memᴰ n ns → n < 65536) → Bytes (putWords ns)
+unfolding putWords
+bytes-put [] h = bytes-nil
+bytes-put (n ∷ ns) h = bytes-word n _ (h n (List·Memᴰ·head refl)) (bytes-put ns (λ u m. h u (List·Memᴰ·tail m)))
+
+-- a list of bytes of even length is put back from its words
+pub put-words : (l : List ℕ) (n : ℕ) → length l ≡ 2 * n → Bytes l → putWords (words l) ≡ l
+unfolding words putWords wordAt
+put-words [] n e b = refl
+put-words (x ∷ []) n e b = absurd (omega arith)
+put-words (x ∷ y ∷ l) zero e b = absurd (omega arith)
+put-words (x ∷ y ∷ l) (suc n) e b =
+    ap (putWord (x * 256 + y)) (put-words l n (omega arith) (bytes-drop 2 (x ∷ y ∷ l) b)) ∙ word-bytes (x ∷ y ∷ l) b 0 l

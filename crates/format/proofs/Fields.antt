@@ -6,6 +6,7 @@
 --     record-rule, record-constraint    IsRecord, of a rule and of a constraint
 --     field-inside              a bad field lies within its record
 --     formed-more               a record stays one where there are more groups
+--     group-record, constraint-record   a group's record and a constraint's, from their parts
 use Prim.Native.Nat.{ℕ, zero, suc, _+_, _-_, _*_, _/_, _%_, _≤_, _<_}
 use mathlib.Core.Path.{_≡_, refl, sym, ap, _∙_}
 use mathlib.Core.Logic.{_⊎_, inl, inr}
@@ -445,3 +446,14 @@ formed-more g g′ r s h f = is-formed g′ r s (record-more g g′ r h s (forme
 pub group-any : (g g′ : ℕ) (r : List ℕ) → Formed Groups g r → Formed Groups g′ r
 unfolding IsRecord
 group-any g g′ r f = is-formed g′ r Groups (formed-is g r Groups f)
+
+-- ---- a record from its parts
+
+module _ (g : ℕ) (r : List ℕ) where
+  pub group-record : (n : ℕ) × IsGroup r n → IsRecord Groups g r
+  unfolding IsRecord
+  group-record f = f
+
+  pub constraint-record : (n : ℕ) × IsConstraint g r n → IsRecord Constraints g r
+  unfolding IsRecord
+  constraint-record f = f

@@ -23,11 +23,11 @@ use Rattle.format.specs.declared.Refusal.{Refusal}
 use Rattle.format.specs.Bytes.{Bytes, wordAt}
 use Rattle.format.specs.Refusals.{need, _orElse_}
 use Rattle.format.specs.Format.{knownVersion, countPlace, countOf}
-use Rattle.format.specs.Check.{countFault, headerFault, bodyFault, check, imageIn, checkFront, leading, Accepted}
+use Rattle.format.specs.Check.{countFault, headerFault, restFault, check, imageIn, checkFront, leading, Accepted}
 use Rattle.format.proofs.Tests.{both, and-true, true-not-false}
 use Rattle.format.proofs.Chain.{orElse-split, orElse-none}
 use Rattle.format.proofs.Bytes.{bytes-take, word-take}
-use Rattle.format.proofs.Accepted.{Header, header-holds, holds-header, accepted-header, accepted-length, accepted-body}
+use Rattle.format.proofs.Accepted.{Header, header-holds, holds-header, accepted-header, accepted-length, accepted-rest}
 
 -- two lists with the same header
 module _ (l b : List ℕ) (same : (i : ℕ) → i < 9 → getD l i 0 ≡ getD b i 0) where
@@ -58,7 +58,7 @@ image-in-is b = refl
 module _ (b : List ℕ) (e : checkFront b ≡ none) where
   pub front-header : Header leb b
   unfolding checkFront
-  front-header = header-holds leb b (orElse-split (headerFault leb b) (bodyFault (imageIn b)) e .0)
+  front-header = header-holds leb b (orElse-split (headerFault leb b) (restFault (imageIn b)) e .0)
 
   pub front-fits : wordAt b 1 ≤ length b
   front-fits = leb-true (wordAt b 1) (length b) (front-header .fit)
@@ -81,7 +81,7 @@ module _ (b : List ℕ) (e : checkFront b ≡ none) where
       (holds-header eqb (imageIn b)
       (header-same (imageIn b) b front-same leb eqb front-header (rw front-length (front-header .least))
       (eq-eqb (wordAt b 1) (length (imageIn b)) (sym front-length))))
-      (orElse-split (headerFault leb b) (bodyFault (imageIn b)) e .1)
+      (orElse-split (headerFault leb b) (restFault (imageIn b)) e .1)
 
   pub front-split : b ≡ imageIn b ++ drop (wordAt b 1) b
   unfolding imageIn
@@ -114,7 +114,7 @@ module _ (l t : List ℕ) (e : Accepted l) where
       (holds-header leb (l ++ t)
       (header-same (l ++ t) l of-same eqb leb (accepted-header l e) (omega arith)
       (le-leb (wordAt l 1) (length (l ++ t)) (omega (arith, accepted-length l e)))))
-      (rw image-in-of (accepted-body l e))
+      (rw image-in-of (accepted-rest l e))
 
 -- ---- the leading bytes
 
@@ -150,7 +150,7 @@ leading-same b e =
     let w = leb-true 9 (wordAt b 1) (y .1) in
     let f = leb-true (wordAt b 1) (length b) (x .1) in
     let n : length (take (wordAt b 1) b) ≡ wordAt b 1 = length-take-le (wordAt b 1) b f in
-    ap (λ (h : Option Refusal). h orElse bodyFault (take (wordAt b 1) b))
+    ap (λ (h : Option Refusal). h orElse restFault (take (wordAt b 1) b))
     (header-cong eqb leb (take (wordAt b 1) b) b (λ i h. getD-take (wordAt b 1) b i 0 (omega arith))
     (le-leb 9 (length (take (wordAt b 1) b)) (omega arith) ∙ sym (y .0))
     (eq-eqb (wordAt b 1) (length (take (wordAt b 1) b)) (sym n) ∙ sym (x .1)))

@@ -1,9 +1,10 @@
--- Images and policies are each other's inverses: claims AcceptedIsWellFormed, WellFormedIsAccepted.
--- Assumes nothing.
---     Sound p                a policy that passes the check's tests: one that is well formed, and no other
---     image-of-policy        an accepted image is the image of its policy
---     policy-of-image        the policy of a sound policy's image is that policy
---     image-accepted         and that image is accepted
+-- Images and policies are each other's inverses: claims AcceptedIsWellFormed, WellFormedIsAccepted, LaidOutIsWellFormed,
+-- WellFormedIsLaidOut. Assumes nothing.
+--     Regular p              a policy that passes 1 to 7: one that is well formed, and no other
+--     Sound p                a policy that passes the check: that, and no twins
+--     laid-is-policy         an image that passes 1 to 7 is the image of its policy; image-of-policy, of an accepted one
+--     policy-of-image        the policy of a regular policy's image is that policy
+--     image-laid             and that image passes 1 to 7; image-accepted, where the policy is sound
 --     policy-formed          each record of an accepted image's policy is formed
 use Prim.Native.Nat.{ℕ, suc, _+_, _≤_, _<_}
 use mathlib.Core.Path.{_≡_, refl, sym, subst, ap, _∙_}
@@ -20,27 +21,33 @@ use Rattle.format.specs.declared.Section.the-variants.{Groups, Rules, Co
 use Rattle.format.specs.Bytes.{Bytes, wordAt, putWord}
 use Rattle.format.specs.Format.{knownVersion, limitOf, countPlace, countOf, firstRecord}
 use Rattle.format.specs.Policy.{Policy, recordsOf, bodyOf, imageOf, recordAt, recordsAt, placeAfter, startOf, placeOf, endOf, policyOf}
-use Rattle.format.specs.Check.{sectionFault, headerFault, bodyFault, check, Accepted}
-use Rattle.format.specs.Claims.{WellFormed, AcceptedIsWellFormed, WellFormedIsAccepted}
+use Rattle.format.specs.Twins.{NoTwins}
+use Rattle.format.specs.Check.{sectionFault, headerFault, bodyFault, layoutFault, LaidOut, Accepted}
+use Rattle.format.specs.Claims.{WellFormed, AcceptedIsWellFormed, WellFormedIsAccepted, LaidOutIsWellFormed, WellFormedIsLaidOut}
 use Rattle.format.proofs.Chain.{orElse-none, need-none}
 use Rattle.format.proofs.Bytes.{bytes-cons, bytes-append, bytes-drop, bytes-take, bytes-flatten, bytes-word, word-bytes, word-back}
 use Rattle.format.proofs.Shapes.{Formed}
 use Rattle.format.proofs.Records.{records-mem, records-flatten, Runs, runs-records, runs-place, runs-fault, runs-flatten, Shaped}
 use Rattle.format.proofs.Fields.{formed-is, is-formed}
-use Rattle.format.proofs.Reach.{longest-image}
-use Rattle.format.proofs.Accepted.{holds-header, accepted-header, accepted-length, accepted-end, record-formed, records-count, policy-records}
+use Rattle.format.proofs.Reach.{laid-longest}
+use Rattle.format.proofs.Accepted.{holds-header, laid-header, laid-length, laid-end, laid-formed, accepted-laid, accepted-twins, laid-accepted, records-count, policy-records}
 
--- a policy that passes the check's tests
-pub record Sound (p : Policy) : Type 0 where
+-- a policy that passes 1 to 7
+pub record Regular (p : Policy) : Type 0 where
   pub version : knownVersion (p .version) ≡ true
   pub few : (s : Section) → length (recordsOf p s) ≤ limitOf s
   pub formed : (s : Section) (r : List ℕ) → List·Memᴰ r (recordsOf p s) → Formed s (length (p .groups)) r
   pub bytes : (s : Section) (r : List ℕ) → List·Memᴰ r (recordsOf p s) → Bytes r
 
+-- and has no twins
+pub record Sound (p : Policy) : Type 0 where
+  pub regular : Regular p
+  pub twins : NoTwins (p .groups)
+
 module _ (p : Policy) where
-  pub sound-well-formed : Sound p → WellFormed p
+  pub regular-well-formed : Regular p → WellFormed p
   unfolding knownVersion recordsOf limitOf
-  sound-well-formed w =
+  regular-well-formed w =
       record {
         version = eqb-true (p .version) 1 (w .version);
         few-groups = w .few Groups;
@@ -56,9 +63,9 @@ module _ (p : Policy) where
   few w Rules = w .few-rules
   few w Constraints = w .few-constraints
 
-  pub well-formed-sound : WellFormed p → Sound p
+  pub well-formed-regular : WellFormed p → Regular p
   unfolding knownVersion
-  well-formed-sound w =
+  well-formed-regular w =
       record {
         version = eq-eqb (p .version) 1 (w .version);
         few = few w;
@@ -66,13 +73,13 @@ module _ (p : Policy) where
         bytes = w .bytes;
       }
 
--- ---- from an accepted image to its policy
+-- ---- from an image to its policy
 
-ends : (l : List ℕ) → Accepted l → placeAfter l (placeAfter l (placeAfter l 9 (countOf l Groups)) (countOf l Rules)) (countOf l Constraints) ≡ length l
+ends : (l : List ℕ) → LaidOut l → placeAfter l (placeAfter l (placeAfter l 9 (countOf l Groups)) (countOf l Rules)) (countOf l Constraints) ≡ length l
 unfolding endOf placeOf startOf
-ends l e = accepted-end l e
+ends l e = laid-end l e
 
-body-of-policy : (l : List ℕ) → Accepted l → bodyOf (policyOf l) ≡ drop 9 l
+body-of-policy : (l : List ℕ) → LaidOut l → bodyOf (policyOf l) ≡ drop 9 l
 unfolding bodyOf policyOf startOf
 body-of-policy l e =
     let a : ℕ = placeAfter l 9 (countOf l Groups) in
@@ -112,13 +119,13 @@ module _ (l : List ℕ) where
   unfolding policyOf
   policy-version = refl
 
--- an accepted image is the image of its policy
-pub image-of-policy : (l : List ℕ) → Bytes l → Accepted l → imageOf (policyOf l) ≡ l
+-- an image that passes 1 to 7 is the image of its policy
+pub laid-is-policy : (l : List ℕ) → Bytes l → LaidOut l → imageOf (policyOf l) ≡ l
 unfolding imageOf
-image-of-policy l b e = counts ∙ header ∙ sym (nine l (accepted-header l e .long))
+laid-is-policy l b e = counts ∙ header ∙ sym (nine l (laid-header l e .long))
   where
     total : 9 + length (drop 9 l) ≡ wordAt l 1
-    total = rw (accepted-length l e, length-drop 9 l) (omega (arith, accepted-header l e .long))
+    total = rw (laid-length l e, length-drop 9 l) (omega (arith, laid-header l e .long))
 
     counts : imageOf (policyOf l) ≡ getD l 0 0 ∷ putWord (wordAt l 1) (putWord (wordAt l 3) (putWord (wordAt l 5) (putWord (wordAt l 7) (drop 9 l))))
     counts = rw (body-of-policy l e, total, groups-count l, rules-count l, constraints-count l, policy-version l)
@@ -136,26 +143,41 @@ record-bytes : (l : List ℕ) (at : ℕ) → Bytes l → Bytes (recordAt l at)
 unfolding recordAt firstRecord
 record-bytes l at b = bytes-take (getD (drop at l) 0 0) (drop at l) (bytes-drop at l b)
 
-pub policy-formed : (l : List ℕ) → Accepted l → (s : Section) (r : List ℕ) → List·Memᴰ r (recordsOf (policyOf l) s) → Formed s (countOf l Groups) r
-policy-formed l e s r m =
+pub laid-records : (l : List ℕ) → LaidOut l → (s : Section) (r : List ℕ) → List·Memᴰ r (recordsOf (policyOf l) s) → Formed s (countOf l Groups) r
+laid-records l e s r m =
     let q = policy-record l s r m in
-    subst (Formed s (countOf l Groups)) (sym (q .2)) (record-formed l e s (q .0) (q .1))
+    subst (Formed s (countOf l Groups)) (sym (q .2)) (laid-formed l e s (q .0) (q .1))
 
 pub group-count : (l : List ℕ) → length (policyOf l .groups) ≡ countOf l Groups
 unfolding recordsOf
 group-count l = records-count l Groups
 
-pub policy-sound : (l : List ℕ) → Bytes l → Accepted l → Sound (policyOf l)
-policy-sound l b e =
+pub laid-regular : (l : List ℕ) → Bytes l → LaidOut l → Regular (policyOf l)
+laid-regular l b e =
     record {
-      version = rw (policy-version l) (accepted-header l e .version);
-      few = λ s. rw (records-count l s) (accepted-header l e .few s);
-      formed = λ s r m. rw (group-count l) (policy-formed l e s r m);
+      version = rw (policy-version l) (laid-header l e .version);
+      few = λ s. rw (records-count l s) (laid-header l e .few s);
+      formed = λ s r m. rw (group-count l) (laid-records l e s r m);
       bytes = λ s r m. let q = policy-record l s r m in subst Bytes (sym (q .2)) (record-bytes l (placeOf l s (q .0)) b);
     }
 
+pub laid-is-well-formed : LaidOutIsWellFormed
+laid-is-well-formed l b e = (regular-well-formed (policyOf l) (laid-regular l b e), laid-is-policy l b e)
+
+-- ---- of an accepted one
+
+pub image-of-policy : (l : List ℕ) → Bytes l → Accepted l → imageOf (policyOf l) ≡ l
+image-of-policy l b e = laid-is-policy l b (accepted-laid l e)
+
+pub policy-formed :
+    (l : List ℕ) → Accepted l → (s : Section) (r : List ℕ) → List·Memᴰ r (recordsOf (policyOf l) s) → Formed s (countOf l Groups) r
+policy-formed l e s r m = laid-records l (accepted-laid l e) s r m
+
+pub policy-sound : (l : List ℕ) → Bytes l → Accepted l → Sound (policyOf l)
+policy-sound l b e = record { regular = laid-regular l b (accepted-laid l e); twins = accepted-twins l e }
+
 pub accepted-is-well-formed : AcceptedIsWellFormed
-accepted-is-well-formed l b e = (sound-well-formed (policyOf l) (policy-sound l b e), image-of-policy l b e)
+accepted-is-well-formed l b e = let q = laid-is-well-formed l b (accepted-laid l e) in (q .0, q .1, accepted-twins l e)
 
 -- ---- from a policy to its image
 
@@ -190,7 +212,7 @@ module _ (p : Policy) where
   image-count Rules = word-back _
   image-count Constraints = word-back _
 
-module _ (p : Policy) (w : Sound p) where
+module _ (p : Policy) (w : Regular p) where
   shaped : (s : Section) → Shaped (recordsOf p s)
   shaped s r m = w .formed s r m .shape
 
@@ -286,9 +308,9 @@ module _ (p : Policy) (w : Sound p) where
       (orElse-none (image-section Constraints)
       (need-none _ (le-leb (length (imageOf p)) (endOf (imageOf p)) (rw image-end (omega arith))))))
 
-  pub image-accepted : Accepted (imageOf p)
-  unfolding check
-  image-accepted = orElse-none header-passes body-passes
+  pub image-laid : LaidOut (imageOf p)
+  unfolding layoutFault
+  image-laid = orElse-none header-passes body-passes
 
   body-bytes : Bytes (bodyOf p)
   unfolding bodyOf recordsOf
@@ -304,7 +326,7 @@ module _ (p : Policy) (w : Sound p) where
       let y = w .few Rules in
       let z = w .few Constraints in
       let v = eqb-true (p .version) 1 (w .version) in
-      let m = longest-image (imageOf p) image-accepted in
+      let m = laid-longest (imageOf p) image-laid in
       let n = image-length p in
       let l₁ : List ℕ = putWord (length (p .constraints)) (bodyOf p) in
       let l₂ : List ℕ = putWord (length (p .rules)) l₁ in
@@ -315,5 +337,13 @@ module _ (p : Policy) (w : Sound p) where
       (bytes-word (length (p .rules)) l₁ (omega arith)
       (bytes-word (length (p .constraints)) (bodyOf p) (omega arith) body-bytes))))
 
+pub image-accepted : (p : Policy) → Sound p → Accepted (imageOf p)
+image-accepted p w =
+    laid-accepted (imageOf p) (image-laid p (w .regular)) (rw (policy-of-image p (w .regular)) (w .twins))
+
+pub well-formed-is-laid : WellFormedIsLaidOut
+well-formed-is-laid p w = let h = well-formed-regular p w in (image-bytes p h, image-laid p h, policy-of-image p h)
+
 pub well-formed-is-accepted : WellFormedIsAccepted
-well-formed-is-accepted p w = let h = well-formed-sound p w in (image-bytes p h, image-accepted p h, policy-of-image p h)
+well-formed-is-accepted p w n =
+    let q = well-formed-is-laid p w in (q .0, image-accepted p (record { regular = well-formed-regular p w; twins = n }), q .2)

@@ -4,11 +4,14 @@ pub mod Bytes
 pub mod ByCase
 pub mod Shapes
 pub mod Records
+pub mod Twins
 pub mod Accepted
 pub mod Reach
 pub mod Stops
 pub mod Front
+pub mod Misfit
 pub mod Fields
+pub mod Members
 pub mod Images
 pub mod Written
 pub mod References

@@ -2,13 +2,13 @@
 --     group-length, rule-length, constraint-length   how long its records are
 --     longest-full       each section has as many records as it may
 --     longest-sound      the policy `longest` passes the check's tests
-use Prim.Native.Nat.{ℕ, zero, suc, _+_, _*_, _≤_, _<_}
+use Prim.Native.Nat.{ℕ, zero, suc, _+_, _-_, _*_, _≤_, _<_}
 use mathlib.Core.Path.{_≡_, refl, sym, subst, ap, _∙_}
 use mathlib.Core.Logic.{⊎-elim}
 use mathlib.Core.Bool.{true}
 use mathlib.Core.List.{List, [], _∷_, _++_, flatten, List·Memᴰ, List·Memᴰ·not-nil, List·Memᴰ·cases-cons}
 use native.Mathlib.Omega.{arith}
-use lib.ListN.{length, replicate, length-append, length-replicate}
+use lib.ListN.{length, getD, replicate, length-append, length-replicate}
 use borrow.Author.Tests.{le-leb, lt-ltb}
 use Rattle.format.specs.declared.Section.{Section}
 use Rattle.format.specs.declared.Section.the-variants.{Groups, Rules, Constraints}
@@ -16,10 +16,12 @@ use Rattle.format.specs.Bytes.{Bytes, wordAt, words, putWord}
 use Rattle.format.specs.Refusals.{need, _orElse_}
 use Rattle.format.specs.Format.{knownVersion, limitOf, kindIn, lengthOk, isType, isCondition, listOk, shapeOk, badMember, badType, badGroup, badAllow, badConstraint, badField}
 use Rattle.format.specs.Policy.{recordsOf, bodyOf}
+use Rattle.format.specs.Twins.{Apart}
 use Rattle.format.specs.Longest.{countUp, longGroup, longGroups, longRule, longConstraint, longest, LongestReached}
 use Rattle.format.proofs.Bytes.{bytes-nil, bytes-cons, bytes-append, bytes-word, word-back}
 use Rattle.format.proofs.Shapes.{Formed}
-use Rattle.format.proofs.Images.{Sound, image-length, image-accepted, image-bytes, policy-of-image}
+use Rattle.format.proofs.Twins.{apart-none}
+use Rattle.format.proofs.Images.{Regular, Sound, image-length, image-accepted, image-bytes, policy-of-image}
 
 -- ---- the records
 
@@ -129,9 +131,32 @@ longest-version : knownVersion (longest .version) ≡ true
 unfolding knownVersion longest
 longest-version = refl
 
-pub longest-sound : Sound longest
-longest-sound =
+-- no two groups begin alike
+groups-nth : (n i k : ℕ) → n ≡ suc (i + k) → getD (longGroups n) i [] ≡ longGroup k
+unfolding longGroups
+groups-nth zero i k e = absurd (omega arith)
+groups-nth (suc n) zero k e = let z : n ≡ k = omega arith in ap longGroup z
+groups-nth (suc n) (suc i) k e = groups-nth n i k (omega arith)
+
+first-member : (k : ℕ) → wordAt (longGroup k) 2 ≡ k
+unfolding wordAt longGroup putWord
+first-member k = word-back k
+
+groups-apart : Apart (longGroups 256)
+groups-apart i j h l q =
+    let n = groups-many 256 in
+    let a = groups-nth 256 i (255 - i) (omega arith) in
+    let b = groups-nth 256 j (255 - j) (omega arith) in
+    let z : 255 - i ≡ 255 - j = sym (first-member (255 - i)) ∙ ap (λ (r : List ℕ). wordAt r 2) (sym a ∙ q ∙ b) ∙ first-member (255 - j) in
+    absurd (omega arith)
+
+longest-regular : Regular longest
+longest-regular =
     record { version = longest-version; few = λ s. omega (arith, longest-full s); formed = longest-formed (length (longest .groups)); bytes = longest-bytes }
+
+pub longest-sound : Sound longest
+unfolding longest
+longest-sound = record { regular = longest-regular; twins = apart-none (longGroups 256) groups-apart }
 
 pub rule-length : length longRule ≡ 11
 unfolding longRule
@@ -158,7 +183,7 @@ pub longest-reached : LongestReached
 longest-reached =
     record {
       accepted = image-accepted longest longest-sound;
-      bytes = image-bytes longest longest-sound;
-      policy = policy-of-image longest longest-sound;
+      bytes = image-bytes longest longest-regular;
+      policy = policy-of-image longest longest-regular;
       reached = image-length longest ∙ ap (λ (n : ℕ). 9 + n) longest-body;
     }

@@ -2,7 +2,8 @@
 --     longestOf s        the greatest length of a record of a section (record-most)
 --     before-groups, before-rules, before-constraints   what stands before a section passes
 --     reached-most       a place that a walk reaches, by section; most-further, most-whole: as many lengths further, and in all
---     accepted-reaches   a walk over an accepted image reaches every record, and the place past the last: accepted-bounded
+--     laid-reaches, laid-bounded, laid-longest   a walk over an image that passes 1 to 7 reaches every record, and the place
+--                        past the last; accepted-reaches, accepted-bounded of an accepted one
 --     most-groups, most-rules, most-constraints   the bound of each section, written out
 use Prim.Native.Nat.{ℕ, zero, suc, _+_, _*_, _≤_, _<_}
 use mathlib.Core.Path.{_≡_, refl}
@@ -16,14 +17,14 @@ use Rattle.format.specs.declared.Section.{Section}
 use Rattle.format.specs.declared.Section.the-variants.{Groups, Rules, Constraints}
 use Rattle.format.specs.Format.{limitOf, countOf, kindIn, shapeOk}
 use Rattle.format.specs.Policy.{recordAt, placeAfter, startOf, placeOf, endOf}
-use Rattle.format.specs.Check.{sectionFault, Accepted}
-use Rattle.format.specs.Longest.{LongestImage}
+use Rattle.format.specs.Check.{sectionFault, LaidOut, Accepted}
+use Rattle.format.specs.Longest.{longestLength, LongestImage}
 use Rattle.format.specs.Reach.{faultBefore, Reaches, mostPlace, Bounded, PlacesBounded}
 use Rattle.format.proofs.Chain.{orElse-split, orElse-none}
 use Rattle.format.proofs.ByCase.{groups-kind, rules-kind, constraints-kind}
 use Rattle.format.proofs.Shapes.{Formed, length-cases, shape-kind, stands}
 use Rattle.format.proofs.Records.{place-snoc, section-prefix, section-formed}
-use Rattle.format.proofs.Accepted.{header-holds, accepted-header, holds-header, accepted-body, body-sections, accepted-end}
+use Rattle.format.proofs.Accepted.{header-holds, laid-header, holds-header, laid-body, body-sections, laid-end, accepted-laid}
 
 unfoldable pub longestOf : Section → ℕ
 longestOf Groups = 130
@@ -127,32 +128,41 @@ places-bounded fits l e s k r =
     let w = most-whole s k (omega arith) in
     record { by-section = m; whole = omega arith; length-added = λ b. (let i = b (placeOf l s k) in omega arith) }
 
--- ---- an accepted image
+-- ---- an image that passes 1 to 7, and an accepted one
 
-module _ (l : List ℕ) (e : Accepted l) where
+module _ (l : List ℕ) (e : LaidOut l) where
   none-before : (s : Section) → faultBefore l s ≡ none
   none-before Groups = before-groups l
-  none-before Rules = before-rules l (body-sections l (accepted-body l e) Groups)
-  none-before Constraints =
-      before-constraints l (body-sections l (accepted-body l e) Groups) (body-sections l (accepted-body l e) Rules)
+  none-before Rules = before-rules l (body-sections l (laid-body l e) Groups)
+  none-before Constraints = before-constraints l (body-sections l (laid-body l e) Groups) (body-sections l (laid-body l e) Rules)
 
-  pub accepted-reaches : (s : Section) (k : ℕ) → k ≤ countOf l s → Reaches l s k
-  accepted-reaches s k h =
+  pub laid-reaches : (s : Section) (k : ℕ) → k ≤ countOf l s → Reaches l s k
+  laid-reaches s k h =
       record {
         before = none-before s;
         counted = h;
-        passed = section-prefix l s (startOf l s) (countOf l s) k h (body-sections l (accepted-body l e) s);
+        passed = section-prefix l s (startOf l s) (countOf l s) k h (body-sections l (laid-body l e) s);
       }
 
+  pub laid-bounded : (s : Section) (k : ℕ) → k ≤ countOf l s → Bounded l s k
+  laid-bounded s k h = places-bounded eqb l (holds-header eqb l (laid-header l e)) s k (laid-reaches s k h)
+
+  pub laid-longest : length l ≤ longestLength
+  unfolding endOf
+  laid-longest =
+      let b = laid-bounded Constraints (countOf l Constraints) (omega arith) .whole in
+      let n = laid-end l e in
+      omega arith
+
+module _ (l : List ℕ) (e : Accepted l) where
+  pub accepted-reaches : (s : Section) (k : ℕ) → k ≤ countOf l s → Reaches l s k
+  accepted-reaches s k h = laid-reaches l (accepted-laid l e) s k h
+
   pub accepted-bounded : (s : Section) (k : ℕ) → k ≤ countOf l s → Bounded l s k
-  accepted-bounded s k h = places-bounded eqb l (holds-header eqb l (accepted-header l e)) s k (accepted-reaches s k h)
+  accepted-bounded s k h = laid-bounded l (accepted-laid l e) s k h
 
 pub longest-image : LongestImage
-unfolding endOf
-longest-image l e =
-    let b = accepted-bounded l e Constraints (countOf l Constraints) (omega arith) .whole in
-    let n = accepted-end l e in
-    omega arith
+longest-image l e = laid-longest l (accepted-laid l e)
 
 -- ---- the bound, by section
 

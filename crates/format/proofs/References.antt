@@ -1,7 +1,8 @@
 -- The type fields of a record: claim ReferencesHeld. Assumes nothing.
+--     rule-types, constraint-types   the type fields of a rule and of a constraint, by the kind byte
 use Prim.Native.Nat.{ℕ, suc, _<_}
 use mathlib.Core.Path.{_≡_, sym, subst, _∙_}
-use mathlib.Core.Logic.{inl, inr, ⊎-elim}
+use mathlib.Core.Logic.{_⊎_, inl, inr, ⊎-elim}
 use mathlib.Core.List.{List, [], _∷_, List·Memᴰ, List·Memᴰ·not-nil, List·Memᴰ·cases-cons}
 use native.Mathlib.Omega.{arith}
 use lib.ListN.{length, getD, drop, length-drop}
@@ -52,3 +53,14 @@ module _ (g : ℕ) (r : List ℕ) (t : ℕ) (m : List·Memᴰ t (typeFields r)) 
 
 pub references-held : ReferencesHeld
 references-held l e s r m t h = rw (group-count l) (fields-held _ r t h s (formed-is _ r s (policy-formed l e s r m)))
+
+-- ---- by the kind byte
+
+pub rule-types : (r : List ℕ) → (getD r 1 0 ≡ 2) ⊎ (getD r 1 0 ≡ 3) → typeFields r ≡ wordAt r 2 ∷ wordAt r 4 ∷ []
+unfolding typeFields
+rule-types r (inl k) = rw k
+rule-types r (inr k) = rw k
+
+pub constraint-types : (r : List ℕ) → getD r 1 0 ≡ 4 → typeFields r ≡ wordAt r 6 ∷ wordAt r 8 ∷ words (drop 11 r)
+unfolding typeFields
+constraint-types r k = rw k

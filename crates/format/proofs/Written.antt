@@ -14,6 +14,7 @@ use Rattle.format.specs.Format.{knownVersion, limitOf}
 use Rattle.format.specs.Policy.{Policy, recordsOf, bodyOf, imageOf}
 use Rattle.format.specs.Sample.{empty}
 use Rattle.format.proofs.Shapes.{Formed}
+use Rattle.format.proofs.Twins.{no-twins-nil}
 use Rattle.format.proofs.Images.{Sound}
 
 module _ (p : Policy) where
@@ -45,7 +46,7 @@ length-empty = refl
 
 pub sound-empty : Sound (record { version = 1; groups = []; rules = []; constraints = [] })
 unfolding knownVersion recordsOf
-sound-empty = record { version = refl; few = few; formed = formed; bytes = bytes }
+sound-empty = record { regular = record { version = refl; few = few; formed = formed; bytes = bytes }; twins = no-twins-nil }
   where
     few : (s : Section) → length (recordsOf nothing s) ≤ limitOf s
     few Groups = omega arith

@@ -3,6 +3,7 @@
 --     wordAt l at    the 2-byte number at a place
 --     words l        the 2-byte numbers that l holds, from its start; an odd byte at the end is none
 --     putWord n l    the two bytes of n, and then l
+--     putWords ns    two bytes for each
 use Prim.Native.Nat.{ℕ, _+_, _*_, _/_, _%_, _<_}
 use mathlib.Core.List.{List, [], _∷_}
 use lib.ListN.{getD}
@@ -20,3 +21,7 @@ words (a ∷ b ∷ l) = (a * 256 + b) ∷ words l
 
 unfoldable pub putWord : ℕ → List ℕ → List ℕ
 putWord n l = n / 256 ∷ n % 256 ∷ l
+
+unfoldable pub putWords : List ℕ → List ℕ
+putWords [] = []
+putWords (n ∷ ns) = putWord n (putWords ns)

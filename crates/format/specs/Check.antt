@@ -1,4 +1,5 @@
--- The check of an image: refusals 1 to 7 with their places, in the table's order (document 01, "When the engine says no").
+-- The check of an image: refusals 1 to 7 and 19 with their places, in the table's order (document 01, "When the engine says no";
+-- document 02 [7]).
 --     readOf s g part        what the record at the front of a part is, for a section of an image with g groups
 --     readFields f n         a record of n bytes, where f is its first bad field, if any
 --     readFault at r         refusals 5 and 6, for the record at a place
@@ -6,6 +7,9 @@
 --     headerFault fits l     refusals 1 to 4; `fits` compares the length field with the length of what is lent
 --     countFault l s         refusal 4, for one section
 --     bodyFault l            refusals 5 to 7, where l is the image to its last byte and no more
+--     layoutFault l          refusals 1 to 7
+--     LaidOut l              there is none of these; there may be twins
+--     restFault l            refusals 5 to 7, and 19
 --     check l                the first refusal of the image l, where there is one
 --     Accepted l             there is none
 --     imageIn b              the image that a buffer starts with: the bytes up to its length field
@@ -27,6 +31,7 @@ use Rattle.format.specs.Bytes.{wordAt}
 use Rattle.format.specs.Refusals.{refusal, need, _orElse_}
 use Rattle.format.specs.Format.{knownVersion, headerLength, lengthPlace, limitOf, countPlace, countOf, kindIn, firstRecord, shapeOk, badField}
 use Rattle.format.specs.Policy.{startOf, endOf}
+use Rattle.format.specs.Twins.{twinFault}
 
 unfoldable pub readFields : Option ℕ → ℕ → Read
 readFields none n = Whole n
@@ -66,8 +71,17 @@ bodyFault l =
     orElse sectionFault l Constraints (startOf l Constraints) (countOf l Constraints)
     orElse need (leb (length l) (endOf l)) (refusal 7 (endOf l))
 
+unfoldable pub layoutFault : List ℕ → Option Refusal
+layoutFault l = headerFault eqb l orElse bodyFault l
+
+abbrev pub LaidOut : List ℕ → Type 0
+LaidOut l = layoutFault l ≡ none
+
+unfoldable pub restFault : List ℕ → Option Refusal
+restFault l = bodyFault l orElse twinFault l
+
 unfoldable pub check : List ℕ → Option Refusal
-check l = headerFault eqb l orElse bodyFault l
+check l = headerFault eqb l orElse restFault l
 
 abbrev pub Accepted : List ℕ → Type 0
 Accepted l = check l ≡ none
@@ -76,7 +90,7 @@ unfoldable pub imageIn : List ℕ → List ℕ
 imageIn b = take (wordAt b lengthPlace) b
 
 unfoldable pub checkFront : List ℕ → Option Refusal
-checkFront b = headerFault leb b orElse bodyFault (imageIn b)
+checkFront b = headerFault leb b orElse restFault (imageIn b)
 
 unfoldable pub leading : List ℕ → List ℕ
 leading b = cond (leb headerLength (length b) && leb headerLength (wordAt b lengthPlace) && leb (wordAt b lengthPlace) (length b)) (imageIn b) b

@@ -5,7 +5,10 @@
 --     IsRecord s g r      r is a record of a section, where there are g groups
 --     WellFormed p        the policy p meets the layout and its limits
 --     typeFields r        the type fields of a rule or of a constraint
---     AcceptedIsWellFormed, WellFormedIsAccepted   accepted means well formed, both ways
+--     AcceptedIsWellFormed, WellFormedIsAccepted   accepted means well formed and without twins, both ways
+--     LaidOutIsWellFormed, WellFormedIsLaidOut     and passing 1 to 7 means well formed, both ways
+--     AcceptedMeans       accepted is what passes 1 to 7 and has no twins
+--     TwinsByMembers      well-formed groups have one record exactly where they have the same members
 --     GivenAt, RecordsGiven   record n is the nth of its section, the last included, and a part of the image
 --     AllGiven            the records given one after the other are the section's, the last included
 --     NoneGiven           past the last there is none: 14
@@ -25,7 +28,8 @@ use Rattle.format.specs.declared.Refusal.{Refusal}
 use Rattle.format.specs.Bytes.{Bytes, wordAt, words}
 use Rattle.format.specs.Refusals.{refusal}
 use Rattle.format.specs.Policy.{Policy, recordsOf, imageOf, policyOf, placeOf}
-use Rattle.format.specs.Check.{Accepted}
+use Rattle.format.specs.Twins.{NoTwins, SameMembers}
+use Rattle.format.specs.Check.{LaidOut, Accepted}
 use Rattle.format.specs.Give.{giveFault, givenRecord}
 
 abbrev pub IsType : ℕ → ℕ → Type 0
@@ -87,10 +91,28 @@ typeFields r =
     (cond (eqb (getD r 1 0) 4) (wordAt r 6 ∷ wordAt r 8 ∷ words (drop 11 r)) (wordAt r 2 ∷ wordAt r 4 ∷ []))
 
 abbrev pub AcceptedIsWellFormed : Type 0
-AcceptedIsWellFormed = (l : List ℕ) → Bytes l → Accepted l → WellFormed (policyOf l) × (imageOf (policyOf l) ≡ l)
+AcceptedIsWellFormed =
+    (l : List ℕ) → Bytes l → Accepted l → WellFormed (policyOf l) × (imageOf (policyOf l) ≡ l) × NoTwins (policyOf l .groups)
 
 abbrev pub WellFormedIsAccepted : Type 0
-WellFormedIsAccepted = (p : Policy) → WellFormed p → Bytes (imageOf p) × Accepted (imageOf p) × (policyOf (imageOf p) ≡ p)
+WellFormedIsAccepted =
+    (p : Policy) → WellFormed p → NoTwins (p .groups)
+    → Bytes (imageOf p) × Accepted (imageOf p) × (policyOf (imageOf p) ≡ p)
+
+abbrev pub LaidOutIsWellFormed : Type 0
+LaidOutIsWellFormed = (l : List ℕ) → Bytes l → LaidOut l → WellFormed (policyOf l) × (imageOf (policyOf l) ≡ l)
+
+abbrev pub WellFormedIsLaidOut : Type 0
+WellFormedIsLaidOut = (p : Policy) → WellFormed p → Bytes (imageOf p) × LaidOut (imageOf p) × (policyOf (imageOf p) ≡ p)
+
+abbrev pub AcceptedMeans : Type 0
+AcceptedMeans =
+    (l : List ℕ) → (Accepted l → LaidOut l × NoTwins (policyOf l .groups)) × (LaidOut l → NoTwins (policyOf l .groups) → Accepted l)
+
+abbrev pub TwinsByMembers : Type 0
+TwinsByMembers =
+    (g : ℕ) (a b : List ℕ) → IsRecord Groups g a → IsRecord Groups g b → Bytes a → Bytes b
+    → (SameMembers a b → a ≡ b) × (a ≡ b → SameMembers a b)
 
 pub record GivenAt (l : List ℕ) (s : Section) (n : ℕ) : Type 0 where
   pub given : giveFault l s n ≡ none

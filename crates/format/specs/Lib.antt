@@ -2,6 +2,7 @@ pub mod Bytes
 pub mod Refusals
 pub mod Format
 pub mod Policy
+pub mod Twins
 pub mod Check
 pub mod Give
 pub mod Answers

@@ -16,7 +16,7 @@ use Rattle.format.specs.declared.Extent.{Extent}
 use Rattle.format.specs.Refusals.{refusal, need}
 use Rattle.format.specs.Format.{countOf}
 use Rattle.format.specs.Policy.{recordAt, placeAfter, startOf, placeOf, endOf}
-use Rattle.format.specs.Check.{sectionFault, headerFault, bodyFault, check, Accepted}
+use Rattle.format.specs.Check.{sectionFault, headerFault, bodyFault, layoutFault, check, Accepted}
 use Rattle.format.specs.Give.{giveFault, givenRecord}
 use Rattle.format.specs.Answers.{gives, outcome, starts, extent}
 use Rattle.format.specs.Reach.{faultBefore, Reaches}
@@ -133,12 +133,12 @@ module _ (l : List ℕ) where
         unfolding endsOf
         body-ends = sym (ap₂ outcome body-end starts-are)
 
-  pub header-stops : (f : Refusal) → headerFault eqb l ≡ some f → check l ≡ some f
-  unfolding check
+  pub header-stops : (f : Refusal) → headerFault eqb l ≡ some f → layoutFault l ≡ some f
+  unfolding layoutFault
   header-stops f e = orElse-first _ e
 
-  pub header-passes : headerFault eqb l ≡ none → check l ≡ bodyFault l
-  unfolding check
+  pub header-passes : headerFault eqb l ≡ none → layoutFault l ≡ bodyFault l
+  unfolding layoutFault
   header-passes e = orElse-next _ e
 
   pub start-in : (s : Section) → startIn (starts l) s ≡ startOf l s

@@ -4,3 +4,4 @@ pub mod WalkLaws
 pub mod SurveyLaws
 pub mod BodyLaws
 pub mod FrontLaws
+pub mod AlikeLaws

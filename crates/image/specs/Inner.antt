@@ -1,2 +1,3 @@
 -- Definitions that only proofs, laws and the contracts of private functions use; no claim rests on them.
 pub mod Walk
+pub mod Alike

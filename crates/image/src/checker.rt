@@ -1,7 +1,10 @@
-// The check of an image: one pass over its bytes.
+// The check of an image: one pass over its bytes, and then the twins.
 use crate::reader::read_record;
+use crate::twins::check_twins;
+use crate::twins::fill_alike;
 use crate::word::narrow;
 use crate::word::wide_word;
+use crate::word::word_at;
 use crate::word::word_in;
 use format::Checked;
 use format::Read;
@@ -15,7 +18,7 @@ ghost use lib.ListN.{set};
 ghost use lib.Dec.{eqb};
 ghost use Rattle.format.specs.Check.{headerFault, check};
 ghost use Rattle.format.specs.Answers.{outcome, refusalOf, sectionsOutcome, starts};
-ghost use Rattle.image.specs.Survey.{Surveys};
+ghost use Rattle.image.specs.Survey.{Surveys, SurveysOld};
 ghost use Rattle.image.specs.Inner.Walk.{walkOf, endsOf, Ahead, Walks, ChecksBody, Checks};
 ghost use Rattle.format.specs.Refusals.{refusal};
 ghost use mathlib.Core.Option.{none, some};
@@ -166,7 +169,7 @@ fn check_body(image: &[u8], places: &mut [u16]) -> Sections
     }
 }
 
-// The whole check, with a table for as many of the groups' places as it has slots.
+// Refusals 1 to 7, with a table for as many of the groups' places as it has slots.
 fn check_all(image: &[u8], places: &mut [u16]) -> Sections
     ensures { λ r. ⌜ Checks (now (image .entry)) (now (places .entry)) r (now (places .exit)) ⌝ }
 {
@@ -180,15 +183,41 @@ fn check_all(image: &[u8], places: &mut [u16]) -> Sections
 pub fn survey(image: &[u8], groups: &mut [u16; header::MOST_GROUPS]) -> Sections
     ensures { λ r. ⌜ Surveys (now (image .entry)) (now (groups .entry)) r (now (groups .exit)) ⌝ }
 {
-    check_all(image, groups)
+    match check_all(image, groups) {
+        Sections::Refused(f) => Sections::Refused(f),
+        Sections::At(starts) => check_twins(image, groups, starts),
+    }
 }
 
-// The same without the places.
+// The same of an image that may have twins; and for each group the first that it is alike to.
+pub fn survey_old(
+    image: &[u8],
+    groups: &mut [u16; header::MOST_GROUPS],
+    alike: &mut [u16; header::MOST_GROUPS],
+) -> Sections
+    ensures { λ r. ⌜ SurveysOld (now (image .entry)) (now (groups .entry)) (now (alike .entry)) r
+        (now (groups .exit)) (now (alike .exit)) ⌝ }
+{
+    match check_all(image, groups) {
+        Sections::Refused(f) => Sections::Refused(f),
+        Sections::At(starts) => {
+            let count = word_in(image, header::GROUPS_AT);
+            fill_alike(image, groups, count, alike);
+            Sections::At(starts)
+        }
+    }
+}
+
+// The same without the places. One group has no twin, so its place is not noted.
 pub fn layout(image: &[u8]) -> Sections
     ensures { λ r. ⌜ sectionsOutcome r ≡ outcome (check (now (image .entry))) (starts (now (image .entry))) ⌝ }
 {
-    let mut none = [0u16; 1];
-    check_all(image, &mut none[..0])
+    if word_at(image, header::GROUPS_AT) < 2 {
+        let mut none = [0u16; 1];
+        return check_all(image, &mut none[..0]);
+    }
+    let mut groups = [0u16; header::MOST_GROUPS];
+    survey(image, &mut groups)
 }
 
 // Whether an image is accepted, else the refusal.

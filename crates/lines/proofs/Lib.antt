@@ -5,4 +5,5 @@ pub mod Output
 pub mod Feeds
 pub mod Pieces
 pub mod Compiled
+pub mod Converted
 pub mod Worked

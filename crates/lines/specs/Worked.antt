@@ -1,7 +1,8 @@
--- Lines and whole outputs, written out from document 01 and from the requests [2], [3] and [6].
+-- Lines and whole outputs, written out from document 01 and from the requests [2], [3], [6] and [7].
 --     WorkedLines    the lines of some outcomes, a place of 5 digits among them
 --     WorkedRuns     the outputs of some inputs
 --     WorkedCompiled what is written for some texts, built in a buffer of 100 bytes
+--     WorkedConverted what is written for some old images
 use Prim.Native.Nat.{ℕ}
 use Prim.Native.String.{String}
 use mathlib.Core.Path.{_≡_}
@@ -9,14 +10,17 @@ use mathlib.Core.List.{List, [], _∷_, _++_, map}
 use lib.ListN.{take, set, replicate}
 use Rattle.format.specs.Refusals.{refusal}
 use Rattle.format.specs.Answers.{Outcome, refused, gives}
+use Rattle.format.specs.Policy.{imageOf}
 use Rattle.format.specs.Sample.{sample, empty}
 use Rattle.decision.specs.declared.Nearest.the-variants.{NoRules, Near}
 use Rattle.decision.specs.Decide.{Decision, notPermitted, permitted, unknown}
 use Rattle.text.specs.Words.{ascii}
 use Rattle.text.specs.Cases.{sampleText}
+use Rattle.conversion.specs.Cases.{old, new}
 use Rattle.lines.specs.Lines.{line}
 use Rattle.lines.specs.Output.{printed}
 use Rattle.lines.specs.Compiled.{Written, compiled}
+use Rattle.lines.specs.Converted.{convertOutput}
 
 pub record WorkedLine : Type 0 where
   pub outcome : Outcome Decision
@@ -117,3 +121,31 @@ textWritten w = record { output = w .output; errors = ascii (w .errors) }
 
 abbrev pub WorkedCompiled : Type 0
 WorkedCompiled = map textGives workedCompiled ≡ map textWritten workedCompiled
+
+pub record WorkedOld : Type 0 where
+  pub input : List ℕ
+  pub output : List ℕ
+  pub errors : String
+
+-- the old policy's first group is at 9, and the source of its first rule, group 2 of 6, at 39 and 40
+unfoldable pub workedConverted : List WorkedOld
+workedConverted =
+    record { input = imageOf old; output = imageOf new; errors = "" }
+    ∷ record { input = sample; output = sample; errors = "" }
+    ∷ record { input = empty; output = empty; errors = "" }
+    ∷ record { input = []; output = []; errors = "R 1 0\n" }
+    ∷ record { input = set (imageOf old) 0 2; output = []; errors = "R 2 0\n" }
+    ∷ record { input = take 70 (imageOf old); output = []; errors = "R 3 0\n" }
+    ∷ record { input = imageOf old ++ replicate 1 0; output = []; errors = "R 3 0\n" }
+    ∷ record { input = set (imageOf old) 10 2; output = []; errors = "R 5 9\n" }
+    ∷ record { input = set (imageOf old) 40 6; output = []; errors = "R 6 39\n" }
+    ∷ []
+
+unfoldable pub oldGives : WorkedOld → Written
+oldGives w = convertOutput (w .input)
+
+unfoldable pub oldWritten : WorkedOld → Written
+oldWritten w = record { output = w .output; errors = ascii (w .errors) }
+
+abbrev pub WorkedConverted : Type 0
+WorkedConverted = map oldGives workedConverted ≡ map oldWritten workedConverted

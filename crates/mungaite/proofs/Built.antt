@@ -18,18 +18,20 @@ use Rattle.mungaite.specs.Code.{placeSpan, buildCode}
 use Rattle.mungaite.specs.Host.{hostBuilt}
 use Rattle.mungaite.specs.Claims.{BuiltFits, BuildWhole, BuildRead}
 
-own-most : (n : ℕ) → (eqb n 11 || eqb n 12 || eqb n 13 || eqb n 18) ≡ true → (0 < n) × (n ≤ 18)
-own-most n e = step (eqb n 11) (eqb n 12) (eqb n 13) (eqb n 18) refl refl refl refl e where
-  known : (k : ℕ) → eqb n k ≡ true → 0 < k → k ≤ 18 → (0 < n) × (n ≤ 18)
+own-most : (n : ℕ) → (eqb n 11 || eqb n 12 || eqb n 13 || eqb n 18 || eqb n 20) ≡ true → (0 < n) × (n ≤ 20)
+own-most n e = step (eqb n 11) (eqb n 12) (eqb n 13) (eqb n 18) (eqb n 20) refl refl refl refl refl e where
+  known : (k : ℕ) → eqb n k ≡ true → 0 < k → k ≤ 20 → (0 < n) × (n ≤ 20)
   known k h l m = let q = eqb-true n k h in (omega arith, omega arith)
 
   step :
-      (a b c d : Bool) → eqb n 11 ≡ a → eqb n 12 ≡ b → eqb n 13 ≡ c → eqb n 18 ≡ d → (a || b || c || d) ≡ true → (0 < n) × (n ≤ 18)
-  step true b c d p q r s h = known 11 p (omega arith) (omega arith)
-  step false true c d p q r s h = known 12 q (omega arith) (omega arith)
-  step false false true d p q r s h = known 13 r (omega arith) (omega arith)
-  step false false false true p q r s h = known 18 s (omega arith) (omega arith)
-  step false false false false p q r s h = absurd (let z : _≡_ {A = ℕ} 0 1 = cc in omega arith)
+      (a b c d e : Bool) → eqb n 11 ≡ a → eqb n 12 ≡ b → eqb n 13 ≡ c → eqb n 18 ≡ d → eqb n 20 ≡ e → (a || b || c || d || e) ≡ true
+      → (0 < n) × (n ≤ 20)
+  step true b c d e p q r s t h = known 11 p (omega arith) (omega arith)
+  step false true c d e p q r s t h = known 12 q (omega arith) (omega arith)
+  step false false true d e p q r s t h = known 13 r (omega arith) (omega arith)
+  step false false false true e p q r s t h = known 18 s (omega arith) (omega arith)
+  step false false false false true p q r s t h = known 20 t (omega arith) (omega arith)
+  step false false false false false p q r s t h = absurd (let z : _≡_ {A = ℕ} 0 1 = cc in omega arith)
 
 pub build-whole : BuildWhole
 build-whole text b h = size (ltb (length b) 9) refl where

@@ -1,6 +1,6 @@
 -- What a host reads from a number is the answer: claims CheckRead, RecordRead, AddRead, RunRead. Each follows from the claim
 -- that no part is cut and from PartsRead alone. Assumes nothing.
-use Prim.Native.Nat.{ℕ, _+_, _*_}
+use Prim.Native.Nat.{ℕ, _+_, _*_, _<_}
 use mathlib.Core.Path.{_≡_, refl, ap, _∙_}
 use mathlib.Core.Option.{Option, none, some}
 use native.Mathlib.Omega.{arith}
@@ -19,12 +19,13 @@ use Rattle.decision.specs.Decide.{queryOf}
 use Rattle.decision.specs.Numbers.{hostDecision}
 use Rattle.decision.proofs.Numbers.{parts-read, refused-kind, refused-back, decide-read}
 use Rattle.runs.specs.Numbers.{numbersRun, runCode}
+use Rattle.conversion.specs.Convert.{convertedImage, convertFault}
 use Rattle.runs.proofs.Numbered.{numbers-answered}
-use Rattle.mungaite.specs.Code.{faultCode, extentCode, recordIn, recordCode, addCode}
+use Rattle.mungaite.specs.Code.{faultCode, extentCode, recordIn, recordCode, addCode, convertCode}
 use Rattle.mungaite.specs.Host.{sectionNumber, hostChecked, hostFound, hostAdded, hostRun}
-use Rattle.mungaite.specs.Claims.{FaultFits, ExtentFits, NumberFits, RowFits, CheckRead, RecordRead, AddRead, RunRead}
+use Rattle.mungaite.specs.Claims.{FaultFits, ExtentFits, NumberFits, ConvertedFits, RowFits, CheckRead, RecordRead, AddRead, ConvertRead, RunRead}
 use Rattle.mungaite.proofs.CodeLaws.{record-groups, record-rules, record-constraints, record-nowhere}
-use Rattle.mungaite.proofs.Whole.{check-whole, record-whole, add-whole, run-whole}
+use Rattle.mungaite.proofs.Whole.{check-whole, record-whole, add-whole, convert-whole, run-whole}
 
 fault-back : (o : Option Refusal) → FaultFits o → hostChecked (faultCode o) ≡ o
 unfolding hostChecked
@@ -54,16 +55,21 @@ record-read l b = (
     in-section Rules n = record-rules l 1 n refl
     in-section Constraints n = record-constraints l 2 n refl
 
-number-back : (o : Outcome ℕ) → OutcomeFits NumberFits o → hostAdded (codeOf (partsOf 1 0) o) ≡ o
+number-back : (P : ℕ → Type 0) → ((n : ℕ) → P n → n < 65536) → (o : Outcome ℕ) → OutcomeFits P o → hostAdded (codeOf (partsOf 1 0) o) ≡ o
 unfolding hostAdded
-number-back (refused f) h = simp (refused-kind f h, refused-back f h)
-number-back (gives n) h =
-    let p = parts-read 1 0 n (omega arith) (omega arith) (omega arith) in
+number-back P small (refused f) h = simp (refused-kind f h, refused-back f h)
+number-back P small (gives n) h =
+    let p = parts-read 1 0 n (omega arith) (omega arith) (small n h) in
     simp (p .0, p .2)
 
 pub add-read : AddRead
 unfolding addCode
-add-read b h r = number-back (outcome (addFault b r) (newNumber b r)) (add-whole b h r)
+add-read b h r = number-back NumberFits (λ n k. omega arith) (outcome (addFault b r) (newNumber b r)) (add-whole b h r)
+
+pub convert-read : ConvertRead
+unfolding convertCode
+convert-read l b n =
+    number-back ConvertedFits (λ m k. omega (arith, k .1)) (outcome (convertFault l n) (length (convertedImage l))) (convert-whole l b n)
 
 run-back : (o : Outcome (Option ℕ)) → OutcomeFits RowFits o → hostRun (runCode o) ≡ o
 unfolding hostRun

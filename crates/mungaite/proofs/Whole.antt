@@ -1,5 +1,5 @@
--- No part of an answer is cut: claims CheckWhole, RecordWhole, AddWhole, RunWhole. Assumes nothing.
---     give-fits, add-fits, run-fits   a refusal fits, by the laws that say how large one is
+-- No part of an answer is cut: claims CheckWhole, RecordWhole, AddWhole, ConvertWhole, RunWhole. Assumes nothing.
+--     give-fits, add-fits, convert-fits, run-fits   a refusal fits, by the laws that say how large one is
 use Prim.Native.Nat.{ℕ}
 use mathlib.Core.Path.{_≡_, refl, sym, subst}
 use mathlib.Core.Logic.{⊎-elim}
@@ -10,6 +10,7 @@ use lib.ListN.{length, getD}
 use Rattle.format.specs.declared.Section.{Section}
 use Rattle.format.specs.declared.Refusal.{Refusal}
 use Rattle.format.specs.Refusals.{refusal, _orElse_}
+use Rattle.format.specs.Bytes.{Bytes}
 use Rattle.format.specs.Policy.{recordAt, placeOf}
 use Rattle.format.specs.Check.{check}
 use Rattle.format.specs.Answers.{outcome, extent}
@@ -17,18 +18,21 @@ use Rattle.format.specs.Give.{giveFault}
 use Rattle.format.proofs.Chain.{orElse-refuses}
 use Rattle.format.proofs.ByCase.{limit-most}
 use Rattle.format.proofs.Shapes.{shape-most}
-use Rattle.format.proofs.Accepted.{record-formed, record-is, give-split, given-at}
+use Rattle.format.proofs.Accepted.{accepted-header, record-formed, record-is, give-split, given-at}
 use Rattle.format.proofs.Reach.{longest-image}
-use Rattle.format.proofs.Bounds.{front-small, give-refused}
+use Rattle.format.proofs.Bounds.{layout-small, front-small, give-refused}
 use Rattle.extension.specs.Add.{sectionOf, newNumber, addFault}
 use Rattle.extension.proofs.Adds.{own-refused, add-refused, number-few}
 use Rattle.decision.specs.Numbers.{RefusalFits, OutcomeFits}
 use Rattle.decision.proofs.Numbers.{known-fits, check-fits}
+use Rattle.conversion.specs.Convert.{convertedImage, convertFault}
+use Rattle.conversion.proofs.Buffers.{fault-parts, convert-refused}
+use Rattle.conversion.proofs.Convert.{converted-accepted}
 use Rattle.runs.specs.Runs.{firstUnfit}
 use Rattle.runs.specs.Numbers.{rowsOf, numbersFault}
 use Rattle.runs.proofs.Faults.{numbers-named}
 use Rattle.runs.proofs.Numbered.{row-below, numbers-run-is}
-use Rattle.mungaite.specs.Claims.{FaultFits, ExtentFits, NumberFits, RowFits, CheckWhole, RecordWhole, AddWhole, RunWhole}
+use Rattle.mungaite.specs.Claims.{FaultFits, ExtentFits, NumberFits, ConvertedFits, RowFits, CheckWhole, RecordWhole, AddWhole, ConvertWhole, RunWhole}
 
 fault-fits : (o : Option Refusal) → ((f : Refusal) → o ≡ some f → RefusalFits f) → FaultFits o
 fault-fits none h = tt
@@ -77,6 +81,21 @@ number-fits b r e = omega (arith, number-few b r e, limit-most (sectionOf (getD 
 
 pub add-whole : AddWhole
 add-whole b h r = outcome-fits NumberFits (addFault b r) (newNumber b r) (add-fits b r) (number-fits b r)
+
+-- ---- a new image's length
+
+convert-fits : (l : List ℕ) (n : ℕ) (f : Refusal) → convertFault l n ≡ some f → RefusalFits f
+convert-fits l n f e =
+    ⊎-elim (λ k. let q = layout-small l f k in (omega (arith, q .0), omega (arith, q .1)))
+    (λ z. known-fits 13 0 f (sym z) (omega arith) (omega arith)) (convert-refused l n f e)
+
+converted-fits : (l : List ℕ) → Bytes l → (n : ℕ) → convertFault l n ≡ none → ConvertedFits (length (convertedImage l))
+converted-fits l b n e =
+    let a = converted-accepted l b (fault-parts l n e .0) .accepted in
+    (accepted-header (convertedImage l) a .long, longest-image (convertedImage l) a)
+
+pub convert-whole : ConvertWhole
+convert-whole l b n = outcome-fits ConvertedFits (convertFault l n) (length (convertedImage l)) (convert-fits l n) (converted-fits l b n)
 
 -- ---- what a run comes to
 

@@ -8,10 +8,12 @@
 --     RecordWhole         record n of any section of any image; and where there is no such section
 --     AddWhole            the refusal or the new record's number, of any buffer and any record
 --     RunWhole            what any run on any image comes to
---     BuiltFits o         the image's length is 9 to 55,561; a refusal's number is at most 18, and its place below 2^48
+--     ConvertedFits n     the length of a new image is 9 to 55,561
+--     ConvertWhole        the refusal or that length, of any image and any buffer
+--     BuiltFits o         the image's length is 9 to 55,561; a refusal's number is at most 20, and its place below 2^48
 --     BuildWhole          what any text below 2^48 bytes builds in any buffer
 -- So what a host reads from the number is the answer itself, of every image of bytes:
---     CheckRead, RecordRead, AddRead   by each of the other functions
+--     CheckRead, RecordRead, AddRead, ConvertRead   by each of the other functions
 --     RunRead             by a run, and in the slot of each of its rows
 --     BuildRead           by building from a text
 use Prim.Native.Nat.{ℕ, _+_, _*_, _≤_, _<_}
@@ -30,9 +32,10 @@ use Rattle.format.specs.Give.{giveFault}
 use Rattle.extension.specs.Add.{addFault, newNumber}
 use Rattle.decision.specs.Decide.{answer, queryOf}
 use Rattle.decision.specs.Numbers.{Part, RefusalFits, OutcomeFits, hostDecision}
+use Rattle.conversion.specs.Convert.{convertedImage, convertFault}
 use Rattle.runs.specs.Numbers.{numbersFault, numbersRun, codesAfter, runCode}
 use Rattle.text.specs.Build.{built}
-use Rattle.mungaite.specs.Code.{faultCode, recordCode, addCode, placeSpan, buildCode}
+use Rattle.mungaite.specs.Code.{faultCode, recordCode, addCode, convertCode, placeSpan, buildCode}
 use Rattle.mungaite.specs.Host.{sectionNumber, hostChecked, hostFound, hostAdded, hostRun, hostBuilt}
 
 abbrev pub FaultFits : Option Refusal → Type 0
@@ -64,6 +67,12 @@ AddWhole = (b : List ℕ) → Bytes b → (r : List ℕ) → OutcomeFits NumberF
 abbrev pub RunWhole : Type 0
 RunWhole = (l : List ℕ) → Bytes l → (ns : List ℕ) (slots : ℕ) → OutcomeFits RowFits (numbersRun l ns slots)
 
+abbrev pub ConvertedFits : ℕ → Type 0
+ConvertedFits n = (9 ≤ n) × (n ≤ 55561)
+
+abbrev pub ConvertWhole : Type 0
+ConvertWhole = (l : List ℕ) → Bytes l → (n : ℕ) → OutcomeFits ConvertedFits (outcome (convertFault l n) (length (convertedImage l)))
+
 abbrev pub CheckRead : Type 0
 CheckRead = (l : List ℕ) → Bytes l → hostChecked (faultCode (check l)) ≡ check l
 
@@ -76,6 +85,9 @@ RecordRead =
 abbrev pub AddRead : Type 0
 AddRead = (b : List ℕ) → Bytes b → (r : List ℕ) → hostAdded (addCode b r) ≡ outcome (addFault b r) (newNumber b r)
 
+abbrev pub ConvertRead : Type 0
+ConvertRead = (l : List ℕ) → Bytes l → (n : ℕ) → hostAdded (convertCode l n) ≡ outcome (convertFault l n) (length (convertedImage l))
+
 abbrev pub RunRead : Type 0
 RunRead =
     (l : List ℕ) → Bytes l → (ns ys : List ℕ)
@@ -87,7 +99,7 @@ RunRead =
 
 abbrev pub BuiltFits : Outcome ℕ → Type 0
 BuiltFits (gives n) = (9 ≤ n) × (n ≤ 55561)
-BuiltFits (refused f) = (0 < f .number) × (f .number ≤ 18) × (f .place < placeSpan)
+BuiltFits (refused f) = (0 < f .number) × (f .number ≤ 20) × (f .place < placeSpan)
 
 abbrev pub BuildWhole : Type 0
 BuildWhole = (text b : List ℕ) → length text < placeSpan → BuiltFits (built text b .answer)

@@ -3,12 +3,14 @@
 --     recordCode l s n    0, 1, place, length of record n of section s: 0 groups, 1 rules, 2 constraints; or the refusal,
 --                         which is 14 where there is no such section
 --     addCode b r         0, 1, 0, number of the new record, or the refusal
+--     convertCode l n     0, 1, 0, length of the new image of l, for a buffer of n bytes, or the refusal
 -- What a text builds is a number of two parts, the highest 16 bits and the other 48:
 --     buildCode o         0 and the length of the image, or the refusal's number and the low 48 bits of its place in the text
 use Prim.Native.Nat.{ℕ, _+_, _*_, _%_}
 use mathlib.Core.Bool.{cond}
 use mathlib.Core.Option.{Option, none, some}
 use mathlib.Core.List.{List}
+use lib.ListN.{length}
 use lib.Dec.{eqb}
 use Rattle.format.specs.declared.Section.{Section}
 use Rattle.format.specs.declared.Section.the-variants.{Groups, Rules, Constraints}
@@ -20,6 +22,7 @@ use Rattle.format.specs.Answers.{Outcome, refused, gives, outcome, extent}
 use Rattle.format.specs.Give.{giveFault}
 use Rattle.extension.specs.Add.{addFault, newNumber}
 use Rattle.decision.specs.Numbers.{partsOf, refusalCode, codeOf}
+use Rattle.conversion.specs.Convert.{convertedImage, convertFault}
 
 abbrev pub faultCode : Option Refusal → ℕ
 faultCode none = 0
@@ -38,6 +41,9 @@ recordCode l s n =
 
 unfoldable pub addCode : List ℕ → List ℕ → ℕ
 addCode b r = codeOf (partsOf 1 0) (outcome (addFault b r) (newNumber b r))
+
+unfoldable pub convertCode : List ℕ → ℕ → ℕ
+convertCode l n = codeOf (partsOf 1 0) (outcome (convertFault l n) (length (convertedImage l)))
 
 -- 48 bits
 abbrev pub placeSpan : ℕ

@@ -2,7 +2,7 @@
 --     sectionNumber s     MUNGAITE_GROUPS, MUNGAITE_RULES, MUNGAITE_CONSTRAINTS
 --     hostChecked n       what mungaite_check says: the refusal, where there is one
 --     hostFound n         what mungaite_record says
---     hostAdded n         what mungaite_add says
+--     hostAdded n         what mungaite_add and mungaite_convert say
 --     hostRun n           what mungaite_run says: fit, which is no row, or the first row that is not Permitted
 --     hostBuilt n         what mungaite_build says, by MUNGAITE_BUILD_REFUSAL and MUNGAITE_BUILD_REST
 use Prim.Native.Nat.{ℕ, _/_, _%_}

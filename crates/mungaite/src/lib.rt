@@ -1,6 +1,7 @@
 // The C interface: numbers and byte slices only. An answer is a number of four 16-bit parts, but for a text's, which has two:
 // 16 bits and 48. include/mungaite.h declares the functions and has the table of answers.
 
+use conversion::Converted;
 use decide::decide;
 use decide::run_numbers;
 use decision::Query;
@@ -17,6 +18,7 @@ use numbers::number;
 use numbers::parts;
 use numbers::refused;
 use numbers::run_number;
+use rewrite::convert;
 use text::Built;
 ghost use mathlib.Core.Path.{_≡_};
 ghost use lib.ListN.{length};
@@ -24,9 +26,10 @@ ghost use Rattle.format.specs.Check as reading;
 ghost use Rattle.extension.specs.Add.{bufferAfter};
 ghost use Rattle.decision.specs.Decide as deciding;
 ghost use Rattle.decision.specs.Numbers.{decisionCode};
+ghost use Rattle.conversion.specs.Convert.{bufferConverted};
 ghost use Rattle.runs.specs.Numbers.{numbersRun, codesAfter, runCode};
 ghost use Rattle.text.specs.Build.{built};
-ghost use Rattle.mungaite.specs.Code.{faultCode, recordIn, recordCode, addCode, buildCode};
+ghost use Rattle.mungaite.specs.Code.{faultCode, recordIn, recordCode, addCode, convertCode, buildCode};
 
 // 0 where the image is accepted, else the refusal.
 #[no_mangle]
@@ -124,5 +127,18 @@ pub extern "C" fn mungaite_build(text: &[u8], buffer: &mut [u8]) -> u64
         Built::Refused(f) => {
             (f.number as usize * 281474976710656 + f.place % 281474976710656) as u64
         }
+    }
+}
+
+// Converts an old image, one that may have twins, into a buffer: 0, 1, 0, length of the new image. A refused call changes no
+// byte, and bytes past the new image stay.
+#[no_mangle]
+pub extern "C" fn mungaite_convert(image: &[u8], buffer: &mut [u8]) -> u64
+    ensures { λ r. ⌜ (r ≡ convertCode (now (image .entry)) (length (now (buffer .entry))))
+        × (now (buffer .exit) ≡ bufferConverted (now (image .entry)) (now (buffer .entry))) ⌝ }
+{
+    match convert(image, buffer) {
+        Converted::Length(n) => parts(1, 0, n),
+        Converted::Refused(f) => refused(f),
     }
 }

@@ -1,4 +1,4 @@
-// What both programs do: reads and writes that are made again where the C library says so, numbers put into a buffer, and what
+// What the programs do: reads and writes that are made again where the C library says so, numbers put into a buffer, and what
 // is kept of a read.
 mod again; // again.rt: a call that failed
 mod source; // source.rt: a read

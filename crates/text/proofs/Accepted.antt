@@ -20,7 +20,7 @@ use Rattle.format.specs.Answers.{Outcome, refused, gives}
 use Rattle.format.specs.Sample.{empty}
 use Rattle.format.proofs.Chain.{some-not-none}
 use Rattle.format.specs.Policy.{imageOf}
-use Rattle.format.proofs.Images.{sound-well-formed}
+use Rattle.format.proofs.Images.{regular-well-formed}
 use Rattle.format.proofs.Front.{front-length}
 use Rattle.extension.specs.Add.{addFault, bufferAfter, overwrite}
 use Rattle.extension.specs.Claims.{addAll}
@@ -46,7 +46,8 @@ leaves : (b after : List ℕ) → Imaged b after → Leaves b after
 leaves b after k =
     record {
       policy = k .policy;
-      well-formed = sound-well-formed (k .policy) (k .sound);
+      well-formed = regular-well-formed (k .policy) (k .sound .regular);
+      twins = k .sound .twins;
       image = k .image ∙ sym (overwrite-is (imageOf (k .policy)) b);
       accepted = imaged-accepted b after k;
       same-length = imaged-length b after k;
@@ -162,10 +163,10 @@ last-row-counts row b alone some-bytes = (only-row row b alone some-bytes, behin
 -- ---- the numbers of refusals
 
 abbrev pub OwnNumber : ℕ → Type 0
-OwnNumber n = (eqb n 11 || eqb n 12 || eqb n 13 || eqb n 18) ≡ true
+OwnNumber n = (eqb n 11 || eqb n 12 || eqb n 13 || eqb n 18 || eqb n 20) ≡ true
 
 add-number : (b r : List ℕ) → checkFront b ≡ none → shapeOk r ≡ true → (f : Refusal) → addFault b r ≡ some f → OwnNumber (f .number)
-add-number b r ok shape f e = formed-refused b r ok OwnNumber refl refl refl shape f e
+add-number b r ok shape f e = formed-refused b r ok OwnNumber refl refl refl refl shape f e
 
 moved-number :
     (at : ℕ) (o : Option Refusal) (f : Refusal) → ((g : Refusal) → o ≡ some g → OwnNumber (g .number)) → movedTo at o ≡ some f

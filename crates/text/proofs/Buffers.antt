@@ -8,6 +8,7 @@
 --     rows-accepted             rows keep an accepted front accepted, of bytes, and as long as it was
 use Prim.Native.Nat.{ℕ, suc, _+_, _≤_, _<_}
 use mathlib.Core.Path.{_≡_, refl, sym, subst, ap, _∙_}
+use mathlib.Core.Bool.{false}
 use mathlib.Core.Option.{Option, none, some}
 use mathlib.Core.List.{List, [], _∷_, _++_}
 use native.Mathlib.Omega.{arith}
@@ -27,7 +28,7 @@ use Rattle.format.proofs.Bytes.{bytes-append, bytes-drop}
 use Rattle.format.proofs.Images.{Sound, policy-sound, image-of-policy, policy-of-image, image-accepted, image-bytes}
 use Rattle.format.proofs.Front.{front-accepted, front-bytes, front-length, front-split, front-fits, front-of, image-in-of, front-of-length}
 use Rattle.format.proofs.Written.{image-empty, length-empty, sound-empty}
-use Rattle.extension.specs.Add.{sectionOf, withRecord, addFault, bufferAfter, overwrite}
+use Rattle.extension.specs.Add.{sectionOf, withRecord, addedTwin, addFault, bufferAfter, overwrite}
 use Rattle.extension.specs.Claims.{allRecords}
 use Rattle.extension.proofs.Causes.{add-own}
 use Rattle.extension.proofs.Counts.{with-count, count-none}
@@ -69,7 +70,7 @@ module _ (b₀ b : List ℕ) (k : Imaged b₀ b) where
 
   pub imaged-bytes : Bytes b₀ → Bytes b
   unfolding i t
-  imaged-bytes h = subst Bytes (sym (k .image)) (bytes-append i t (image-bytes (k .policy) (k .sound)) (bytes-drop (length i) b₀ h))
+  imaged-bytes h = subst Bytes (sym (k .image)) (bytes-append i t (image-bytes (k .policy) (k .sound .regular)) (bytes-drop (length i) b₀ h))
 
   pub imaged-size : wordAt b 1 ≡ length (imageOf (k .policy))
   unfolding i t
@@ -86,15 +87,20 @@ module _ (b₀ b : List ℕ) (k : Imaged b₀ b) where
   imaged-few : (s : Section) → countOf b s < limitOf s → length (recordsOf (k .policy) s) < limitOf s
   imaged-few s h = rw (imaged-counts s) at h
 
+  imaged-policy : policyOf (imageIn b) ≡ k .policy
+  unfolding i t
+  imaged-policy = ap policyOf (ap imageIn (k .image) ∙ image-in-of i t passes) ∙ policy-of-image (k .policy) (k .sound .regular)
+
+  imaged-fresh : (s : Section) (r : List ℕ) → addedTwin s (policyOf (imageIn b)) r ≡ false → addedTwin s (k .policy) r ≡ false
+  imaged-fresh s r h = rw imaged-policy at h
+
   pub imaged-with :
-      (s : Section) (r : List ℕ) → Bytes r → Formed s (countOf b Groups) r → countOf b s < limitOf s → Sound (withRecord s (k .policy) r)
-  imaged-with s r by f h = with-sound (k .policy) r s (k .sound) (imaged-formed s r f) by (imaged-few s h)
+      (s : Section) (r : List ℕ) → Bytes r → Formed s (countOf b Groups) r → addedTwin s (policyOf (imageIn b)) r ≡ false
+      → countOf b s < limitOf s → Sound (withRecord s (k .policy) r)
+  imaged-with s r by f e h = with-sound (k .policy) r s (k .sound) (imaged-formed s r f) by (imaged-fresh s r e) (imaged-few s h)
 
   pub imaged-count : recordCount b ≡ length (allRecords (k .policy))
-  unfolding i t
-  imaged-count =
-      ap (λ (x : List ℕ). length (allRecords (policyOf x))) (ap imageIn (k .image) ∙ image-in-of i t passes)
-      ∙ ap (λ (p : Policy). length (allRecords p)) (policy-of-image (k .policy) (k .sound))
+  imaged-count = ap (λ (p : Policy). length (allRecords p)) imaged-policy
 
 -- where it holds first
 pub imaged-front : (b : List ℕ) → checkFront b ≡ none → Bytes b → Imaged b b
@@ -141,10 +147,10 @@ add-one b₀ b r k by e =
     let after : Imaged b₀ (bufferAfter b r) =
     record {
       policy = q;
-      sound = imaged-with b₀ b k s r by (own .formed) (own .few);
+      sound = imaged-with b₀ b k s r by (own .formed) (own .fresh) (own .few);
       image =
           ap (λ (x : List ℕ). bufferAfter x r) (k .image)
-          ∙ add-image p t s r (k .sound) (imaged-formed b₀ b k s r (own .formed)) (imaged-few b₀ b k s (own .few)) room
+          ∙ add-image p t s r (k .sound) (imaged-formed b₀ b k s r (own .formed)) (imaged-fresh b₀ b k s r (own .fresh)) (imaged-few b₀ b k s (own .few)) room
           ∙ ap (λ (x : List ℕ). imageOf q ++ x) (drop-drop (length r) (length (imageOf p)) b₀ ∙ ap (λ (x : ℕ). drop x b₀) (sym n));
       fits = omega (arith, room, n, length-append (imageOf p) t, length-drop (length (imageOf p)) b₀, k .fits);
     } in

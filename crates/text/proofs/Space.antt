@@ -2,6 +2,7 @@
 -- still has an image that is accepted, and so is not longer. Assumes nothing.
 use Prim.Native.Nat.{ℕ, _+_, _≤_, _<_}
 use mathlib.Core.Path.{_≡_, sym, _∙_}
+use mathlib.Core.Bool.{false}
 use mathlib.Core.Option.{some}
 use mathlib.Core.List.{List}
 use native.Mathlib.Omega.{arith}
@@ -11,11 +12,12 @@ use Rattle.format.specs.declared.Section.the-variants.{Groups}
 use Rattle.format.specs.declared.Refusal.{Refusal}
 use Rattle.format.specs.Bytes.{Bytes, wordAt}
 use Rattle.format.specs.Format.{limitOf, countOf}
-use Rattle.format.specs.Policy.{Policy, imageOf}
+use Rattle.format.specs.Policy.{Policy, imageOf, policyOf}
+use Rattle.format.specs.Check.{imageIn}
 use Rattle.format.proofs.Shapes.{Formed}
 use Rattle.format.proofs.Reach.{longest-image}
 use Rattle.format.proofs.Images.{Sound, image-accepted}
-use Rattle.extension.specs.Add.{sectionOf, withRecord, addFault}
+use Rattle.extension.specs.Add.{sectionOf, withRecord, addedTwin, addFault}
 use Rattle.extension.proofs.Adds.{with-length, passes-own}
 use Rattle.extension.proofs.Causes.{short-formed, not-short}
 use Rattle.text.specs.Build.{built}
@@ -33,13 +35,13 @@ module _ (b₀ b r : List ℕ) (k : Imaged b₀ b) (by : Bytes r) (long : 55561 
   s : Section
   s = sectionOf (getD r 1 0)
 
-  causes : Formed s (countOf b Groups) r × (countOf b s < limitOf s)
+  causes : Formed s (countOf b Groups) r × (countOf b s < limitOf s) × (addedTwin s (policyOf (imageIn b)) r ≡ false)
   unfolding s
   causes = short-formed b r (imaged-accepted b₀ b k) f e n
 
   sound-with : Sound (withRecord s p r)
   unfolding s p
-  sound-with = imaged-with b₀ b k s r by (causes .0) (causes .1)
+  sound-with = imaged-with b₀ b k s r by (causes .0) (causes .2) (causes .1)
 
   room : wordAt b 1 + length r ≤ length b
   unfolding s p
@@ -49,7 +51,7 @@ module _ (b₀ b r : List ℕ) (k : Imaged b₀ b) (by : Bytes r) (long : 55561 
 
   never-short : ⊥
   unfolding s
-  never-short = not-short b r (imaged-accepted b₀ b k) f e (passes-own b r (record { formed = causes .0; few = causes .1; room = room }))
+  never-short = not-short b r (imaged-accepted b₀ b k) f e (passes-own b r (record { formed = causes .0; fresh = causes .2; few = causes .1; room = room }))
 
 pub space-enough : SpaceEnough
 space-enough text b f long e n =

@@ -1,9 +1,10 @@
--- Rows and texts with what they give, worked out from document 02, request [3]; those with switches, last in each table, from [6].
+-- Rows and texts with what they give, worked out from document 02, request [3]; those with switches from [6],
+-- and those with twins, last in each table, from [7].
 --     WorkedRows      rows, and the records that they stand for
 --     WorkedOutside   rows outside the form: 65 members too, but not the 64 that there may be, and bytes that no quoted text has
 --     WorkedFull      rows behind a section that is full
 --     WorkedTexts     texts in buffers of a size, filled with the byte 7: the answer, and the buffer
-use Prim.Native.Nat.{ℕ}
+use Prim.Native.Nat.{ℕ, zero, suc}
 use Prim.Native.String.{String}
 use mathlib.Core.Path.{_≡_}
 use mathlib.Core.Option.{Option, none, some}
@@ -116,6 +117,9 @@ abbrev pub sampleText : String
 sampleText =
     "group 20 21\nallow 10 g0 5 1 on\nallow 20 30 5 2 on\ntrans 12 20 5\nallow 13 21 5 1 off\nlimit 5 1 10 21 2 10\nlimit 5 2 20 30 1"
 
+unfoldable pub twoGroups : List ℕ
+twoGroups = 1 ∷ 0 ∷ 19 ∷ 0 ∷ 2 ∷ 0 ∷ 0 ∷ 0 ∷ 0 ∷ 6 ∷ 1 ∷ 0 ∷ 5 ∷ 0 ∷ 7 ∷ 4 ∷ 1 ∷ 0 ∷ 5 ∷ []
+
 unfoldable pub workedTexts : List WorkedText
 workedTexts =
     record { text = sampleText; space = 83; answer = gives 80; buffer = sample ++ replicate 3 7 }
@@ -163,6 +167,9 @@ workedTexts =
       answer = refused (refusal 18 20);
       buffer = oneSwitched ++ replicate 13 7;
     }
+    ∷ record { text = "group 5 7\ngroup 5"; space = 20; answer = gives 19; buffer = twoGroups ++ replicate 1 7 }
+    ∷ record { text = "group 5 7\ngroup 5\ngroup 5 7"; space = 25; answer = refused (refusal 20 18); buffer = twoGroups ++ replicate 6 7 }
+    ∷ record { text = "group 5 7\ngroup 5\n\ngroup 5\nx"; space = 19; answer = refused (refusal 20 19); buffer = twoGroups }
     ∷ []
 
 unfoldable pub textGives : WorkedText → Made
@@ -174,14 +181,20 @@ textMakes w = record { answer = w .answer; buffer = w .buffer }
 abbrev pub WorkedTexts : Type 0
 WorkedTexts = map textGives workedTexts ≡ map textMakes workedTexts
 
--- 256 groups of type 0, and nothing behind them: 12 comes behind 18 and 11, and before 13
+-- groups of one type each, the types below n
+unfoldable pub singles : ℕ → List (List ℕ)
+singles zero = []
+singles (suc n) = (4 ∷ 1 ∷ 0 ∷ n ∷ []) ∷ singles n
+
+-- 256 of them, and nothing behind them: 12 comes behind 18, 11 and 20, and before 13
 unfoldable pub fullGroups : List ℕ
-fullGroups = 1 ∷ 4 ∷ 9 ∷ 1 ∷ 0 ∷ 0 ∷ 0 ∷ 0 ∷ 0 ∷ groupOf (replicate 256 (4 ∷ 1 ∷ 0 ∷ 0 ∷ []))
+fullGroups = 1 ∷ 4 ∷ 9 ∷ 1 ∷ 0 ∷ 0 ∷ 0 ∷ 0 ∷ 0 ∷ groupOf (singles 256)
 
 unfoldable pub fullFault : String → Option Refusal
 fullFault row = rowFault 5 (ascii row) fullGroups
 
 abbrev pub WorkedFull : Type 0
 WorkedFull =
-    map fullFault ("group 1" ∷ "x" ∷ "group 1024" ∷ "trans 1 g255 3" ∷ [])
-    ≡ some (refusal 12 5) ∷ some (refusal 18 5) ∷ some (refusal 11 5) ∷ some (refusal 13 5) ∷ []
+    map fullFault ("group 256" ∷ "group 0" ∷ "group 255" ∷ "x" ∷ "group 1024" ∷ "trans 1 g255 3" ∷ [])
+    ≡ some (refusal 12 5) ∷ some (refusal 20 5) ∷ some (refusal 20 5) ∷ some (refusal 18 5) ∷ some (refusal 11 5)
+    ∷ some (refusal 13 5) ∷ []

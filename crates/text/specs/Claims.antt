@@ -6,7 +6,7 @@
 --     EachRowAdded        where nothing is refused, the buffer is that of adding each row's record in order to the empty
 --                         policy, the answer is its image's length, and there are as many records as rows that are not empty
 --     RowsEnough          where each row's record is added without a refusal, the text is not refused
---     BuiltAccepted       the buffer starts with the image of a well-formed policy, refused or not; bytes past it stay
+--     BuiltAccepted       the buffer starts with the image of a well-formed policy without twins, refused or not; bytes past it stay
 --     LastLineFeed        a line feed at the end changes nothing
 --     LastRowCounts       a last row that is not empty is one record more, without a line feed behind it
 --     NextRows            what follows a line feed is added to what the text before it left
@@ -14,7 +14,7 @@
 --     RefusedKeeps        a refused text leaves what the text before its place builds. A row starts at that place, and it is
 --                         refused for its own cause: 18 where it is outside the form, else the number of adding its record
 --     RefusedShort        a buffer under 9 bytes is untouched, and 13 at place 0 comes before any row
---     OwnNumbers          no other number than 11, 12, 13 and 18: 10 cannot occur
+--     OwnNumbers          no other number than 11, 12, 13, 18 and 20: 10 cannot occur
 --     SpaceEnough         a buffer that holds the longest image is never short
 --     conditionWord n     the word of a condition byte: `off`, `on`, and then `s` and a switch in decimal, from 0 on
 --     ConditionWords      each condition byte, 0 to 33, is what its word says, and no other word says anything (request [6])
@@ -30,6 +30,7 @@ use Rattle.format.specs.Bytes.{wordAt}
 use Rattle.format.specs.Refusals.{refusal}
 use Rattle.format.specs.Format.{lengthPlace}
 use Rattle.format.specs.Policy.{Policy, imageOf, policyOf}
+use Rattle.format.specs.Twins.{NoTwins}
 use Rattle.format.specs.Check.{imageIn, checkFront}
 use Rattle.format.specs.Answers.{refused, gives}
 use Rattle.format.specs.Claims.{WellFormed}
@@ -81,6 +82,7 @@ RowsEnough =
 pub record Leaves (b after : List ℕ) : Type 0 where
   pub policy : Policy
   pub well-formed : WellFormed policy
+  pub twins : NoTwins (policy .groups)
   pub image : after ≡ overwrite (imageOf policy) b
   pub accepted : checkFront after ≡ none
   pub same-length : length after ≡ length b
@@ -139,7 +141,7 @@ RefusedShort = (text b : List ℕ) → length b < 9 → built text b ≡ record 
 abbrev pub OwnNumbers : Type 0
 OwnNumbers =
     (text b : List ℕ) (f : Refusal) → built text b .answer ≡ refused f
-    → (eqb (f .number) 11 || eqb (f .number) 12 || eqb (f .number) 13 || eqb (f .number) 18) ≡ true
+    → (eqb (f .number) 11 || eqb (f .number) 12 || eqb (f .number) 13 || eqb (f .number) 18 || eqb (f .number) 20) ≡ true
 
 abbrev pub SpaceEnough : Type 0
 SpaceEnough = (text b : List ℕ) (f : Refusal) → 55561 ≤ length b → built text b .answer ≡ refused f → f .number ≡ 13 → ⊥

@@ -4,7 +4,7 @@
 --     noted l ps           the same of an image's groups
 --     Fits l s at n        each place that a walk over n records of a section reaches, from a place on, is at most 55,561
 --     Ahead l s g at n     an image with g groups, and a place where a walk over n records of a section may begin
---     Walks, ChecksBody, Checks   what a walk, the check of the body and the whole check answer, and the table before and after
+--     Walks, ChecksBody, Checks   what a walk, the check of the body and refusals 1 to 7 answer, and the table before and after
 --     endsOf l r c e       refusal 7, for records that end at e
 --     startIn y s          where a section starts
 --     Hops l at n          the first n length bytes from a place on, and the records, lie in the image; no place is above 55,561
@@ -26,7 +26,7 @@ use Rattle.format.specs.Answers.{Outcome, outcome, sectionsOutcome, starts}
 use Rattle.format.specs.Format.{headerLength, countOf}
 use Rattle.format.specs.Policy.{placeAfter}
 use Rattle.format.specs.Longest.{longestLength}
-use Rattle.format.specs.Check.{readOf, readFault, sectionFault, headerFault, bodyFault, check}
+use Rattle.format.specs.Check.{readOf, readFault, sectionFault, headerFault, bodyFault, layoutFault}
 
 abbrev pub walkedTo : Option Refusal → ℕ → Walked
 walkedTo none at = To at
@@ -62,7 +62,7 @@ pub record ChecksBody (l before : List ℕ) (r : Sections) (after : List ℕ) : 
   pub table : after ≡ noted l before
 
 pub record Checks (l before : List ℕ) (r : Sections) (after : List ℕ) : Type 0 where
-  pub sections : sectionsOutcome r ≡ outcome (check l) (starts l)
+  pub sections : sectionsOutcome r ≡ outcome (layoutFault l) (starts l)
   pub table : after ≡ unlessRefused (headerFault eqb l) (noted l before) before
 
 unfoldable pub endsOf : List ℕ → ℕ → ℕ → ℕ → Outcome Starts
