@@ -28,6 +28,17 @@ query='\0\17\0\36\0\5\0\4'
 answer=$({ cat "$folder/cleaning.image"; printf "$query"'\0\0\0\0'"$query"'\0\0\0\1'; } | "${PERMIT:-$bin/permit}")
 [ "$answer" = $'N 1 0\nP 4' ]
 
+# An image from the time when twins were accepted (g0 and g1 are 20, 21; g2 is 30): it is refused, and converted it is
+# the image of the text without them. An image without twins comes out byte for byte.
+printf '\1\0\64\0\3\0\2\0\1\6\1\0\24\0\25\6\1\0\24\0\25\4\1\0\36' > "$folder/twins.image"
+printf '\10\3\200\1\200\2\0\5\10\3\0\14\200\0\0\5\13\4\0\5\0\1\200\2\200\1\1' >> "$folder/twins.image"
+[ "$("${PERMIT:-$bin/permit}" < "$folder/twins.image")" = "R 19 15" ]
+printf 'group 20 21\ngroup 30\ntrans g0 g1 5\ntrans 12 g0 5\nlimit 5 1 g1 g0 1\n' |
+    "${COMPILE:-$bin/compile}" > "$folder/single.image"
+for old in twins single; do
+    "${CONVERT:-$bin/convert}" < "$folder/$old.image" | cmp - "$folder/single.image"
+done
+
 # A new image takes the old one's place where `permit` decides a query on it (docs/INTERFACE.md): not one that was cut, nor
 # where nothing was written.
 decides() {

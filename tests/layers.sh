@@ -55,7 +55,7 @@ fails "$(find crates -path '*/proofs/*.antt' ! -name Cases.antt ! -name Worked.a
     BEGIN {
         may["image format"] = may["extend extension"] = may["extend text"] = 1
         may["decide decision"] = may["numbers decision"] = 1
-        may["permit lines"] = may["compile lines"] = may["streams lines"] = 1
+        may["permit lines"] = may["compile lines"] = may["streams lines"] = may["rewrite conversion"] = 1
     }
     BEGIN { n = split("sample empty companion withSpace extended", names); for (i = 1; i <= n; i++) value[names[i]] = 1 }
     # an `unfolding` goes on over the lines that are indented further than it

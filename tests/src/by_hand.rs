@@ -59,4 +59,17 @@ impl Subject for ByHand {
             Err(TextRefusal { number, place }) => Err(format!("R {number} {place} {}\n", row_number(text, place))),
         }
     }
+
+    fn convert(&self, image: &[u8], buffer: &mut [u8]) -> Result<usize, Refusal> {
+        hand_written::convert(image, buffer)
+    }
+
+    /// What it writes to a buffer for the largest image, as the program would write it.
+    fn convert_program(&self, input: &[u8]) -> Result<Vec<u8>, String> {
+        let mut buffer = vec![0; LARGEST];
+        match self.convert(input, &mut buffer) {
+            Ok(length) => Ok(buffer[..length].to_vec()),
+            Err(Refusal { number, place }) => Err(format!("R {number} {place}\n")),
+        }
+    }
 }

@@ -82,6 +82,28 @@ impl Pair<'_> {
     pub fn compile(&self, text: &[u8]) -> Outcome {
         equal("compile", self.engine.compile(text), self.model.compile(text), || typed(text))
     }
+
+    pub fn convert(&self, image: &[u8], buffer: &[u8]) -> Outcome {
+        let shown = || format!("{} into {} bytes", hex(image), buffer.len());
+        let mut guarded = [&GUARD, buffer, &GUARD].concat();
+        let place = GUARD.len()..GUARD.len() + buffer.len();
+        let answer = self.engine.convert(image, &mut guarded[place.clone()]);
+        if answer.is_err() {
+            same_bytes("buffer after a refused convert", &guarded[place.clone()], buffer, shown)?;
+        }
+        let mut modelled = buffer.to_vec();
+        equal("convert", answer, self.model.convert(image, &mut modelled), shown)?;
+        same_bytes("buffer after convert", &guarded[place.clone()], &modelled, shown)?;
+        if guarded[..place.start] != GUARD || guarded[place.end..] != GUARD {
+            return Err(format!("convert wrote outside of its buffer: {}", shown()));
+        }
+        Ok(())
+    }
+
+    pub fn convert_program(&self, input: &[u8]) -> Outcome {
+        let answers = (self.engine.convert_program(input), self.model.convert_program(input));
+        equal("the program convert", answers.0, answers.1, || hex(input))
+    }
 }
 
 /// So many slots before a run: each holds another answer, and one that no row gets.

@@ -1,9 +1,10 @@
-//! The engine: the library, called through the crate `mungaite`, and the programs `permit` and `compile`, run as
-//! processes.
+//! The engine: the library, called through the crate `mungaite`, and the programs `permit`, `compile` and `convert`,
+//! run
+//! as processes.
 
 use crate::subject::{Answer, Subject, TextRefusal};
 use crate::text::row_number;
-use crate::{compiler, numbers};
+use crate::{filter, numbers};
 use mungaite::{BuildError, Query, Refusal, Run, Section};
 use std::io::{Read, Write};
 use std::ops::Range;
@@ -11,21 +12,23 @@ use std::path::PathBuf;
 use std::process::{Child, Command, Stdio};
 use std::{env, thread};
 
-/// Where the programs are unless the environment variables PERMIT and COMPILE name other places. Relative to this
-/// crate's folder.
+/// Where the programs are unless the environment variables PERMIT, COMPILE and CONVERT name other places. Relative to
+/// this crate's folder.
 const PERMIT: &str = "../target/bin/permit";
 const COMPILE: &str = "../target/bin/compile";
+const CONVERT: &str = "../target/bin/convert";
 
 pub struct Engine {
     permit: PathBuf,
     compile: PathBuf,
+    convert: PathBuf,
 }
 
 impl Engine {
     pub fn new() -> Engine {
         let crate_folder = PathBuf::from(env!("CARGO_MANIFEST_DIR"));
         let path = |name: &str, place: &str| env::var_os(name).map_or(crate_folder.join(place), PathBuf::from);
-        Engine { permit: path("PERMIT", PERMIT), compile: path("COMPILE", COMPILE) }
+        Engine { permit: path("PERMIT", PERMIT), compile: path("COMPILE", COMPILE), convert: path("CONVERT", CONVERT) }
     }
 
     /// The program `permit`, to be started.
@@ -38,7 +41,12 @@ impl Engine {
         Command::new(&self.compile)
     }
 
-    /// The program, started, with its input and output at hand.
+    /// The program `convert`, to be started.
+    pub fn converter(&self) -> Command {
+        Command::new(&self.convert)
+    }
+
+    /// The program `permit`, started, with its input and output at hand.
     pub fn start(&self) -> Child {
         self.program()
             .stdin(Stdio::piped())
@@ -108,7 +116,27 @@ impl Subject for Engine {
     }
 
     fn compile(&self, text: &[u8]) -> Result<Vec<u8>, String> {
-        compiler::compile(&mut self.compiler(), text)
+        filter::written(&mut self.compiler(), text)
+    }
+
+    /// The image by the crate, and the same by the C function.
+    fn convert(&self, image: &[u8], buffer: &mut [u8]) -> Result<usize, Refusal> {
+        let mut lent = buffer.to_vec();
+        let raw = numbers::convert(image, &mut lent);
+        let front = buffer.as_ptr();
+        let said = mungaite::convert(image, buffer).map(|new| {
+            assert_eq!(new.as_ptr(), front, "the image is the buffer's front");
+            new.len()
+        });
+        assert!(
+            raw == numbers::of_convert(said) && lent == buffer,
+            "{said:?} by the crate, {raw:#X} by the C function"
+        );
+        said
+    }
+
+    fn convert_program(&self, input: &[u8]) -> Result<Vec<u8>, String> {
+        filter::written(&mut self.converter(), input)
     }
 }
 

@@ -2,8 +2,8 @@
 
 mod by_hand;
 mod compare;
-mod compiler;
 mod engine;
+mod filter;
 mod generate;
 mod model;
 mod numbers;

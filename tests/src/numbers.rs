@@ -1,7 +1,8 @@
-//! A run and a text by the C functions themselves: rows and answers as numbers, by the table of `mungaite.h`.
+//! A run, a text and an old image by the C functions themselves: rows and answers as numbers, by the table of
+//! `mungaite.h`.
 
 use crate::subject::{Answer, TextRefusal};
-use mungaite::raw::{mungaite_build, mungaite_run};
+use mungaite::raw::{mungaite_build, mungaite_convert, mungaite_run};
 use mungaite::{Decision, Nearest, Query, Refusal, Run};
 
 /// Slots on either side of a list of answers, which no call may touch.
@@ -31,6 +32,19 @@ pub fn of_build(said: Result<usize, TextRefusal>) -> u64 {
     match said {
         Ok(length) => length as u64,
         Err(TextRefusal { number, place }) => u64::from(number) << 48 | place as u64,
+    }
+}
+
+/// The answer to an old image. The buffer's bounds are the caller's to guard.
+pub fn convert(image: &[u8], buffer: &mut [u8]) -> u64 {
+    // SAFETY: each pointer and count are those of one slice, and the slice that is written overlaps no other.
+    unsafe { mungaite_convert(image.as_ptr(), image.len(), buffer.as_mut_ptr(), buffer.len()) }
+}
+
+pub fn of_convert(said: Result<usize, Refusal>) -> u64 {
+    match said {
+        Ok(length) => parts(1, 0, length as u16),
+        Err(Refusal { number, place }) => parts(2, number, place),
     }
 }
 

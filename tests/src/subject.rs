@@ -34,4 +34,10 @@ pub trait Subject: Sync {
 
     /// What the program `compile` writes for a text: the image, or the line of a refusal.
     fn compile(&self, text: &[u8]) -> Result<Vec<u8>, String>;
+
+    /// The length of an old image without its twins, which is written to a buffer.
+    fn convert(&self, image: &[u8], buffer: &mut [u8]) -> Result<usize, Refusal>;
+
+    /// What the program `convert` writes for its input: the new image, or the line of a refusal.
+    fn convert_program(&self, input: &[u8]) -> Result<Vec<u8>, String>;
 }

@@ -2,9 +2,10 @@
 
 use super::alphabet::Alphabet;
 use super::damage::{damage_image, damage_record};
+use super::groups::{add_twins, fresh_group, full_groups};
 use super::policy::policy;
 use super::query::{concerned_query, query};
-use crate::draft::Draft;
+use crate::draft::{group, Draft};
 use crate::random::Random;
 use crate::sample::under;
 use mungaite::{Query, Section};
@@ -103,14 +104,19 @@ fn rows(random: &mut Random, alphabet: &Alphabet, draft: &Draft, count: usize) -
     queries
 }
 
-/// A buffer that starts with an image, and a record to add.
+/// A buffer that starts with an image, and a record to add: a group where there are 256 of them, as in one of a hundred
+/// cases.
 pub fn add_case(seed: u64) -> (Vec<u8>, Vec<u8>) {
     let random = &mut Random::new(seed);
     let alphabet = Alphabet::new(random);
-    let draft = policy(random, &alphabet);
+    let mut draft = policy(random, &alphabet);
+    if random.percent(1) {
+        full_groups(random, &mut draft.groups);
+    }
     let groups = draft.groups.len();
-    let mut record = match random.of(0..=2) {
-        0 => alphabet.group(random),
+    let kind = if groups == 256 { 0 } else { random.of(0..=2) };
+    let mut record = match kind {
+        0 => added_group(random, &alphabet, &draft),
         1 => alphabet.rule(random, groups),
         _ => alphabet.constraint(random, groups),
     };
@@ -129,6 +135,16 @@ pub fn add_case(seed: u64) -> (Vec<u8>, Vec<u8>) {
         buffer.truncate(random.of(0..=buffer.len()));
     }
     (buffer, record)
+}
+
+/// A group to be added: in one of four cases, or of two where there are 256, a twin of one that is there.
+fn added_group(random: &mut Random, alphabet: &Alphabet, draft: &Draft) -> Vec<u8> {
+    match draft.groups.len() {
+        count @ 1.. if random.percent(if count == 256 { 50 } else { 25 }) => {
+            draft.groups[random.of(0..=count - 1)].clone()
+        }
+        _ => fresh_group(random, alphabet, &draft.groups).unwrap_or(group(&[3, 998])),
+    }
 }
 
 /// The program's input: an image, seldom damaged, queries, and sometimes a few bytes more.
@@ -153,7 +169,12 @@ fn policy_and_queries(random: &mut Random) -> (Draft, Vec<Query>) {
     (draft, queries)
 }
 
+/// The policy's image, in so many of a hundred cases damaged, and in one of twenty with twins.
 fn image(random: &mut Random, draft: &Draft, damaged_percent: usize) -> Vec<u8> {
+    let mut draft = draft.clone();
+    if random.percent(5) && !draft.groups.is_empty() {
+        add_twins(random, &mut draft.groups);
+    }
     let mut image = draft.image();
     if random.percent(damaged_percent) {
         damage_image(random, &mut image);

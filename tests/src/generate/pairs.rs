@@ -1,6 +1,7 @@
 //! A policy and a second one that holds it, with a query on each: the terms of the order rule.
 
 use super::alphabet::Alphabet;
+use super::groups::fresh_group;
 use super::policy::policy;
 use super::query::{members, valid_query};
 use crate::draft::{Draft, COMPANION};
@@ -63,7 +64,8 @@ fn has_companion(draft: &Draft) -> bool {
 fn holder(random: &mut Random, alphabet: &Alphabet, held: &Draft) -> Draft {
     let mut holder = held.clone();
     for _ in 0..random.of(0..=2) {
-        holder.groups.push(alphabet.group(random));
+        let group = fresh_group(random, alphabet, &holder.groups);
+        holder.groups.extend(group);
     }
     holder.groups.truncate(256);
     let groups = holder.groups.len();

@@ -1,6 +1,7 @@
 //! Random policies that are accepted.
 
 use super::alphabet::Alphabet;
+use super::groups::{fresh_group, full_groups, named_group};
 use crate::draft::{allow, constraint, transition, Draft, COMPANION, ROSTER, SEPARATION};
 use crate::random::Random;
 
@@ -24,7 +25,11 @@ pub fn policy(random: &mut Random, alphabet: &Alphabet) -> Draft {
     }
     let mut draft = Draft::default();
     for _ in 0..counts[0] {
-        draft.groups.push(new_group(random, alphabet, &draft));
+        let group = fresh_group(random, alphabet, &draft.groups);
+        draft.groups.extend(group);
+    }
+    if counts[0] == 256 {
+        full_groups(random, &mut draft.groups);
     }
     let groups = draft.groups.len();
     draft.rules.extend((0..counts[1]).map(|_| alphabet.rule(random, groups)));
@@ -41,7 +46,7 @@ fn add_separation(random: &mut Random, alphabet: &Alphabet, draft: &mut Draft) {
     let [left, shared, right] = alphabet.three_basics(random);
     let [one, other] = [[left, shared], [shared, right]].map(|mut members| {
         members.sort_unstable();
-        draft.add_group(members)
+        named_group(draft, members)
     });
     let sources = [one, other, one, other, left, shared, right];
     let [first, second, _] = alphabet.three_basics(random);
@@ -81,13 +86,4 @@ fn add_switched(random: &mut Random, alphabet: &Alphabet, draft: &mut Draft) {
     random.shuffle(&mut draft.rules);
     let (class, action) = (alphabet.class(random), alphabet.action(random));
     draft.constraints.insert(0, constraint(class, action, first, second, predicate, &list));
-}
-
-/// A group, in one of five cases a copy of an earlier one.
-fn new_group(random: &mut Random, alphabet: &Alphabet, draft: &Draft) -> Vec<u8> {
-    if !draft.groups.is_empty() && random.percent(20) {
-        draft.groups[random.of(0..=draft.groups.len() - 1)].clone()
-    } else {
-        alphabet.group(random)
-    }
 }

@@ -2,6 +2,7 @@
 
 use super::alphabet::Alphabet;
 use super::damage_text::damage_rows;
+use super::groups::fresh_group;
 use super::query::bad_type;
 use crate::draft::{allow, constraint, group, transition};
 use crate::random::Random;
@@ -37,27 +38,34 @@ pub fn compile_case(seed: u64) -> Vec<u8> {
 fn records(random: &mut Random) -> Vec<Vec<u8>> {
     let alphabet = Alphabet::new(random);
     let count = if random.percent(3) { random.of(10..=60) } else { random.of(0..=8) };
-    let mut groups = 0;
+    let mut groups = Vec::new();
     let mut records = Vec::new();
     for _ in 0..count {
-        let record = record(random, &alphabet, groups);
-        groups += usize::from(record[1] == 1);
+        let record = record(random, &alphabet, &groups);
+        groups.extend((record[1] == 1).then(|| record.clone()));
         records.push(record);
     }
     records
 }
 
-fn record(random: &mut Random, alphabet: &Alphabet, groups: usize) -> Vec<u8> {
+fn record(random: &mut Random, alphabet: &Alphabet, defined: &[Vec<u8>]) -> Vec<u8> {
+    let groups = defined.len();
     match random.of(0..=39) {
         0 => long_group(random),
         1 => long_list(random, alphabet, groups),
         2 => bad_rule(random, alphabet, groups),
         3 => bad_limit(random, alphabet, groups),
         4 => bad_group(random),
-        5..=16 => alphabet.group(random),
+        5 if groups > 0 => defined[random.of(0..=groups - 1)].clone(),
+        5..=16 => any_group(random, alphabet, defined),
         17..=29 => alphabet.rule(random, groups),
         _ => alphabet.constraint(random, groups),
     }
+}
+
+/// A group that is not there yet, or a rule where all are.
+fn any_group(random: &mut Random, alphabet: &Alphabet, defined: &[Vec<u8>]) -> Vec<u8> {
+    fresh_group(random, alphabet, defined).unwrap_or_else(|| alphabet.rule(random, defined.len()))
 }
 
 /// A group of 63 to 66 members.

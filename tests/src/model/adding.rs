@@ -1,8 +1,9 @@
-//! Adding a record, with the causes 10 to 13.
+//! Adding a record, with the causes 10 to 13 and 20.
 
 use super::bytes::{number, Records};
 use super::check::section_of;
-use super::{refusal, Model, Slip};
+use super::twin_slip::Call;
+use super::{refusal, Model, Slip, TwinSlip};
 use mungaite::{Refusal, Section};
 
 impl Model {
@@ -18,10 +19,16 @@ impl Model {
         }
         let image = if self.slips(Slip::ImageToBufferEnd) { &*buffer } else { self.leading_image(buffer)? };
         let old_length = image.len();
-        let mut records = self.read(image)?;
+        if self.slips_on_twins(TwinSlip::AfterAdded) {
+            self.addable(&self.read_old(image)?, record, old_length, buffer.len())?;
+        }
+        let mut records = self.read_for(Call::Add, image)?;
         let addable = self.addable(&records, record, old_length, buffer.len());
         if self.slips(Slip::RefusedAddWrites) && addable.is_err() {
             buffer[2] ^= 1;
+        }
+        if addable == Err(refusal(20, 0)) && self.slips_on_twins(TwinSlip::AddedAnswersTwin) {
+            return Ok(self.twin_of_added(&records, record).unwrap_or(0) as u16);
         }
         let section = addable?;
         let n = records.of(section).len();
@@ -54,24 +61,38 @@ impl Model {
         Ok(section)
     }
 
-    /// The section that a record may be added to: causes 10 to 13.
+    /// The section that a record may be added to: causes 10, 11, 20, 12 and 13.
     pub fn addable(self, old: &Records, record: &[u8], image: usize, buffer: usize) -> Result<Section, Refusal> {
         let section = self.shaped(record)?;
         let bad_field = self.fields(record, old.of(Section::Groups).len() as u16).err();
         let is_full = |section: Section| old.of(section).len() >= self.limit(section);
         let full = is_full(section) || self.slips(Slip::FullElsewhere) && Section::ALL.into_iter().any(is_full);
         let wanted = image + record.len() + usize::from(self.slips(Slip::ExactRoomShort));
-        let mut causes = [(11, bad_field.is_some()), (12, full), (13, buffer < wanted)];
-        match self.slip {
-            Some(Slip::FullBeforeField) => causes.swap(0, 1),
-            Some(Slip::ShortBeforeFull) => causes.swap(1, 2),
-            Some(Slip::ShortBeforeField) => causes.rotate_right(1),
-            _ => {}
-        }
-        match causes.into_iter().find(|(_, applies)| *applies) {
-            Some((11, _)) => Err(refusal(11, self.added_place(old, section, bad_field.unwrap_or(0)))),
-            Some((cause, _)) => Err(refusal(cause, 0)),
+        let twin = self.twin_of_added(old, record);
+        let applies = |cause: &u16| match cause {
+            11 => bad_field.is_some(),
+            20 => twin.is_some(),
+            12 => full,
+            _ => buffer < wanted,
+        };
+        match self.causes_of_adding().into_iter().find(applies) {
+            Some(11) => Err(refusal(11, self.added_place(old, section, bad_field.unwrap_or(0)))),
+            Some(20) => Err(self.added_twin(old, twin.unwrap_or(0))),
+            Some(cause) => Err(refusal(cause, 0)),
             None => Ok(section),
+        }
+    }
+
+    /// The causes behind 10, in the order in which they come.
+    fn causes_of_adding(self) -> [u16; 4] {
+        match (self.slip, self.twin_slip) {
+            (Some(Slip::FullBeforeField), _) => [12, 11, 20, 13],
+            (Some(Slip::ShortBeforeFull), _) => [11, 20, 13, 12],
+            (Some(Slip::ShortBeforeField), _) => [13, 11, 20, 12],
+            (_, Some(TwinSlip::AddedBeforeField)) => [20, 11, 12, 13],
+            (_, Some(TwinSlip::FullBeforeAdded)) => [11, 12, 20, 13],
+            (_, Some(TwinSlip::ShortBeforeAdded)) => [11, 13, 20, 12],
+            _ => [11, 20, 12, 13],
         }
     }
 

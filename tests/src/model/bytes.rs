@@ -1,5 +1,6 @@
 //! "The policy image": numbers in bytes, and an image as three lists of records.
 
+use super::policy::{members, Set};
 use mungaite::Section;
 
 /// The length of the header, and so of the empty policy.
@@ -38,6 +39,17 @@ impl Records {
     pub fn with_first(mut self, section: Section, record: &[u8]) -> Records {
         self.lists[section as usize].insert(0, record.to_vec());
         self
+    }
+
+    /// The members of each group.
+    pub fn members(&self) -> Vec<Set> {
+        self.of(Section::Groups).iter().map(|group| members(group)).collect()
+    }
+
+    /// The place of a record in the image that holds these records.
+    pub fn place(&self, section: Section, n: usize) -> usize {
+        let earlier = Section::ALL.into_iter().filter(|other| *other < section).flat_map(|other| self.of(other));
+        HEADER + earlier.chain(&self.of(section)[..n]).map(Vec::len).sum::<usize>()
     }
 
     /// The length of the image that holds these records.

@@ -3,21 +3,25 @@
 use super::bytes::{count_place, number};
 use super::decide::Verdict;
 use super::policy::Policy;
-use super::{refusal, Model, Slip};
+use super::twin_slip::Call;
+use super::{refusal, Model, Slip, TwinSlip};
 use crate::subject::{Answer, Subject, TextRefusal};
 use mungaite::{Query, Refusal, Run, Section};
 use std::ops::Range;
 
 impl Subject for Model {
     fn check(&self, image: &[u8]) -> Result<(), Refusal> {
-        self.read(image).map(drop)
+        self.read_for(Call::Check, image).map(drop)
     }
 
     fn record(&self, image: &[u8], section: Section, n: u16) -> Result<Range<usize>, Refusal> {
         if self.slips(Slip::RecordBeforeImage) && self.misses(image, section, n) {
             return Err(refusal(14, 0));
         }
-        let records = self.read(image)?;
+        if self.slips_on_twins(TwinSlip::AfterRecordNumber) {
+            self.read_old(image)?.of(section).get(usize::from(n)).ok_or(refusal(14, 0))?;
+        }
+        let records = self.read_for(Call::Record, image)?;
         let mut n = usize::from(n);
         let count = records.of(section).len();
         if self.slips(Slip::RecordPastEnd) && n == count && count > 0 {
@@ -27,9 +31,8 @@ impl Subject for Model {
             n = n.checked_sub(1).ok_or(refusal(14, 0))?;
         }
         let record = records.of(section).get(n).ok_or(refusal(14, 0))?;
-        let earlier = Section::ALL.into_iter().filter(|other| *other < section).flat_map(|other| records.of(other));
-        let before: usize = earlier.chain(&records.of(section)[..n]).map(Vec::len).sum();
-        let place = if self.slips(Slip::RecordIn15Bits) { (9 + before) % 32_768 } else { 9 + before };
+        let place = records.place(section, n);
+        let place = if self.slips(Slip::RecordIn15Bits) { place % 32_768 } else { place };
         Ok(place..place + record.len())
     }
 
@@ -38,8 +41,10 @@ impl Subject for Model {
             let groups = image.get(3..5).map_or(0, |field| number(field, 0));
             self.query_types(query, groups)?;
         }
-        let policy = self.accepted(image, query)?;
-        Ok(self.judge(&policy, &policy.request(query)))
+        if self.slips_on_twins(TwinSlip::AfterQuery) {
+            self.answer(&self.old_policy(image)?, query).map(drop)?;
+        }
+        self.answer(&self.policy(&self.read_for(Call::Decide, image)?), query)
     }
 
     fn run(&self, image: &[u8], queries: &[Query], answers: &mut [Answer]) -> Result<Run, Refusal> {
@@ -61,6 +66,14 @@ impl Subject for Model {
     fn compile(&self, text: &[u8]) -> Result<Vec<u8>, String> {
         self.compiled(text)
     }
+
+    fn convert(&self, image: &[u8], buffer: &mut [u8]) -> Result<usize, Refusal> {
+        self.converted(image, buffer)
+    }
+
+    fn convert_program(&self, input: &[u8]) -> Result<Vec<u8>, String> {
+        self.convert_output(input)
+    }
 }
 
 impl Model {
@@ -77,6 +90,17 @@ impl Model {
         let policy = self.policy(&self.read(image)?);
         self.query_types(query, policy.groups.len() as u16)?;
         Ok(policy)
+    }
+
+    /// The policy of an image that passes 1 to 7, be there twins among its groups or not.
+    pub fn old_policy(self, image: &[u8]) -> Result<Policy, Refusal> {
+        self.read_old(image).map(|records| self.policy(&records))
+    }
+
+    /// The decision as it is defined on a policy, which may have twins: causes 8 and 9, then the decision.
+    pub fn answer(self, policy: &Policy, query: Query) -> Answer {
+        self.query_types(query, policy.groups.len() as u16)?;
+        Ok(self.judge(policy, &policy.request(query)))
     }
 
     /// Causes 8 and 9.

@@ -1,18 +1,19 @@
-//! Which images are accepted: causes 1 to 7, in their order.
+//! Which images are well formed: causes 1 to 7, in their order. `twins` has the last cause of an image, 19.
 
 use super::bytes::{count_place, number, Records, HEADER};
-use super::{refusal, Model, Slip};
+use super::{refusal, Model, Slip, TwinSlip};
 use mungaite::{Refusal, Section};
 
 impl Model {
-    /// The records of an image, or the first cause that applies to it.
-    pub fn read(self, image: &[u8]) -> Result<Records, Refusal> {
+    /// The records of an image, be there twins among its groups or not, or the first of the causes 1 to 7 that applies
+    /// to it.
+    pub fn read_old(self, image: &[u8]) -> Result<Records, Refusal> {
         if self.slips(Slip::CountsBeforeLength) && image.len() >= HEADER {
             self.counts(image)?;
         }
         let leading = self.leading_image(image)?;
         if leading.len() != image.len() {
-            return if self.slips(Slip::LongerSlicePasses) { self.read(leading) } else { Err(refusal(3, 0)) };
+            return if self.slips(Slip::LongerSlicePasses) { self.read_old(leading) } else { Err(refusal(3, 0)) };
         }
         self.counts(image)?;
         if self.slips(Slip::FieldsAfterRecords) {
@@ -86,11 +87,14 @@ impl Model {
                 }
                 records.push(section_of(record[1]).unwrap_or(section), record);
                 place += record.len();
+                self.twins_early(TwinSlip::BeforeLaterGroups, &records)?;
                 if self.slips(Slip::CheckIn15Bits) {
                     place %= 32_768;
                 }
             }
+            self.twins_early(TwinSlip::BeforeLaterSections, &records)?;
         }
+        self.twins_early(TwinSlip::BeforeTrailing, &records)?;
         if place < image.len() && !self.slips(Slip::TrailingPasses) {
             return Err(refusal(7, if self.slips(Slip::LastTrailingNamed) { image.len() - 1 } else { place }));
         }

@@ -12,6 +12,7 @@ impl Model {
         let before_form = match self.text_slip {
             Some(TextSlip::WordNamed) => return (18, word_place(row, word)),
             Some(TextSlip::FieldBeforeForm) => 11,
+            Some(TextSlip::TwinBeforeForm) => 20,
             Some(TextSlip::FullBeforeForm) => 12,
             Some(TextSlip::ShortBeforeForm) => 13,
             _ => return (18, 0),
@@ -47,7 +48,9 @@ impl Model {
                 let outside = rows.iter().find(|(_, row)| self.record_of(row).is_err());
                 outside.map_or(refused, |&(place, _)| TextRefusal { number: 18, place })
             }
-            (12, Some(TextSlip::FullAtZero)) | (13, Some(TextSlip::ShortAtZero)) => TextRefusal { place: 0, ..refused },
+            (12, Some(TextSlip::FullAtZero)) | (13, Some(TextSlip::ShortAtZero)) | (20, Some(TextSlip::TwinAtZero)) => {
+                TextRefusal { place: 0, ..refused }
+            }
             (_, Some(TextSlip::PlaceNarrow)) => TextRefusal { place: refused.place % 65536, ..refused },
             _ => refused,
         }

@@ -1,4 +1,4 @@
-//! An accepted image with every type as the set of basic types that it stands for.
+//! A well-formed image with every type as the set of basic types that it stands for.
 
 use super::bytes::{number, Records};
 use super::fields::words;
@@ -14,6 +14,11 @@ pub fn within(inner: &Set, outer: &Set) -> bool {
 
 pub fn touches(one: &Set, other: &Set) -> bool {
     !one.is_disjoint(other)
+}
+
+/// The members of a group record.
+pub fn members(group: &[u8]) -> Set {
+    words(group, 2).map(|at| number(group, at)).collect()
 }
 
 pub struct Policy {
@@ -59,11 +64,11 @@ pub struct Request {
 }
 
 impl Model {
-    /// The policy of accepted records.
+    /// The policy of well-formed records.
     pub fn policy(self, records: &Records) -> Policy {
         let mut policy = Policy { groups: Vec::new(), rules: Vec::new(), constraints: Vec::new() };
         for record in records.of(Section::Groups) {
-            let mut members: Set = words(record, 2).map(|at| number(record, at)).collect();
+            let mut members = members(record);
             match self.slip {
                 Some(Slip::LastMemberLost) if members.len() > 1 => drop(members.pop_last()),
                 Some(Slip::FirstMemberLost) if members.len() > 1 => drop(members.pop_first()),

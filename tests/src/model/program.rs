@@ -1,6 +1,7 @@
 //! What the program `permit` prints, with the cause 15.
 
 use super::bytes::number;
+use super::twin_slip::Call;
 use super::{refusal, Model, Slip};
 use crate::subject::{Answer, Subject};
 use mungaite::{Decision, Nearest, Query, Refusal};
@@ -9,7 +10,7 @@ impl Model {
     /// The whole output for an input: an image, then queries of 12 bytes.
     pub fn printed(self, input: &[u8]) -> String {
         let leading = if self.slips(Slip::ImageToInputEnd) { Ok(input) } else { self.leading_image(input) };
-        let accepted = leading.and_then(|image| self.read(image).map(|_| image));
+        let accepted = leading.and_then(|image| self.read_for(Call::Permit, image).map(|_| image));
         let image = match accepted {
             Ok(image) => image,
             Err(refusal) => return self.line(Err(refusal)),

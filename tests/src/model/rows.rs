@@ -1,7 +1,8 @@
 //! Many queries at once, with the causes 16 and 17: request [1] of document 02.
 
-use super::{refusal, Model, Slip};
-use crate::subject::{Answer, Subject};
+use super::twin_slip::Call;
+use super::{refusal, Model, Slip, TwinSlip};
+use crate::subject::Answer;
 use mungaite::{Decision, Query, Refusal, Run};
 
 impl Model {
@@ -46,12 +47,21 @@ impl Model {
             _ => slots != rows,
         };
         let row_count = (rows < least || rows > most).then_some(refusal(16, 0));
-        let mut causes = [self.check(image).err(), row_count, other_length.then_some(refusal(17, 0))];
+        let other_length = other_length.then_some(refusal(17, 0));
+        let mut causes = [self.read_for(Call::Run, image).err(), row_count, other_length];
         match self.slip {
             Some(Slip::RowCountBeforeImage) => causes.swap(0, 1),
             Some(Slip::ListBeforeImage) => causes.rotate_right(1),
             Some(Slip::ListBeforeRowCount) => causes.swap(1, 2),
             _ => {}
+        }
+        let late = match self.twin_slip {
+            Some(TwinSlip::AfterRows) => row_count,
+            Some(TwinSlip::AfterList) => other_length,
+            _ => None,
+        };
+        if late.is_some() {
+            causes = [self.read_old(image).err(), late, causes[0]];
         }
         causes.into_iter().flatten().next().map_or(Ok(()), Err)
     }

@@ -77,11 +77,12 @@ impl Model {
         rows
     }
 
-    /// Adds a row's record: 18, then 11, 12 and 13.
+    /// Adds a row's record: 18, then 11, 20, 12 and 13.
     fn add_row(self, row: &[u8], records: &mut Records, buffer: usize) -> Result<(), Refused> {
         let record = self.record_of(row).map_err(|word| self.outside(row, word, records, buffer))?;
         match self.addable(records, &record, records.image_length(), buffer) {
             Ok(section) => records.push(section, &record),
+            Err(refused) if refused.number == 20 && self.slips_in_text(TextSlip::TwinRowSkipped) => {}
             Err(refused) => {
                 if self.slips_in_text(TextSlip::RefusedRowAdded) && records.image_length() + record.len() <= buffer {
                     records.push(section_of(record[1]).unwrap_or(Section::Groups), &record);

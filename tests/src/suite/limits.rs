@@ -12,6 +12,7 @@ pub const TESTS: &[Cases] = &[
     Cases { name: "limits/run", count: Count::Listed(CASES), run },
     Cases { name: "limits/record", count: Count::Listed(CASES), run: record },
     Cases { name: "limits/add", count: Count::Listed(CASES), run: add },
+    Cases { name: "limits/convert", count: Count::Listed(3 * CASES), run: convert },
     Cases { name: "limits/permit", count: Count::Listed(CASES), run: permit },
 ];
 
@@ -112,10 +113,13 @@ fn record(pair: &Pair, case: u64) -> Outcome {
 
 /// Each kind of record into a buffer with no room, with just too little, with just enough and with more.
 fn add(pair: &Pair, case: u64) -> Outcome {
-    let image = policy(case).image();
+    let draft = policy(case);
+    let image = draft.image();
     let full_list = [mungaite::group(0); 16];
     let records = [
         group(&(960..1024).collect::<Vec<u16>>()),
+        draft.groups[0].clone(),
+        draft.groups[draft.groups.len() - 1].clone(),
         allow(1, mungaite::group(2), 3, 4, 0),
         transition(1, 2, 3),
         constraint(1, 1, 1, 1, 2, &full_list),
@@ -127,6 +131,23 @@ fn add(pair: &Pair, case: u64) -> Outcome {
         }
     }
     Ok(())
+}
+
+/// The policy as it is; with its last group a twin of its first, which all of its records may name; and with every
+/// other
+/// group a twin of the one before.
+fn convert(pair: &Pair, case: u64) -> Outcome {
+    let mut draft = policy(case / 3);
+    let last = draft.groups.len() - 1;
+    match case % 3 {
+        0 => {}
+        1 => draft.groups[last] = draft.groups[0].clone(),
+        _ => (0..last).step_by(2).for_each(|n| draft.groups[n + 1] = draft.groups[n].clone()),
+    }
+    let image = draft.image();
+    pair.check(&image)?;
+    pair.convert(&image, &vec![0x5A; image.len() + 3])?;
+    pair.convert(&image, &vec![0x5A; image.len() - 1])
 }
 
 /// One query of each rule asked, and one more.

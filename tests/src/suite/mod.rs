@@ -1,8 +1,11 @@
 //! The tests, in the order in which they run.
 
+mod converts;
 mod limits;
 mod mutation;
 mod mutation_text;
+mod mutation_twins;
+mod old;
 mod order;
 mod random;
 mod reached;
@@ -10,11 +13,13 @@ mod reached_separation;
 mod reached_steps;
 mod reached_switches;
 mod reached_text;
+mod reached_twins;
 mod round_trip;
 mod rows;
 mod steps;
 mod streams;
 mod streams_compile;
+mod streams_convert;
 mod streams_failing;
 mod sweep;
 mod switches;
@@ -33,9 +38,9 @@ fn differential() -> Vec<Cases> {
 
 /// The tests of any engine.
 fn of_any() -> Vec<Cases> {
-    let properties = [rows::TESTS, steps::TESTS, switches::TESTS, round_trip::TESTS, order::TESTS].concat();
+    let properties = [rows::TESTS, steps::TESTS, switches::TESTS, round_trip::TESTS, order::TESTS, old::TESTS].concat();
     let on_images = [differential(), properties, sweep::PROGRAM.to_vec()].concat();
-    [worked::TESTS, worked::TEXTS, &on_images, texts::TESTS, text_rows::TESTS].concat()
+    [worked::TESTS, worked::TEXTS, worked::TWINS, &on_images, texts::TESTS, text_rows::TESTS, converts::TESTS].concat()
 }
 
 pub fn all(run: &mut Run) {
@@ -45,13 +50,15 @@ pub fn all(run: &mut Run) {
         .chain(streams::TESTS)
         .chain(streams_compile::TESTS)
         .chain(streams_failing::TESTS)
+        .chain(streams_convert::TESTS)
     {
         run.cases(test);
     }
     for test in &of_any() {
         run.cases_by_hand(test);
     }
-    for test in reached::tests().iter().chain(&mutation::tests()).chain(&mutation_text::tests()) {
+    let mutations = [mutation::tests(), mutation_text::tests(), mutation_twins::tests()];
+    for test in reached::tests().iter().chain(mutations.iter().flatten()) {
         run.whole(test);
     }
 }

@@ -3,7 +3,7 @@
 use super::order::{decisions, PAIRS};
 use super::random::{ADD, CHECK, DECIDE, RECORD, RUN};
 use super::tally::Tally;
-use super::{reached_separation, reached_steps, reached_switches, reached_text};
+use super::{reached_separation, reached_steps, reached_switches, reached_text, reached_twins};
 use crate::compare::unanswered;
 use crate::generate::{add_case, check_case, decide_case, pair_case, record_case, run_case};
 use crate::model::Model;
@@ -30,6 +30,12 @@ pub fn tests() -> Vec<Whole> {
         test("reached/build", reached_text::places),
         test("reached/build-kinds", reached_text::kinds),
         test("reached/build-ends", reached_text::ends),
+        test("reached/twins", reached_twins::named),
+        test("reached/twins-added", reached_twins::added),
+        test("reached/convert", reached_twins::convert),
+        test("reached/convert-sets", reached_twins::sets),
+        test("reached/convert-buffers", reached_twins::buffers),
+        test("reached/convert-answers", reached_twins::answers),
     ]
 }
 
@@ -43,7 +49,7 @@ fn check(run: &Run) -> Finding {
     for seed in run.seeds(&CHECK) {
         tally.see(outcome(run.engine.check(&check_case(seed))));
     }
-    tally.judge((0..=7).collect())
+    tally.judge((0..=7).chain([19]).collect())
 }
 
 fn record(run: &Run) -> Finding {
@@ -52,7 +58,7 @@ fn record(run: &Run) -> Finding {
         let (image, section, n) = record_case(seed);
         tally.see(outcome(run.engine.record(&image, section, n)));
     }
-    tally.judge((0..=7).chain([14]).collect())
+    tally.judge((0..=7).chain([14, 19]).collect())
 }
 
 fn decide(run: &Run) -> Finding {
@@ -64,7 +70,7 @@ fn decide(run: &Run) -> Finding {
         }
     }
     let decisions = ["NotPermitted", "Permitted", "UnKnown"].map(String::from);
-    tally.judge((1..=9).map(|number| number.to_string()).chain(decisions).collect())
+    tally.judge((1..=9).chain([19]).map(|number| number.to_string()).chain(decisions).collect())
 }
 
 /// The decision's name, or the refusal's number.
@@ -89,7 +95,7 @@ fn run(run: &Run) -> Finding {
     let fit = ["fit", "fit, 1", "fit, 64"].map(String::from);
     let unfit =
         ["NotPermitted", "UnKnown", "8", "9"].into_iter().flat_map(|kind| [kind.to_string(), format!("{kind}, last")]);
-    let refused = (1..=7).chain([16, 17]).map(|number| format!("refused, {number}"));
+    let refused = (1..=7).chain([16, 17, 19]).map(|number| format!("refused, {number}"));
     tally.judge(fit.into_iter().chain(unfit).chain(refused).collect())
 }
 
@@ -99,7 +105,7 @@ fn add(run: &Run) -> Finding {
         let (mut buffer, record) = add_case(seed);
         tally.see(outcome(run.engine.add(&mut buffer, &record)));
     }
-    tally.judge((0..=7).chain(10..=13).collect())
+    tally.judge((0..=7).chain(10..=13).chain([19, 20]).collect())
 }
 
 /// Of applying constraints of covered queries: the predicate, whether the query is within both arguments, and whether

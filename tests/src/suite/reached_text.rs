@@ -13,7 +13,8 @@ const PLACES: [&str; 4] = ["alone", "first", "between", "last"];
 /// The first words of rows, and any other.
 const KINDS: [&str; 5] = ["group", "allow", "trans", "limit", "other"];
 
-/// The refusals that the texts reach; 12 needs a section at its limit, and the tests of limits have it.
+/// The refusals that the texts reach at every place; 20 needs a row before it. 12 needs a section at its limit, and the
+/// tests of limits have it.
 const REFUSALS: [u16; 3] = [11, 13, 18];
 
 /// What a text of a case gets, and its rows that are not empty, each with its place.
@@ -58,7 +59,8 @@ pub fn places(run: &Run) -> Finding {
         });
     }
     let refused = REFUSALS.into_iter().flat_map(|number| PLACES.map(|place| (number, place)));
-    tally.judge(refused.chain([(0, "accepted"), (13, "under 9")]).collect())
+    let twins = [(20, "between"), (20, "last")];
+    tally.judge(refused.chain(twins).chain([(0, "accepted"), (13, "under 9")]).collect())
 }
 
 /// Rows by their first word and by what they get; 0 stands for a row that is added.
@@ -79,7 +81,7 @@ pub fn kinds(run: &Run) -> Finding {
         }
     }
     let known = KINDS[..4].iter().flat_map(|kind| [0, 11, 13, 18].map(|number| (*kind, number)));
-    tally.judge(known.chain([("other", 18)]).collect())
+    tally.judge(known.chain([("group", 20), ("other", 18)]).collect())
 }
 
 fn kind(row: &[u8]) -> &'static str {

@@ -3,13 +3,13 @@
 
 use super::watched::start;
 use crate::compare::{equal, typed, Outcome, Pair};
-use crate::compiler::wrote;
 use crate::engine::Engine;
+use crate::filter::wrote;
 use crate::runner::{Cases, Count};
 use crate::sample::{SAMPLE, SAMPLE_TEXT};
 use std::fs::{remove_file, write, File};
 use std::io::Write;
-use std::process::Stdio;
+use std::process::{Command, Stdio};
 use std::thread::{scope, sleep};
 use std::time::Duration;
 use std::{env, process};
@@ -41,7 +41,9 @@ fn pieces(_: &Pair, case: u64) -> Outcome {
     for (behind, expected) in [("", Ok(SAMPLE.to_vec())), ("GROUP", Err("R 18 123 8\n".to_string()))] {
         let text = [SAMPLE_TEXT, behind].concat();
         let (first, rest) = text.as_bytes().split_at(case as usize);
-        equal("compile", from_pieces(&[first, rest])?, expected, || format!("{} in two", typed(text.as_bytes())))?;
+        equal("compile", from_pieces(Engine::new().compiler(), &[first, rest])?, expected, || {
+            format!("{} in two", typed(text.as_bytes()))
+        })?;
     }
     Ok(())
 }
@@ -50,10 +52,12 @@ fn pieces(_: &Pair, case: u64) -> Outcome {
 fn blocks(_: &Pair, case: u64) -> Outcome {
     let place = BLOCKS[(case / STARTS) as usize] - (case % STARTS) as usize;
     let text = "\n".repeat(place) + ROW + "group 7";
-    equal("compile", from_file(case, text.as_bytes())?, Ok(RULE_AND_GROUP.to_vec()), || typed(text.as_bytes()))?;
+    equal("compile", from_file(Engine::new().compiler(), case, text.as_bytes())?, Ok(RULE_AND_GROUP.to_vec()), || {
+        typed(text.as_bytes())
+    })?;
     let text = "\n".repeat(place) + &ROW.replace("on", "oN") + "group 7";
     let line = format!("R 18 {place} {}\n", place + 1);
-    equal("compile", from_file(case, text.as_bytes())?, Err(line), || typed(text.as_bytes()))
+    equal("compile", from_file(Engine::new().compiler(), case, text.as_bytes())?, Err(line), || typed(text.as_bytes()))
 }
 
 /// What a row of any length starts with, what it goes on with, and what stands behind it.
@@ -72,7 +76,7 @@ fn long_rows(_: &Pair, case: u64) -> Outcome {
     for length in [390, 511, 512, 513, 4095, 4096, 4097, 65_535, 65_536, 65_537, 131_072, 200_000, 1_000_000] {
         let row = first.to_string() + &next.repeat(length / next.len());
         let text = ["\ngroup 7\n", &row, behind].concat();
-        let from_pipe = from_pieces(&[text.as_bytes()])?;
+        let from_pipe = from_pieces(Engine::new().compiler(), &[text.as_bytes()])?;
         equal("compile", from_pipe, Err("R 18 9 3\n".to_string()), || typed(text.as_bytes()))?;
     }
     Ok(())
@@ -85,12 +89,13 @@ fn empty_rows(_: &Pair, case: u64) -> Outcome {
         0 => (&b"group 7"[..], Ok(vec![1, 0, 13, 0, 1, 0, 0, 0, 0, 4, 1, 0, 7])),
         _ => (&b"group"[..], Err("R 18 10000000 10000001\n".to_string())),
     };
-    equal("compile", from_pieces(&[&vec![b'\n'; MANY], row])?, expected, || "ten million empty rows".to_string())
+    let said = from_pieces(Engine::new().compiler(), &[&vec![b'\n'; MANY], row])?;
+    equal("compile", said, expected, || "ten million empty rows".to_string())
 }
 
-/// What the program makes of a text that comes in pieces. It may end before it has read everything.
-fn from_pieces(pieces: &[&[u8]]) -> Result<Result<Vec<u8>, String>, String> {
-    let mut child = start(Engine::new().compiler().stdin(Stdio::piped()).stdout(Stdio::piped()))?;
+/// What a program makes of an input that comes in pieces. It may end before it has read everything.
+pub fn from_pieces(mut program: Command, pieces: &[&[u8]]) -> Result<Result<Vec<u8>, String>, String> {
+    let mut child = start(program.stdin(Stdio::piped()).stdout(Stdio::piped()))?;
     let mut stdin = child.stdin.take().expect("stdin is piped");
     let output = scope(|scope| {
         scope.spawn(move || {
@@ -106,11 +111,11 @@ fn from_pieces(pieces: &[&[u8]]) -> Result<Result<Vec<u8>, String>, String> {
     Ok(wrote(output.map_err(|error| error.to_string())?))
 }
 
-/// What the program makes of a text in a file.
-fn from_file(case: u64, text: &[u8]) -> Result<Result<Vec<u8>, String>, String> {
+/// What a program makes of a file.
+pub fn from_file(mut program: Command, case: u64, text: &[u8]) -> Result<Result<Vec<u8>, String>, String> {
     let path = env::temp_dir().join(format!("mungaite-tests-{}-{case}", process::id()));
     let file = write(&path, text).and_then(|()| File::open(&path)).map_err(|error| error.to_string())?;
     remove_file(&path).map_err(|error| error.to_string())?;
-    let child = start(Engine::new().compiler().stdin(file).stdout(Stdio::piped()))?;
+    let child = start(program.stdin(file).stdout(Stdio::piped()))?;
     Ok(wrote(child.wait_with_output().map_err(|error| error.to_string())?))
 }

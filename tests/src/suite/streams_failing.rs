@@ -82,8 +82,8 @@ fn compile(input: impl Into<Stdio>, output: impl Into<Stdio>) -> Result<Child, S
     start(Engine::new().compiler().stdin(input).stdout(output))
 }
 
-/// Whether the program ends by itself, with this output and this on standard error.
-fn ends(mut child: Child, output: &[u8], error: &str) -> Outcome {
+/// Whether a program ends by itself, with this output and this on standard error.
+pub fn ends(mut child: Child, output: &[u8], error: &str) -> Outcome {
     let status = ended(&mut child)?;
     let mut written = Vec::new();
     if let Some(mut stdout) = child.stdout.take() {

@@ -67,6 +67,8 @@ fn every_call(pair: &Pair, image: &[u8]) -> Outcome {
     let room = [image, &[0x5A; 20]].concat();
     pair.add(image, &group(&[1, 2]))?;
     pair.add(&room, &group(&[1, 2]))?;
+    pair.add(&room, &group(&[20, 21]))?;
+    pair.convert(image, &[0x5A; SAMPLE.len()])?;
     pair.add(&room, &allow(1, mungaite::group(0), 5, 3, 1))?;
     pair.add(&room, &constraint(5, 1, 10, mungaite::group(1), 3, &[]))
 }

@@ -70,7 +70,7 @@ pub fn start(program: &mut Command) -> Result<Child, String> {
     program
         .stderr(Stdio::piped())
         .spawn()
-        .map_err(|error| format!("cannot run {:?} (set PERMIT or COMPILE): {error}", program.get_program()))
+        .map_err(|error| format!("cannot run {:?} (set PERMIT, COMPILE, CONVERT): {error}", program.get_program()))
 }
 
 pub fn send(to: &mut impl Write, bytes: &[u8]) -> Outcome {

@@ -1,14 +1,15 @@
 //! Adding to the sample, and what refuses it.
 
 use super::decide::ALLOW_10_30;
+use super::many::lone_groups;
 use super::no;
 use crate::compare::{equal, same_bytes, Outcome, Pair};
-use crate::draft::{allow, group, Draft};
+use crate::draft::{allow, Draft};
 use crate::sample::SAMPLE;
 use crate::subject::Subject;
 use mungaite::Refusal;
 
-type Row = (&'static str, fn() -> Vec<u8>, &'static [u8], Result<u16, Refusal>, fn() -> Vec<u8>);
+pub type Row = (&'static str, fn() -> Vec<u8>, &'static [u8], Result<u16, Refusal>, fn() -> Vec<u8>);
 
 /// What is added, the buffer, the record, the answer, the buffer afterwards.
 #[rustfmt::skip]
@@ -73,10 +74,10 @@ pub const ROWS: &[Row] = &[
     ("a full section, no room", full, ALLOW_10_30, no(12, 0), full),
     ("a full section, with room", || roomy(full()), ALLOW_10_30, no(12, 0), || roomy(full())),
     ("a group, no room, where the rules are full", full, &[4, 1, 0, 7], no(13, 0), full),
-    ("a group, where the rules are full", || roomy(full()), &[4, 1, 0, 7], Ok(0), || spent(many(1, 1024, 0), 4)),
+    ("a group, where the rules are full", || roomy(full()), &[4, 1, 0, 100], Ok(0), || spent(many(1, 1024, 0), 4)),
     ("a rule, where the groups are full", || roomy(many(256, 0, 0)), RULE, Ok(0), || spent(many(256, 1, 0), 11)),
     ("rule 1,023", || roomy(many(0, 1023, 0)), RULE, Ok(1023), || spent(many(0, 1024, 0), 11)),
-    ("group 255", || roomy(many(255, 0, 0)), &[4, 1, 0, 7], Ok(255), || spent(many(256, 0, 0), 4)),
+    ("group 255", || roomy(many(255, 0, 0)), &[4, 1, 1, 99], Ok(255), || spent(many(256, 0, 0), 4)),
     ("a 257th group", || roomy(many(256, 0, 0)), &[4, 1, 0, 7], no(12, 0), || roomy(many(256, 0, 0))),
     ("a 257th group, of 1024", || roomy(many(256, 0, 0)), &[4, 1, 4, 0], no(11, 2), || roomy(many(256, 0, 0))),
     ("constraint 255", || roomy(many(0, 0, 255)), BAN, Ok(255), || spent(many(0, 0, 256), 11)),
@@ -118,7 +119,10 @@ const RULE_AND_256: [u8; 267] = {
 };
 
 pub fn run(pair: &Pair, case: u64) -> Outcome {
-    let (what, buffer, record, answer, after) = ROWS[case as usize];
+    adds(pair, ROWS[case as usize])
+}
+
+pub fn adds(pair: &Pair, (what, buffer, record, answer, after): Row) -> Outcome {
     let subjects: [(&str, &dyn Subject); 2] = [("engine", pair.engine), ("model", &pair.model)];
     for (name, subject) in subjects {
         let mut buffer = buffer();
@@ -129,7 +133,7 @@ pub fn run(pair: &Pair, case: u64) -> Outcome {
 }
 
 /// The sample and so many bytes, each another than the one before.
-fn room(bytes: usize) -> Vec<u8> {
+pub fn room(bytes: usize) -> Vec<u8> {
     [&SAMPLE[..], &rest(bytes)].concat()
 }
 
@@ -139,7 +143,7 @@ fn rest(bytes: usize) -> Vec<u8> {
 
 /// The sample with a record put in at a place, and the low byte of a count set. It takes up the first bytes of the room,
 /// and so many are left.
-fn grown(count_place: usize, count: u8, at: usize, record: &[u8], left: usize) -> Vec<u8> {
+pub fn grown(count_place: usize, count: u8, at: usize, record: &[u8], left: usize) -> Vec<u8> {
     let room = rest(record.len() + left);
     let mut bytes = [&SAMPLE[..at], record, &SAMPLE[at..], &room[record.len()..]].concat();
     bytes[2] = 80 + record.len() as u8;
@@ -154,9 +158,10 @@ fn grown_by_both() -> Vec<u8> {
     bytes
 }
 
-/// So many groups of 7, allow rules 1 to 2, class 3, action 4, on, and bans of class 5, action 1, arguments 10 and 21.
-fn many(groups: usize, rules: usize, constraints: usize) -> Vec<u8> {
-    let (groups, rules) = (vec![group(&[7]); groups], vec![allow(1, 2, 3, 4, 1); rules]);
+/// So many groups of one member, 100 and up, allow rules 1 to 2, class 3, action 4, on, and bans of class 5, action 1,
+/// arguments 10 and 21.
+pub fn many(groups: u16, rules: usize, constraints: usize) -> Vec<u8> {
+    let (groups, rules) = (lone_groups(groups), vec![allow(1, 2, 3, 4, 1); rules]);
     Draft { groups, rules, constraints: vec![BAN.to_vec(); constraints] }.image()
 }
 
@@ -165,12 +170,12 @@ fn full() -> Vec<u8> {
 }
 
 /// An image and 20 bytes.
-fn roomy(image: Vec<u8>) -> Vec<u8> {
+pub fn roomy(image: Vec<u8>) -> Vec<u8> {
     [image, rest(20)].concat()
 }
 
 /// An image that has taken up so many of the 20 bytes.
-fn spent(image: Vec<u8>, bytes: usize) -> Vec<u8> {
+pub fn spent(image: Vec<u8>, bytes: usize) -> Vec<u8> {
     [image, rest(20)[bytes..].to_vec()].concat()
 }
 

@@ -58,8 +58,6 @@ pub const ROWS: &[Row] = &[
         &[&[8, 3, 128, 1, 128, 0, 0, 1]], &[]),
     ("groups as arguments and listed types", "group 7\ngroup 8\nlimit 5 1 g0 g1 2 g1 9 g0\n", &[GROUP_7, GROUP_8], &[],
         &[&[17, 4, 0, 5, 0, 1, 128, 0, 128, 1, 2, 128, 1, 0, 9, 128, 0]]),
-    ("groups with equal members", "group 7\ngroup 7\ntrans g1 g1 1\n", &[GROUP_7, GROUP_7],
-        &[&[8, 3, 128, 1, 128, 1, 0, 1]], &[]),
     // Rows in any order: each record goes to the end of its section.
     ("sections mixed", "limit 5 1 10 21 0\ntrans 12 20 5\ngroup 7\nallow g0 7 5 1 on\ngroup 8\nlimit 5 1 10 21 3\n",
         &[GROUP_7, GROUP_8], &[&[8, 3, 0, 12, 0, 20, 0, 5], &[11, 2, 128, 0, 0, 7, 0, 5, 0, 1, 1]],

@@ -2,13 +2,14 @@
 
 use super::both;
 use super::build::built;
+use super::many::{lone_groups, lone_rows};
 use crate::compare::{Outcome, Pair};
 use crate::draft::{allow, constraint, group, transition, Draft};
 use crate::sample::{EMPTY, SAMPLE, SAMPLE_TEXT};
 use crate::subject::TextRefusal;
 use crate::suite::texts::room;
 
-type Row = (&'static str, fn() -> String, usize, Result<(), (u16, usize)>, fn() -> Vec<u8>);
+pub type Row = (&'static str, fn() -> String, usize, Result<(), (u16, usize)>, fn() -> Vec<u8>);
 
 /// What is built, the text, the buffer's length, the refusal and its place, the image afterwards.
 #[rustfmt::skip]
@@ -47,14 +48,14 @@ pub const ROWS: &[Row] = &[
     ("a group that is defined later", || "group 7\ntrans g1 1 2\ngroup 8\n".into(), 40, Err((11, 8)), seven),
     ("a group that is defined behind the row", || "trans g0 1 2\ngroup 7\n".into(), 40, Err((11, 0)), empty),
     // Sections at their limits.
-    ("256 groups", || "group 7\n".repeat(256), 1033, Ok(()), groups),
-    ("a 257th group", || "group 7\n".repeat(257), 1038, Err((12, 2048)), groups),
-    ("a 257th group, no room", || "group 7\n".repeat(257), 1033, Err((12, 2048)), groups),
-    ("a 257th group, 1024", || "group 7\n".repeat(256) + "group 1024", 1038, Err((11, 2048)), groups),
-    ("a 257th group, outside the form", || "group 7\n".repeat(256) + "group 7 ", 1038, Err((18, 2048)), groups),
-    ("a rule, where the groups are full", || "group 7\n".repeat(256) + "trans g255 g0 3", 1041, Ok(()),
+    ("256 groups", || lone_rows(256), 1033, Ok(()), groups),
+    ("a 257th group", || lone_rows(257), 1038, Err((12, 2560)), groups),
+    ("a 257th group, no room", || lone_rows(257), 1033, Err((12, 2560)), groups),
+    ("a 257th group, 1024", || lone_rows(256) + "group 1024", 1038, Err((11, 2560)), groups),
+    ("a 257th group, outside the form", || lone_rows(256) + "group 7 ", 1038, Err((18, 2560)), groups),
+    ("a rule, where the groups are full", || lone_rows(256) + "trans g255 g0 3", 1041, Ok(()),
         groups_and_rule),
-    ("group 256, where there are 256", || "group 7\n".repeat(256) + "trans g256 g0 3", 1041, Err((11, 2048)), groups),
+    ("group 256, where there are 256", || lone_rows(256) + "trans g256 g0 3", 1041, Err((11, 2560)), groups),
     ("1,024 rules", || "allow 1 2 3 4 on\n".repeat(1024), 11_273, Ok(()), rules),
     ("a 1,025th rule", || "allow 1 2 3 4 on\n".repeat(1025), 20_000, Err((12, 17_408)), rules),
     ("a transition as the 1,025th rule", || "allow 1 2 3 4 on\n".repeat(1024) + "\ntrans 1 2 3", 11_273,
@@ -70,7 +71,7 @@ pub const ROWS: &[Row] = &[
     ("18 at 65,536", || far(65_536) + "GROUP", 40, Err((18, 65_536)), empty),
     ("11 at 70,008", || "group 7\n".to_string() + &far(70_000) + "group 1024", 40, Err((11, 70_008)), seven),
     ("13 at 131,072", || far(131_072) + "group 7", 9, Err((13, 131_072)), empty),
-    ("12 at 102,048", || "group 7\n".repeat(256) + &far(100_000) + "group 7", 1038, Err((12, 102_048)), groups),
+    ("12 at 102,560", || lone_rows(256) + &far(100_000) + "group 7", 1038, Err((12, 102_560)), groups),
     ("a group behind 200,000 empty rows", || far(200_000) + "group 7", 13, Ok(()), seven),
     ("a row of 70,000 bytes", || "group 7\n".to_string() + &"7".repeat(70_000), 40, Err((18, 8)), seven),
     ("a row of 70,000 words", || "group 7\ngroup".to_string() + &" 7".repeat(70_000), 40, Err((18, 8)), seven),
@@ -78,7 +79,10 @@ pub const ROWS: &[Row] = &[
 ];
 
 pub fn run(pair: &Pair, case: u64) -> Outcome {
-    let (what, text, length, said, image) = ROWS[case as usize];
+    runs(pair, ROWS[case as usize])
+}
+
+pub fn runs(pair: &Pair, (what, text, length, said, image): Row) -> Outcome {
     let (text, image) = (text(), image());
     let said = said.map(|()| image.len()).map_err(|(number, place)| TextRefusal { number, place });
     let after = [&image[..], &room(length)[image.len()..]].concat();
@@ -95,7 +99,7 @@ pub fn under_9(pair: &Pair, case: u64) -> Outcome {
     Ok(())
 }
 
-fn far(rows: usize) -> String {
+pub fn far(rows: usize) -> String {
     "\n".repeat(rows)
 }
 
@@ -103,7 +107,7 @@ fn empty() -> Vec<u8> {
     EMPTY.to_vec()
 }
 
-fn seven() -> Vec<u8> {
+pub fn seven() -> Vec<u8> {
     vec![1, 0, 13, 0, 1, 0, 0, 0, 0, 4, 1, 0, 7]
 }
 
@@ -115,17 +119,17 @@ fn before_the_last() -> Vec<u8> {
 }
 
 /// Groups of one member each.
-fn many(members: &[u16]) -> Vec<u8> {
+pub fn many(members: &[u16]) -> Vec<u8> {
     Draft { groups: members.iter().map(|member| group(&[*member])).collect(), ..Draft::default() }.image()
 }
 
-fn groups() -> Vec<u8> {
-    many(&[7; 256])
+pub fn groups() -> Vec<u8> {
+    Draft { groups: lone_groups(256), ..Draft::default() }.image()
 }
 
 fn groups_and_rule() -> Vec<u8> {
     let rules = vec![transition(32768 + 255, 32768, 3)];
-    Draft { groups: vec![group(&[7]); 256], rules, ..Draft::default() }.image()
+    Draft { groups: lone_groups(256), rules, ..Draft::default() }.image()
 }
 
 fn rules() -> Vec<u8> {

@@ -1,5 +1,6 @@
 //! Which images are accepted.
 
+use super::many::lone_groups;
 use super::permit::longest_with;
 use super::{both, no};
 use crate::compare::{Outcome, Pair};
@@ -167,7 +168,7 @@ pub fn run(pair: &Pair, case: u64) -> Outcome {
 }
 
 /// The bytes with other values at some places.
-fn with(bytes: &[u8], changes: &[(usize, u8)]) -> Vec<u8> {
+pub fn with(bytes: &[u8], changes: &[(usize, u8)]) -> Vec<u8> {
     let mut bytes = bytes.to_vec();
     for &(place, value) in changes {
         bytes[place] = value;
@@ -188,7 +189,7 @@ fn rising(count: u16) -> Vec<u16> {
     (0..count).collect()
 }
 
-fn groups(members: &[&[u16]]) -> Vec<u8> {
+pub fn groups(members: &[&[u16]]) -> Vec<u8> {
     Draft { groups: members.iter().map(|members| group(members)).collect(), ..Draft::default() }.image()
 }
 
@@ -202,5 +203,5 @@ fn constraints(records: &[Vec<u8>]) -> Vec<u8> {
 
 /// 256 groups of 4 bytes, and a rule, at 1,033.
 fn of_256_groups(rule: Vec<u8>) -> Vec<u8> {
-    Draft { groups: vec![group(&[7]); 256], rules: vec![rule], ..Draft::default() }.image()
+    Draft { groups: lone_groups(256), rules: vec![rule], ..Draft::default() }.image()
 }

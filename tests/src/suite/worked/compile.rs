@@ -1,6 +1,7 @@
 //! What the program `compile` writes: an image, or the line of a refusal with the row's number, counted from 1.
 
 use super::both;
+use super::many::lone_rows;
 use crate::compare::{Outcome, Pair};
 use crate::sample::{SAMPLE, SAMPLE_TEXT};
 
@@ -25,9 +26,8 @@ pub const ROWS: &[Row] = &[
     ("carriage returns", || SAMPLE_TEXT.replace('\n', "\r\n"), Err("R 18 0 1\n")),
     ("a carriage return between rows", || "group 7\n\r\ngroup 8\n".into(), Err("R 18 8 2\n")),
     ("a carriage return at the end", || "group 7\n\r".into(), Err("R 18 8 2\n")),
-    ("a 257th group", || "group 7\n".repeat(257), Err("R 12 2048 257\n")),
-    ("a 257th group, a row empty", || "group 7\n".repeat(128) + "\n" + &"group 7\n".repeat(129),
-        Err("R 12 2049 258\n")),
+    ("a 257th group", || lone_rows(257), Err("R 12 2560 257\n")),
+    ("a 257th group, a row empty", || lone_rows(128) + "\n" + &lone_rows(257)[1280..], Err("R 12 2561 258\n")),
     ("a 1,025th rule", || "trans 1 2 3\n".repeat(1025), Err("R 12 12288 1025\n")),
     ("a 257th limit", || "limit 1 2 3 4 0\n".repeat(257), Err("R 12 4096 257\n")),
     ("a place and a row above 65,535", || "\n".repeat(70_000) + "group", Err("R 18 70000 70001\n")),

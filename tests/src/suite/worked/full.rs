@@ -51,7 +51,7 @@ pub fn permit(pair: &Pair, _: u64) -> Outcome {
 
 fn image() -> Vec<u8> {
     let mut draft = Draft {
-        groups: vec![group(&[1, 2]); 256],
+        groups: (0..256).map(|n| group(&[1, 2 + n])).collect(),
         rules: vec![allow(1, 2, 8, 9, 1); 1024],
         constraints: vec![constraint(8, 7, 1, 2, 0, &[]); 256],
     };

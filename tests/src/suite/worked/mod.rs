@@ -1,5 +1,5 @@
 //! Document 01's worked cases with its answers, and further rows whose answers were worked out by hand from its clauses
-//! and from requests [1] to [6]. Both engines and the model must give them.
+//! and from requests [1] to [7]. Both engines and the model must give them.
 
 mod add;
 mod build;
@@ -10,9 +10,15 @@ mod build_words;
 mod check;
 mod compile;
 mod constraints;
+mod convert;
+mod convert_answers;
+mod convert_buffers;
+mod convert_numbers;
+mod convert_program;
 mod decide;
 mod decide_numbers;
 mod full;
+mod many;
 mod nearest;
 mod nearest_rows;
 mod order;
@@ -27,6 +33,10 @@ mod small;
 mod switch_predicates;
 mod switch_rows;
 mod switches;
+mod twins;
+mod twins_added;
+mod twins_calls;
+mod twins_text;
 
 use crate::compare::{equal, Outcome, Pair};
 use crate::runner::{Cases, Count};
@@ -95,7 +105,63 @@ pub const TEXTS: &[Cases] = &[
         run: build_buffers::run,
     },
     Cases { name: "worked/build-under-9", count: Count::Listed(9), run: build_buffers::under_9 },
+    Cases { name: "worked/build-twins", count: Count::Listed(twins_text::ROWS.len() as u64), run: twins_text::run },
+    Cases {
+        name: "worked/compile-twins",
+        count: Count::Listed(twins_text::LINES.len() as u64),
+        run: twins_text::lines,
+    },
     Cases { name: "worked/compile", count: Count::Listed(compile::ROWS.len() as u64), run: compile::run },
+];
+
+/// Twins and old images.
+pub const TWINS: &[Cases] = &[
+    Cases { name: "worked/twins", count: Count::Listed(twins::ROWS.len() as u64), run: twins::run },
+    Cases {
+        name: "worked/twins-record",
+        count: Count::Listed(twins_calls::RECORDS.len() as u64),
+        run: twins_calls::record,
+    },
+    Cases {
+        name: "worked/twins-decide",
+        count: Count::Listed(twins_calls::QUERIES.len() as u64),
+        run: twins_calls::decide,
+    },
+    Cases { name: "worked/twins-run", count: Count::Listed(twins_calls::RUNS.len() as u64), run: twins_calls::run },
+    Cases { name: "worked/twins-add", count: Count::Listed(twins_calls::ADDED.len() as u64), run: twins_calls::add },
+    Cases {
+        name: "worked/twins-permit",
+        count: Count::Listed(twins_calls::PRINTED.len() as u64),
+        run: twins_calls::permit,
+    },
+    Cases { name: "worked/twins-added", count: Count::Listed(twins_added::ROWS.len() as u64), run: twins_added::run },
+    Cases { name: "worked/convert", count: Count::Listed(convert::ROWS.len() as u64), run: convert::run },
+    Cases { name: "worked/convert-buffers", count: Count::Listed(convert_buffers::SIZES), run: convert_buffers::sizes },
+    Cases {
+        name: "worked/convert-old-buffers",
+        count: Count::Listed(convert_buffers::SIZES),
+        run: convert_buffers::old_sizes,
+    },
+    Cases {
+        name: "worked/convert-refused",
+        count: Count::Listed(check::ROWS.len() as u64),
+        run: convert_buffers::checked,
+    },
+    Cases {
+        name: "worked/convert-twins",
+        count: Count::Listed(twins::ROWS.len() as u64),
+        run: convert_buffers::with_twins,
+    },
+    Cases {
+        name: "worked/convert-answers",
+        count: Count::Listed(convert_answers::ROWS.len() as u64),
+        run: convert_answers::run,
+    },
+    Cases {
+        name: "worked/convert-program",
+        count: Count::Listed(convert_program::ROWS.len() as u64),
+        run: convert_program::run,
+    },
 ];
 
 /// Rows that only the library can be asked.
@@ -108,6 +174,12 @@ pub const OF_THE_LIBRARY: &[Cases] = &[
     },
     Cases { name: "worked/run-counts", count: Count::Listed(run_numbers::ROWS.len() as u64), run: run_numbers::counts },
     Cases { name: "worked/run-every-count", count: Count::Listed(6 * 67), run: run_numbers::every_count },
+    Cases {
+        name: "worked/convert-numbers",
+        count: Count::Listed(convert_numbers::ROWS.len() as u64),
+        run: convert_numbers::run,
+    },
+    Cases { name: "worked/twins-numbers", count: Count::Listed(1), run: convert_numbers::refused },
     Cases { name: "worked/run-kinds", count: Count::Listed(1), run: run_numbers::kinds },
     Cases { name: "worked/run-words", count: Count::Listed(1), run: run_numbers::words },
     Cases {

@@ -77,11 +77,11 @@ fn input(queries: &[Query], left: &[u8]) -> Vec<u8> {
     [&SAMPLE[..], &queries, left].concat()
 }
 
-/// The longest image, 55,561 bytes, with these bytes at a place: 256 groups of 130 bytes from 9 on, 1,024 rules of 11, and
-/// 256 constraints of 43, the last at 55,518.
+/// The longest image, 55,561 bytes, with these bytes at a place: 256 groups of 130 bytes from 9 on, each of 64 types
+/// that start at its number, 1,024 rules of 11, and 256 constraints of 43, the last at 55,518.
 pub fn longest_with(place: usize, bytes: &[u8]) -> Vec<u8> {
     let draft = Draft {
-        groups: vec![group(&(100..164).collect::<Vec<u16>>()); 256],
+        groups: (0..256).map(|n| group(&(n..n + 64).collect::<Vec<u16>>())).collect(),
         rules: vec![allow(1, 2, 8, 9, 1); 1024],
         constraints: vec![constraint(8, 7, 1, 2, 2, &[3; 16]); 256],
     };

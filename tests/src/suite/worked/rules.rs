@@ -34,7 +34,6 @@ pub const ROWS: &[Row] = &[
     ("the first member, as destination", || policy(&[&[2, 3, 5]], &[on(1, G0)], &[]), ask(1, 2), p(0)),
     ("the last member, as destination", || policy(&[&[2, 3, 5]], &[on(1, G0)], &[]), ask(1, 5), p(0)),
     ("the group itself", || policy(&[&[1, 3]], &[on(G0, 2)], &[]), ask(G0, 2), p(0)),
-    ("an equal group", || policy(&[&[1, 3], &[1, 3]], &[on(G0, 2)], &[]), ask(G1, 2), p(0)),
     ("a group within", || policy(&[&[1, 3, 5], &[1, 5]], &[on(G0, 2)], &[]), ask(G1, 2), p(0)),
     ("a group between the ends, and not within", || policy(&[&[1, 5, 9], &[1, 8]], &[on(G0, 2)], &[]), ask(G1, 2), n(1, 0)),
     ("a group that starts below", || policy(&[&[1, 5, 9], &[0, 5, 9]], &[on(2, G0)], &[]), ask(2, G1), n(2, 0)),

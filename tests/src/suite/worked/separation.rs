@@ -6,8 +6,6 @@ use super::small::*;
 use crate::compare::{Outcome, Pair};
 use crate::draft::allow;
 
-const G2: u16 = 32770;
-
 /// 64 members: 100, 102 and so on to 226, and 101, 103 and so on to 227.
 const EVEN: [u16; 64] = by_twos(100);
 const ODD: [u16; 64] = by_twos(101);
@@ -65,8 +63,6 @@ pub const ROWS: &[Row] = &[
     ("73 for 9", &[&[8, 9]], || vec![other(73, 1), other(G0, 2)], || separation(1, 2), true),
     // Two groups.
     ("the same group", &[&[8, 9]], || vec![other(G0, 1), other(G0, 2)], || separation(1, 2), false),
-    ("equal groups", &[&[8, 9], &[8, 9]], || vec![other(G0, 1), other(G1, 2)], || separation(1, 2), false),
-    ("equal groups, the higher first", &[&[8, 9], &[8, 9]], || vec![other(G1, 1), other(G0, 2)], || separation(1, 2), false),
     ("groups that share the first", &[&[7, 8], &[7, 9]], || vec![other(G0, 1), other(G1, 2)], || separation(1, 2), false),
     ("groups that share the last", &[&[7, 9], &[8, 9]], || vec![other(G0, 1), other(G1, 2)], || separation(1, 2), false),
     ("groups that share one between others", &[&[6, 8, 11], &[7, 8, 10]], || vec![other(G0, 1), other(G1, 2)], || separation(1, 2), false),

@@ -10,6 +10,7 @@ use mungaite::{Decision, Nearest, Query, Refusal};
 pub type Row = (&'static str, fn() -> Vec<u8>, Query, Result<Decision, Refusal>);
 
 pub const G1: u16 = 32769;
+pub const G2: u16 = 32770;
 
 pub const ASKED: Query = ask(1, 2);
 
