@@ -26,6 +26,7 @@ static const char capital[] = "group 20 21\n\nallow 10 g0 5 1 on\nallow 20 30 5 
 static const char undefined[] = "allow 10 g0 5 1 on\ngroup 20 21\n";
 static const char returns[] = "group 20 21\r\nallow 10 g0 5 1 on\r\n";
 static const char no_switch[] = "group 20 21\nallow 15 30 5 4 s32\n";
+static const char twin[] = "group 20 21\ngroup 22\ngroup 20 21\n";
 
 static uint8_t buffer[MUNGAITE_LARGEST];
 
@@ -62,6 +63,8 @@ static const char *cause(unsigned refusal)
         return "the section is full";
     case 13:
         return "the buffer is too short";
+    case 20:
+        return "a group row before has these members";
     default:
         return "the row is outside the form";
     }
@@ -141,5 +144,6 @@ int main(void)
     build(undefined);
     build(returns);
     build(no_switch);
+    build(twin);
     return 0;
 }

@@ -11,6 +11,7 @@
  *   0, 0, 0, 0                 from mungaite_check: accepted
  *   0, 1, place, length        from mungaite_record: where the record stands
  *   0, 1, 0, number            from mungaite_add: the new record's number
+ *   0, 1, 0, length            from mungaite_convert: the new image's length
  *   0, 1, 0, 0                 from mungaite_run: fit, every row is Permitted
  *   0, 0, 0, row               from mungaite_run: not fit, and the first row that is not Permitted
  *
@@ -28,11 +29,15 @@
  * that have it on and off for all others, where it is to cover the query and where a constraint asks about the rules. In
  * a record the condition is the last byte, 0 off, 1 on, 2 to 33 for switches 0 to 31; a text says off, on, s0 to s31.
  *
- * A pointer must be valid for the bytes, numbers or slots whose count is given with it. mungaite_add and mungaite_build
- * write to their buffers and mungaite_run to its answers; what they write must not overlap anything else that is lent,
- * and nothing else is written. A refused call writes nothing, but for mungaite_build's. The functions keep nothing
- * between calls and use no heap. They may be called from several threads, as long as nothing is written by one thread
- * while another uses it.
+ * Groups with the same members are twins, and no policy has any: an image with twins is refused (19, at the first group
+ * that repeats an earlier one), and so is a twin that is to be added (20). Images from the time when twins were
+ * accepted go through mungaite_convert once. A group of one member and that basic type are no twins.
+ *
+ * A pointer must be valid for the bytes, numbers or slots whose count is given with it. mungaite_add, mungaite_build
+ * and mungaite_convert write to their buffers and mungaite_run to its answers; what they write must not overlap
+ * anything else that is lent, and nothing else is written. A refused call writes nothing, but for mungaite_build's. The
+ * functions keep nothing between calls and use no heap. They may be called from several threads, as long as nothing is
+ * written by one thread while another uses it.
  */
 #ifndef MUNGAITE_H
 #define MUNGAITE_H
@@ -46,7 +51,7 @@ extern "C" {
 
 /* The second part of an answer. */
 #define MUNGAITE_NOT_PERMITTED 0 /* also: an image is accepted, a run is not fit */
-#define MUNGAITE_PERMITTED 1     /* also: a record was found, a record was added, a run is fit */
+#define MUNGAITE_PERMITTED 1     /* also: a record was found or added, an image converted, a run is fit */
 #define MUNGAITE_REFUSED 2
 #define MUNGAITE_UNKNOWN 3
 
@@ -102,12 +107,12 @@ extern "C" {
 #define MUNGAITE_LARGEST 55561
 #define MUNGAITE_EMPTY 9
 
-/* Checks an image: 0 where it is accepted, else the refusal (1 to 7). */
+/* Checks an image: 0 where it is accepted, else the refusal (1 to 7, 19). */
 uint64_t mungaite_check(const uint8_t *image, size_t length);
 
 /* Checks the image and decides a query on it, while the switches of the word `switches` are on: the decision, or the
- * refusal (1 to 9). Where it is NotPermitted and not MUNGAITE_NO_RULES, mungaite_record finds the rule that came
- * nearest. */
+ * refusal (1 to 7, 19, then 8, 9). Where it is NotPermitted and not MUNGAITE_NO_RULES, mungaite_record finds the rule
+ * that came nearest. */
 uint64_t mungaite_decide(uint16_t source, uint16_t destination, uint16_t class_, uint16_t action, uint32_t switches,
                          const uint8_t *image, size_t length);
 
@@ -115,23 +120,24 @@ uint64_t mungaite_decide(uint16_t source, uint16_t destination, uint16_t class_,
  * the high and the low half of its switch word (MUNGAITE_ROW); `numbers` counts all of them, and `rows` the slots of
  * the answers. Slot k gets what mungaite_decide gives for row k, a refusal (8 or 9) included, and all rows are
  * answered. The answer is MUNGAITE_FIT where every row is Permitted, else the number of the first row that is
- * NotPermitted, UnKnown or refused, counted from 0. The call itself is refused where the image is (1 to 7), then where
- * there is no whole row or more than 64 (16), then where `numbers` is not 6 times `rows` (17); no slot is written then,
- * so each holds what it held before. */
+ * NotPermitted, UnKnown or refused, counted from 0. The call itself is refused where the image is (1 to 7, 19), then
+ * where there is no whole row or more than 64 (16), then where `numbers` is not 6 times `rows` (17); no slot is written
+ * then, so each holds what it held before. */
 uint64_t mungaite_run(const uint16_t *queries, size_t numbers, uint64_t *answers, size_t rows, const uint8_t *image,
                       size_t length);
 
-/* Checks the image and finds record n of a section: its place and length, or the refusal (1 to 7, 14). A section above
- * 2 has no record. */
+/* Checks the image and finds record n of a section: its place and length, or the refusal (1 to 7, 19, then 14). A
+ * section above 2 has no record. */
 uint64_t mungaite_record(uint16_t section, uint16_t n, const uint8_t *image, size_t length);
 
 /* Adds a record to the image that the buffer starts with, in place, at the end of the record's section: the record's
- * number, or the refusal (1 to 7, 10 to 13) and no byte is changed. The new image's length stands in bytes 1 and 2;
- * the bytes past it stay as they were. */
+ * number, or the refusal (1 to 7, 19, then 10, 11, 20, 12, 13) and no byte is changed. A group whose members are those
+ * of one that is there gives 20, also where the section is full. The new image's length stands in bytes 1 and 2; the
+ * bytes past it stay as they were. */
 uint64_t mungaite_add(uint8_t *buffer, size_t length, const uint8_t *record, size_t record_length);
 
-/* Builds a policy from text, at the front of the buffer: the image's length, or the refusal (11, 12, 13, 18) and the
- * place of the refused row. Look at MUNGAITE_BUILD_REFUSAL, then at MUNGAITE_BUILD_REST.
+/* Builds a policy from text, at the front of the buffer: the image's length, or the refusal (18, 11, 20, 12, 13) and
+ * the place of the refused row. Look at MUNGAITE_BUILD_REFUSAL, then at MUNGAITE_BUILD_REST.
  *
  * Each row of the text is a record, which is added to the empty policy as mungaite_add adds it:
  *
@@ -158,6 +164,7 @@ uint64_t mungaite_add(uint8_t *buffer, size_t length, const uint8_t *record, siz
  *
  *   18  the row is outside the form
  *   11  a word breaks its rule
+ *   20  a group row with the members of a group row before it
  *   12  the policy has 256 groups, 1024 rules (allow, trans) or 256 constraints (limit) already
  *   13  the buffer is too short for one more record; MUNGAITE_LARGEST bytes hold every policy
  *
@@ -166,6 +173,16 @@ uint64_t mungaite_add(uint8_t *buffer, size_t length, const uint8_t *record, siz
  * use, build the next one in another buffer. But a buffer under MUNGAITE_EMPTY bytes is left as it was, with 13 at
  * place 0, whatever the text. The bytes past the image stay as they were, on a refusal too. */
 uint64_t mungaite_build(const uint8_t *text, size_t text_length, uint8_t *buffer, size_t length);
+
+/* Writes an image without its twins to the front of the buffer: the new image's length, or the refusal (1 to 7, then 13
+ * where the buffer cannot hold the new image) and no byte is changed. The bytes past the new image stay as they were.
+ *
+ * The image is checked but for its twins; this function alone takes them. Of the groups with the same members the
+ * lowest stays and the others go, later groups move down, and each rule and each constraint names the groups by their
+ * new numbers. Rules and constraints keep theirs. An image without twins comes out byte for byte. A buffer as long as
+ * the image is always enough. A group's new number is the number of the group in the new image that has its members: a
+ * query whose groups are changed to their new numbers gets the answer that it got before. */
+uint64_t mungaite_convert(const uint8_t *image, size_t length, uint8_t *buffer, size_t buffer_length);
 
 #ifdef __cplusplus
 }

@@ -63,7 +63,7 @@ impl Case {
     }
 
     /// Ends the program where the engines differ.
-    fn compare(&self) {
+    pub fn compare(&self) {
         if mungaite::check(&self.image).is_err() || check(&self.image).is_err() {
             self.fail("the image is refused");
         }

@@ -1,7 +1,9 @@
 //! Mungaite against a hand-written engine: the same work, in one run.
 
 mod cases;
+mod checks;
 mod contest;
+mod conversions;
 mod measure;
 mod ours;
 mod program;
@@ -14,6 +16,7 @@ use cases::constraints::held;
 use cases::search::{self, search};
 use cases::sizes::{self, limit, middle, sample};
 use cases::switched;
+use cases::twins;
 use measure::Effort;
 use program::Program;
 use std::env;
@@ -65,6 +68,8 @@ fn main() {
     rows::print_held("2.0 or less is wanted of those that ask the rules", &held, effort);
     rows::print_held("rules that wait for switches, and words", &switched::rows(), effort);
     texts::print(&cases::texts::all(), effort);
+    checks::print(&twins::checked(), effort);
+    conversions::print(&twins::conversions(), effort);
     match Program::find() {
         Ok(permit) => {
             permit.growth(&limit(), runs);

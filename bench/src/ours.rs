@@ -1,7 +1,7 @@
 //! Mungaite's functions, as libmungaite.a exports them to C, by the raw declarations of the crate in `rust/`.
 //! None of them decides without a check, so `contest` takes the decision alone as a difference.
 
-use mungaite::raw::{mungaite_build, mungaite_check, mungaite_decide, mungaite_record, mungaite_run};
+use mungaite::raw::{mungaite_build, mungaite_check, mungaite_convert, mungaite_decide, mungaite_record, mungaite_run};
 use mungaite::{Query, Section};
 
 pub fn check(image: &[u8]) -> u64 {
@@ -30,4 +30,9 @@ pub fn run(image: &[u8], numbers: &[u16], answers: &mut [u64]) -> u64 {
 pub fn build(text: &[u8], buffer: &mut [u8]) -> u64 {
     // SAFETY: each pointer and length are those of one slice, and the slice that is written overlaps no other.
     unsafe { mungaite_build(text.as_ptr(), text.len(), buffer.as_mut_ptr(), buffer.len()) }
+}
+
+pub fn convert(image: &[u8], buffer: &mut [u8]) -> u64 {
+    // SAFETY: each pointer and length are those of one slice, and the slice that is written overlaps no other.
+    unsafe { mungaite_convert(image.as_ptr(), image.len(), buffer.as_mut_ptr(), buffer.len()) }
 }

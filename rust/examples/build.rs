@@ -17,7 +17,7 @@ limit 5 2 20 30 1
 ";
 
 /// Texts with a row that is refused, each for another reason.
-const REFUSED: [&str; 8] = [
+const REFUSED: [&str; 9] = [
     "group 20 21\n\nallow 10 g0 5 1 on\nallow 20 30 5 2 On\ntrans 12 20 5\n",
     "group 20 21\r\nallow 10 g0 5 1 on\r\n",
     "group 20 21\nallow 10 g0 5 on\n",
@@ -26,6 +26,7 @@ const REFUSED: [&str; 8] = [
     "group 20 21\nallow 15 30 5 4 s32\n",
     "allow 10 g0 5 1 on\ngroup 20 21\n",
     "limit 5 1 10 21 2\n",
+    "group 20 21\nallow 10 g0 5 1 on\ngroup 20 21\n",
 ];
 
 fn main() {

@@ -134,6 +134,15 @@ pub(crate) fn added(answer: u64) -> Result<u16, Refusal> {
     }
 }
 
+/// The length of the image that was written to a buffer.
+pub(crate) fn converted(answer: u64, buffer: &[u8]) -> Result<usize, Refusal> {
+    match parts(answer) {
+        [0, 1, 0, length] if usize::from(length) <= buffer.len() => Ok(usize::from(length)),
+        [0, 2, number, place] => Err(Refusal { number, place }),
+        _ => foreign(answer),
+    }
+}
+
 /// The length of the image that was built in a buffer, or a refusal's number and its place in the text.
 pub(crate) fn built(answer: u64, text: &[u8], buffer: &[u8]) -> Result<usize, (u16, usize)> {
     let [number, ..] = parts(answer);

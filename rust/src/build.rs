@@ -18,12 +18,12 @@ use std::{error, fmt};
 /// | `trans 12 20 5` | source, destination, class |
 /// | `limit 5 1 10 21 2 10` | class, action, two arguments, predicate, and a list of up to 16 types |
 ///
-/// Groups are numbered from 0 in the order of their rows. Where a type is wanted (source, destination, an argument, the
-/// list), it is a basic type, or `g` and the number of a group whose row stands before. A class and an action are 0 to
-/// 65535. An `allow` row with a switch is on in the queries that have that switch on. Predicate 0 is a ban, 1 a
-/// separation, 2 a roster and 3 a companion; a roster has a list of at least one type, and the others have none. A
-/// policy has at most 256 groups, 1,024 rules (`allow` and `trans`) and 256 constraints (`limit`), and
-/// [`LARGEST`](crate::LARGEST) bytes hold every image.
+/// Groups are numbered from 0 in the order of their rows, and no two have the same members. Where a type is wanted
+/// (source, destination, an argument, the list), it is a basic type, or `g` and the number of a group whose row stands
+/// before. A class and an action are 0 to 65535. An `allow` row with a switch is on in the queries that have that
+/// switch on. Predicate 0 is a ban, 1 a separation, 2 a roster and 3 a companion; a roster has a list of at least one
+/// type, and the others have none. A policy has at most 256 groups, 1,024 rules (`allow` and `trans`) and 256
+/// constraints (`limit`), and [`LARGEST`](crate::LARGEST) bytes hold every image.
 ///
 /// A refused row ends the building, and the buffer then starts with the image of the rows before it, which
 /// [`image`](crate::image) gives: what stood there is gone. Do not decide by it, since the limits of later rows are not
@@ -53,7 +53,7 @@ pub fn build<'t, 'b>(text: &'t [u8], buffer: &'b mut [u8]) -> Result<&'b [u8], B
 /// It borrows the text. What is to outlive the text is the message, which `to_string` gives.
 #[derive(Clone, Copy, PartialEq, Eq)]
 pub struct BuildError<'t> {
-    /// The number of the cause: 11, 12, 13 or 18.
+    /// The number of the cause: 11, 12, 13, 18 or 20.
     pub number: u16,
     /// The place in the text of the row's first byte; 0 where the buffer has fewer than 9 bytes.
     pub place: usize,
@@ -69,7 +69,7 @@ impl<'t> BuildError<'t> {
         let (before, rest) = text.split_at(place);
         let row = 1 + before.iter().filter(|byte| **byte == b'\n').count();
         let text = rest.split(|byte| *byte == b'\n').next().unwrap_or(rest);
-        BuildError { number, place, row, text, wrong: diagnosis::find(Cause::of(number), text, buffer) }
+        BuildError { number, place, row, text, wrong: diagnosis::find(Cause::of(number), before, text, buffer) }
     }
 
     /// The cause; `None` for a number that this crate does not know.

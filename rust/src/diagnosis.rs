@@ -8,8 +8,8 @@ use crate::{Cause, EMPTY};
 /// Marks that editors put at the start of a text.
 const BYTE_ORDER_MARKS: [&[u8]; 3] = [b"\xEF\xBB\xBF", b"\xFE\xFF", b"\xFF\xFE"];
 
-/// What is wrong with a row, from the cause and from the buffer that holds the image of the rows before.
-pub(crate) fn find<'t>(cause: Option<Cause>, row: &'t [u8], buffer: &[u8]) -> Wrong<'t> {
+/// What is wrong with a row, from the cause, from the text before it and from the buffer that holds that text's image.
+pub(crate) fn find<'t>(cause: Option<Cause>, before: &[u8], row: &'t [u8], buffer: &[u8]) -> Wrong<'t> {
     if buffer.len() < EMPTY.len() {
         return Wrong::NoBuffer(buffer.len());
     }
@@ -18,11 +18,20 @@ pub(crate) fn find<'t>(cause: Option<Cause>, row: &'t [u8], buffer: &[u8]) -> Wr
     let found = match cause {
         Some(Cause::Form) => outside_form(row),
         Some(Cause::AddedField) => against_rule(row, groups),
+        Some(Cause::AddedTwin) => twin(before, row),
         Some(Cause::Full) => form_of(row).map(Wrong::Full),
         Some(Cause::ShortBuffer) => short(row, image, buffer.len()),
         _ => None,
     };
     found.unwrap_or(Wrong::Unfound)
+}
+
+/// The group row before with the same members, which is the same row: there is one way only to write a member.
+fn twin<'t>(before: &[u8], row: &[u8]) -> Option<Wrong<'t>> {
+    let rows = before.split(|byte| *byte == b'\n').zip(1..);
+    let groups = rows.filter(|(row, _)| form_of(row) == Some(Form::Group)).zip(0..);
+    let mut twins = groups.filter(|((earlier, _), _)| *earlier == row);
+    twins.next().map(|((_, row), group)| Wrong::Twin { group, row })
 }
 
 fn short(row: &[u8], image: usize, buffer: usize) -> Option<Wrong<'_>> {

@@ -2,8 +2,9 @@
 //!
 //! A policy is an image, a slice of bytes: groups of types, rules, constraints. [`build`] makes one from text,
 //! [`check`] tells whether an image is accepted, [`decide`] answers a query, [`run`] answers up to 64 with one check of
-//! the image, [`record`] gives one of the image's records and [`add`] puts one more into a buffer. Nothing is kept
-//! between calls and there is no heap: every call reads the image that it is handed.
+//! the image, [`record`] gives one of the image's records, [`add`] puts one more into a buffer and [`convert`] takes
+//! twins out of an image from the time when they were accepted. Nothing is kept between calls and there is no heap:
+//! every call reads the image that it is handed.
 //!
 //! ```
 //! use mungaite::{build, decide, group, Decision, Query};
@@ -37,6 +38,7 @@
 mod answer;
 mod build;
 mod condition;
+mod convert;
 mod diagnosis;
 mod form;
 mod nearest;
@@ -50,6 +52,7 @@ mod wrong;
 pub use answer::{Decision, Kind};
 pub use build::{build, BuildError};
 pub use condition::Condition;
+pub use convert::convert;
 pub use nearest::{Nearest, Step};
 pub use query::{group, Query, Section};
 pub use refusal::{Cause, Refusal};
@@ -106,8 +109,8 @@ pub fn record(image: &[u8], section: Section, n: u16) -> Result<&[u8], Refusal> 
 
 /// Adds a record to the image that a buffer starts with, in place, and gives the record's number in its section.
 ///
-/// The record goes to the end of its section. Bytes past the new image stay as they were, and a refusal leaves every
-/// byte as it was.
+/// The record goes to the end of its section. A group with the members of one that is there is refused. Bytes past the
+/// new image stay as they were, and a refusal leaves every byte as it was.
 ///
 /// ```
 /// use mungaite::{add, EMPTY};

@@ -1,8 +1,8 @@
 //! The library's C functions, as `mungaite.h` declares them.
 //!
 //! An answer is four 16-bit parts, the highest first, but for that of [`mungaite_build`]. Every pointer must be valid
-//! for the count given with it, and what is written, the buffers of [`mungaite_add`] and [`mungaite_build`] and the
-//! answers of [`mungaite_run`], must not overlap anything else that is lent.
+//! for the count given with it, and what is written, the buffers of [`mungaite_add`], [`mungaite_build`] and
+//! [`mungaite_convert`] and the answers of [`mungaite_run`], must not overlap anything else that is lent.
 
 extern "C" {
     /// 0 where the image is accepted, else the refusal.
@@ -42,4 +42,7 @@ extern "C" {
     /// other 48 the place of the refused row. The buffer then holds the image of the rows before, but is left as it was
     /// where it has fewer than 9 bytes.
     pub fn mungaite_build(text: *const u8, text_length: usize, buffer: *mut u8, length: usize) -> u64;
+
+    /// 0, 1, 0, length of the new image, which the buffer then starts with; or the refusal, and no byte is written.
+    pub fn mungaite_convert(image: *const u8, length: usize, buffer: *mut u8, buffer_length: usize) -> u64;
 }

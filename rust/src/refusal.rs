@@ -5,9 +5,9 @@ use std::{error, fmt};
 /// The engine's no: the cause's number, and the place that it was found at.
 #[derive(Clone, Copy, Debug, PartialEq, Eq, Hash)]
 pub struct Refusal {
-    /// The number of the cause: 1 to 14, 16 or 17.
+    /// The number of the cause: 1 to 14, 16, 17, 19 or 20.
     pub number: u16,
-    /// A place in the image (causes 4 to 7) or in the added record (cause 11), in bytes from its start; else 0.
+    /// A place in the image (causes 4 to 7 and 19) or in the added record (cause 11), in bytes from its start; else 0.
     pub place: u16,
 }
 
@@ -39,7 +39,8 @@ pub enum Cause {
     AddedField = 11,
     /// The section is at its limit.
     Full = 12,
-    /// The buffer cannot hold the image and the record; building: has fewer than 9 bytes.
+    /// The buffer cannot hold the image with the record; building: or has fewer than 9 bytes; converting: cannot hold
+    /// the new image.
     ShortBuffer = 13,
     /// The section has no record of that number.
     NoRecord = 14,
@@ -49,11 +50,15 @@ pub enum Cause {
     AnswerCount = 17,
     /// A row of a text is outside the form.
     Form = 18,
+    /// A group of the image has the members of an earlier one. [`convert`](crate::convert) makes an image without it.
+    Twin = 19,
+    /// The added group, or that of a row of a text, has the members of a group that is there.
+    AddedTwin = 20,
 }
 
 impl Cause {
     /// Every cause, in the order of their numbers.
-    pub const ALL: [Cause; 17] = [
+    pub const ALL: [Cause; 19] = [
         Cause::ShortImage,
         Cause::Version,
         Cause::Length,
@@ -71,6 +76,8 @@ impl Cause {
         Cause::RowCount,
         Cause::AnswerCount,
         Cause::Form,
+        Cause::Twin,
+        Cause::AddedTwin,
     ];
 
     pub(crate) fn of(number: u16) -> Option<Cause> {
@@ -91,16 +98,19 @@ impl Cause {
             Cause::AddedRecord => "the added record's length or kind is wrong",
             Cause::AddedField => "a field of the added record breaks its rule",
             Cause::Full => "the section is at its limit",
-            Cause::ShortBuffer => "the buffer is too short for the image and the record",
+            Cause::ShortBuffer => "the buffer is too short for the new image",
             Cause::NoRecord => "the section has no record of that number",
             Cause::RowCount => "the run has no row or more than 64: ask 1 to 64 at a time",
             Cause::AnswerCount => "the answers are not as many as the queries: lend one slot for each query",
             Cause::Form => "a row is outside the form",
+            Cause::Twin => "a group has the members of an earlier one: `convert` makes an image without it",
+            Cause::AddedTwin => "the added group has the members of a group that is there: use that one",
         }
     }
 
     fn has_place(self) -> bool {
-        matches!(self, Cause::Count | Cause::Record | Cause::Field | Cause::Trailing | Cause::AddedField)
+        use Cause::{AddedField, Count, Field, Record, Trailing, Twin};
+        matches!(self, Count | Record | Field | Trailing | Twin | AddedField)
     }
 }
 
@@ -116,6 +126,12 @@ impl Refusal {
 /// ```
 /// let refusal = mungaite::Refusal { number: 6, place: 17 };
 /// assert_eq!(refusal.to_string(), "a field breaks its rule (refusal 6, at byte 17)");
+///
+/// // The image of `group 1` and `group 1`, as it was accepted once.
+/// let refusal = mungaite::check(&[1, 0, 17, 0, 2, 0, 0, 0, 0, 4, 1, 0, 1, 4, 1, 0, 1]).unwrap_err();
+/// let message = "a group has the members of an earlier one: `convert` makes an image without it \
+///                (refusal 19, at byte 13)";
+/// assert_eq!(refusal.to_string(), message);
 /// ```
 impl fmt::Display for Refusal {
     fn fmt(&self, f: &mut fmt::Formatter<'_>) -> fmt::Result {

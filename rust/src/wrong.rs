@@ -29,6 +29,8 @@ pub(crate) enum Wrong<'t> {
     Undefined { field: Field, group: Word<'t>, groups: usize },
     NotRising { before: Word<'t>, member: Word<'t> },
     List { predicate: u32, types: usize },
+    // A right row, whose group is there already.
+    Twin { group: usize, row: usize },
     // A right row, for which there is no room.
     Full(Form),
     Short { buffer: usize, needed: usize },
@@ -81,6 +83,7 @@ impl fmt::Display for Wrong<'_> {
             Wrong::Undefined { field, group, groups } => undefined(f, field, group, groups),
             Wrong::NotRising { before, member } => write!(f, "members must rise, and `{member}` follows `{before}`"),
             Wrong::List { predicate, types } => list(f, predicate, types),
+            Wrong::Twin { group, row } => write!(f, "these are the members of g{group} (row {row}): use g{group}"),
             Wrong::Full(form) => full(f, form),
             Wrong::Short { buffer, needed } => short(f, buffer, "with this row the image", needed),
             Wrong::NoBuffer(buffer) => short(f, buffer, "even the empty policy", EMPTY.len()),

@@ -1,7 +1,7 @@
 //! One more record at the end of its section.
 
 use crate::check::check_front;
-use crate::format::{count, count_place, refusal, GROUPS, HEADER, LIMITS};
+use crate::format::{count, count_place, put, refusal, GROUPS, HEADER, LIMITS};
 use crate::give::{place_after, records_before};
 use crate::record::{bad_field, section_of};
 use mungaite::Refusal;
@@ -12,6 +12,9 @@ pub fn add(buffer: &mut [u8], record: &[u8]) -> Result<u16, Refusal> {
     let section = shape(record).ok_or(refusal(10, 0))?;
     if let Some(place) = bad_field(record, count(buffer, GROUPS)) {
         return Err(refusal(11, place));
+    }
+    if section == GROUPS && is_there(buffer, record) {
+        return Err(refusal(20, 0));
     }
     let number = count(buffer, section);
     if number == LIMITS[section] {
@@ -37,6 +40,12 @@ fn shape(record: &[u8]) -> Option<usize> {
     }
 }
 
-fn put(buffer: &mut [u8], at: usize, number: u16) {
-    buffer[at..at + 2].copy_from_slice(&number.to_be_bytes());
+/// Whether the image has this group. Groups of another length differ in their first byte.
+fn is_there(image: &[u8], group: &[u8]) -> bool {
+    let mut rest = &image[HEADER..];
+    (0..count(image, GROUPS)).any(|_| {
+        let same = rest.starts_with(group);
+        rest = &rest[usize::from(rest[0])..];
+        same
+    })
 }

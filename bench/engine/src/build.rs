@@ -3,6 +3,7 @@
 use crate::format::{CONSTRAINTS, GROUPS, HEADER, LIMITS, VERSION};
 use crate::record::bad_field;
 use crate::row::Row;
+use crate::twins::{Met, MOST_SLOTS};
 
 /// Why a text is refused, and the place in it of the refused row's first byte.
 #[derive(Clone, Copy, Debug, PartialEq, Eq)]
@@ -44,21 +45,26 @@ struct Growing<'b> {
     buffer: &'b mut [u8],
     counts: [u16; 3],
     ends: [usize; 3],
+    /// The groups by their places, from the first group on.
+    met: Option<Met<MOST_SLOTS>>,
 }
 
 impl Growing<'_> {
     fn new(buffer: &mut [u8]) -> Growing<'_> {
-        Growing { buffer, counts: [0; 3], ends: [HEADER; 3] }
+        Growing { buffer, counts: [0; 3], ends: [HEADER; 3], met: None }
     }
 
     fn length(&self) -> usize {
         self.ends[CONSTRAINTS]
     }
 
-    /// Adds a record of a right shape; otherwise cause 11, 12 or 13.
+    /// Adds a record of a right shape; otherwise cause 11, 20, 12 or 13.
     fn add(&mut self, section: usize, record: &[u8]) -> Result<(), u16> {
         if bad_field(record, self.counts[GROUPS]).is_some() {
             return Err(11);
+        }
+        if section == GROUPS && self.repeats(record) {
+            return Err(20);
         }
         if self.counts[section] == LIMITS[section] {
             return Err(12);
@@ -68,6 +74,13 @@ impl Growing<'_> {
         }
         self.insert(section, record);
         Ok(())
+    }
+
+    /// Whether a group is there already. Where it is not, it is met at the place that it is to have: no group moves.
+    fn repeats(&mut self, group: &[u8]) -> bool {
+        let (groups, at) = (&self.buffer[..self.ends[GROUPS]], self.ends[GROUPS] as u16);
+        let met = self.met.get_or_insert(Met::NONE);
+        met.meet(group, at, |earlier| groups[usize::from(earlier)..].starts_with(group)).is_some()
     }
 
     fn insert(&mut self, section: usize, record: &[u8]) {

@@ -1,11 +1,18 @@
-//! The check of an image: causes 1 to 7, in the table's order.
+//! The check of an image: causes 1 to 7, in the table's order, and 19.
 
 use crate::format::{count, count_place, length_field, refusal, CONSTRAINTS, GROUPS, HEADER, LIMITS, RULES};
 use crate::record::{bad_field, section_of};
+use crate::twins::first_twin;
 use mungaite::Refusal;
 
 /// Checks a slice that is to be an image, whole.
 pub fn check(image: &[u8]) -> Result<(), Refusal> {
+    check_but_for_twins(image)?;
+    check_twins(image)
+}
+
+/// Causes 1 to 7.
+pub fn check_but_for_twins(image: &[u8]) -> Result<(), Refusal> {
     check_header(image)?;
     check_records(image)
 }
@@ -19,6 +26,7 @@ pub fn starts(image: &[u8]) -> Result<[usize; 3], Refusal> {
     if end < image.len() {
         return Err(refusal(7, end));
     }
+    check_twins(image)?;
     Ok([HEADER, rules, constraints])
 }
 
@@ -54,6 +62,14 @@ fn check_records(image: &[u8]) -> Result<(), Refusal> {
         return Err(refusal(7, end));
     }
     Ok(())
+}
+
+/// Cause 19.
+fn check_twins(image: &[u8]) -> Result<(), Refusal> {
+    match first_twin(image) {
+        Some(place) => Err(refusal(19, place)),
+        None => Ok(()),
+    }
 }
 
 /// Checks the records of a section that starts at a place and gives its end.

@@ -26,6 +26,10 @@ pub fn number(bytes: &[u8], at: usize) -> u16 {
     u16::from_be_bytes([bytes[at], bytes[at + 1]])
 }
 
+pub fn put(bytes: &mut [u8], at: usize, number: u16) {
+    bytes[at..at + 2].copy_from_slice(&number.to_be_bytes());
+}
+
 /// Where the header holds the count of a section.
 pub fn count_place(section: usize) -> usize {
     3 + 2 * section

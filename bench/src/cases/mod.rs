@@ -2,8 +2,10 @@
 
 mod asked;
 pub mod constraints;
+mod largest;
 mod mix;
 pub mod search;
 pub mod sizes;
 pub mod switched;
 pub mod texts;
+pub mod twins;

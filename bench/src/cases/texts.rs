@@ -1,6 +1,8 @@
 //! Policies as text, with the images that are to be built from them.
 
-use mungaite_tests::draft::{allow, constraint, Draft, ROSTER};
+use super::largest::{every_other_a_group, largest};
+use super::twins::one_differs;
+use mungaite_tests::draft::Draft;
 use mungaite_tests::sample::{EMPTY, SAMPLE, SAMPLE_TEXT};
 use mungaite_tests::text::text_of;
 
@@ -13,8 +15,8 @@ pub struct Text {
 
 const EMPTY_ROWS: usize = 1_000_000;
 
-pub fn all() -> [Text; 4] {
-    [sample(), in_order(), backward(), empty_rows()]
+pub fn all() -> [Text; 5] {
+    [sample(), in_order(), backward(), alike(), empty_rows()]
 }
 
 fn sample() -> Text {
@@ -23,38 +25,29 @@ fn sample() -> Text {
 
 /// The sections in their order, so that no record moves. Every other type is a group.
 fn in_order() -> Text {
-    let policy = largest(|n| if n % 2 == 0 { mungaite::group(n % 256) } else { n % 1024 });
+    let policy = largest(0..256, |n| every_other_a_group(n, |group| group));
     Text::new("largest, in the sections' order", &policy, policy.records())
 }
 
 /// The last section first, so that each rule moves all constraints and each group all rules too. All types are basic.
 fn backward() -> Text {
-    let policy = largest(|n| n % 1024);
+    let policy = largest(0..256, |n| n % 1024);
     let records = policy.constraints.iter().chain(&policy.rules).chain(&policy.groups);
     Text::new("largest, limits first, groups last", &policy, records)
+}
+
+/// Groups that differ in one member, so that each is compared with those before for being a twin.
+fn alike() -> Text {
+    let mut policy = Draft::default();
+    for group in 0..256 {
+        policy.add_group(one_differs(group));
+    }
+    Text::new("256 groups, the 21st member differs", &policy, policy.records())
 }
 
 fn empty_rows() -> Text {
     let text = vec![b'\n'; EMPTY_ROWS];
     Text { name: "empty rows", rows: EMPTY_ROWS, text, image: EMPTY.to_vec() }
-}
-
-/// 256 groups of 64 members, 1,024 allow rules and 256 rosters of 16 list types, whose types are given by a number.
-fn largest(type_of: impl Fn(u16) -> u16) -> Draft {
-    let mut policy = Draft::default();
-    for group in 0..256 {
-        policy.add_group((0..64).map(|member| member * 16 + if member < 32 { group % 16 } else { group / 16 }));
-    }
-    for rule in 0..1024 {
-        let (source, destination) = (type_of(rule * 5), type_of(rule * 7 + 3));
-        policy.rules.push(allow(source, destination, rule * 61, rule * 37, (rule % 8 != 7).into()));
-    }
-    for number in 0..256 {
-        let list: Vec<u16> = (0..16).map(|place| type_of(number + place * 63)).collect();
-        let (first, second) = (type_of(number * 11), type_of(number * 13 + 1));
-        policy.constraints.push(constraint(number * 241, number * 97, first, second, ROSTER, &list));
-    }
-    policy
 }
 
 impl Text {
@@ -72,7 +65,7 @@ mod tests {
     #[test]
     fn sizes_are_the_limits() {
         let sizes = all().map(|text| (text.rows, text.image.len()));
-        assert_eq!(sizes, [(7, 80), (1536, 55_561), (1536, 55_561), (1_000_000, 9)]);
+        assert_eq!(sizes, [(7, 80), (1536, 55_561), (1536, 55_561), (256, 33_289), (1_000_000, 9)]);
         for text in all() {
             assert_eq!(text.text.iter().filter(|byte| **byte == b'\n').count(), text.rows, "{}", text.name);
         }

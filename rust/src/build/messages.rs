@@ -186,15 +186,40 @@ fn a_wrong_predicate_or_list_is_named() {
 }
 
 #[test]
+fn a_twin_is_named_with_its_group_and_row() {
+    let cases = [
+        ("group 1", "these are the members of g0 (row 1): use g0 (refusal 20)"),
+        ("group 2 3", "these are the members of g1 (row 3): use g1 (refusal 20)"),
+    ];
+    for (row, message) in cases {
+        assert_eq!(said(row), message);
+    }
+    let between = "group 4\ntrans g0 2 3\n\ngroup 4 5\nlimit 5 1 10 21 0\n";
+    assert_eq!(said_after(between, "group 4 5", ROOM), "these are the members of g1 (row 4): use g1 (refusal 20)");
+}
+
+/// It comes before the section's limit and before a buffer that is too short.
+#[test]
+fn a_twin_without_room_is_named_as_a_twin() {
+    assert_eq!(said_after("group 1\n", "group 1", 13), "these are the members of g0 (row 1): use g0 (refusal 20)");
+    let rows: Vec<String> = (0..256).chain([255]).map(|member| format!("group {member}")).collect();
+    let (text, mut buffer) = (rows.join("\n"), [0; LARGEST]);
+    let error = build(text.as_bytes(), &mut buffer).unwrap_err();
+    let message = "row 257, `group 255`: these are the members of g255 (row 256): use g255 (refusal 20)";
+    assert_eq!(error.to_string(), message);
+}
+
+#[test]
 fn a_full_section_is_named_with_its_limit() {
     let cases = [
-        ("group 1", 256, "256 groups"),
+        ("group N", 256, "256 groups"),
         ("allow 1 2 3 4 off", 1024, "1024 rules (allow and trans)"),
         ("trans 1 2 3", 1024, "1024 rules (allow and trans)"),
         ("limit 1 2 3 4 0", 256, "256 constraints (limit)"),
     ];
-    for (row, limit, most) in cases {
-        let text = format!("{row}\n").repeat(limit + 1);
+    for (form, limit, most) in cases {
+        let rows: Vec<String> = (0..=limit).map(|number| form.replace('N', &number.to_string())).collect();
+        let (text, row) = (rows.join("\n"), &rows[limit]);
         let mut buffer = [0; LARGEST];
         let error = build(text.as_bytes(), &mut buffer).unwrap_err();
         assert_eq!((error.cause(), error.row), (Some(Cause::Full), limit + 1));

@@ -48,20 +48,30 @@ impl Texts {
         items[self.below(items.len())]
     }
 
-    /// Rows of about the right words.
+    /// Rows of about the right words, some of them twice.
     fn rows(&mut self) -> Vec<u8> {
         let mut text = Vec::new();
         for _ in 0..1 + self.below(8) {
-            let (form, fields) = FORMS[self.below(4)];
-            text.extend(form.bytes());
-            let count = if self.below(4) == 0 { self.below(fields.len() + 4) } else { fields.len() };
-            for field in fields.chars().chain(['t', 't', 'm', 'n']).take(count) {
-                text.push(b' ');
-                text.extend(self.word(field).bytes());
+            let row = self.row();
+            if self.below(6) == 0 {
+                text.extend(&row);
+                text.push(b'\n');
             }
+            text.extend(row);
             text.extend(self.pick(&["\n", "\n", "\n", "\n\n", "\n\n\n", "\r\n", ""]).bytes());
         }
         text
+    }
+
+    fn row(&mut self) -> Vec<u8> {
+        let (form, fields) = FORMS[self.below(4)];
+        let mut row = form.as_bytes().to_vec();
+        let count = if self.below(4) == 0 { self.below(fields.len() + 4) } else { fields.len() };
+        for field in fields.chars().chain(['t', 't', 'm', 'n']).take(count) {
+            row.push(b' ');
+            row.extend(self.word(field).bytes());
+        }
+        row
     }
 
     fn word<'a>(&mut self, field: char) -> &'a str {
@@ -80,25 +90,37 @@ impl Texts {
     }
 }
 
-/// Whether something is found where the cause is one of a row's own.
-fn finds(cause: Cause, row: &[u8], buffer: &[u8]) -> bool {
-    diagnosis::find(Some(cause), row, buffer) != Wrong::Unfound
+/// Whether something is found in the row that stands at a place, where the cause is one of a row's own.
+fn finds(cause: Cause, text: &[u8], place: usize, buffer: &[u8]) -> bool {
+    let (before, rest) = text.split_at(place);
+    let row = rest.split(|byte| *byte == b'\n').next().unwrap_or(rest);
+    diagnosis::find(Some(cause), before, row, buffer) != Wrong::Unfound
 }
+
+/// The places of the rows of a text that are not empty.
+fn places(text: &[u8]) -> impl Iterator<Item = usize> + '_ {
+    let starts = |place: &usize| text[*place] != b'\n' && (*place == 0 || text[place - 1] == b'\n');
+    (0..text.len()).filter(starts)
+}
+
+/// The causes that lie in a row and those before it, in the order in which they are given.
+const ROW_CAUSES: [Cause; 3] = [Cause::Form, Cause::AddedField, Cause::AddedTwin];
 
 /// A cause is found in the row that is refused for it, and in no row that is not: the two agree on what is right.
 fn compare(text: &[u8], buffer: &mut [u8]) -> u16 {
     let error = build(text, buffer).map(|_| ()).err();
     let taken = error.map_or(text, |error| &text[..error.place]);
     if buffer.len() >= EMPTY.len() {
-        for row in taken.split(|byte| *byte == b'\n').filter(|row| !row.is_empty()) {
-            assert!(!finds(Cause::Form, row, buffer) && !finds(Cause::AddedField, row, buffer), "{text:?}");
+        for place in places(taken) {
+            let found = ROW_CAUSES.map(|cause| finds(cause, text, place, buffer));
+            assert_eq!(found, [false; 3], "{text:?}");
         }
     }
     let Some(error) = error else { return 0 };
     assert_ne!(error.wrong, Wrong::Unfound, "{error}");
-    if error.number != 18 && buffer.len() >= EMPTY.len() {
-        assert!(!finds(Cause::Form, error.text, buffer), "{error}");
-        assert_eq!(finds(Cause::AddedField, error.text, buffer), error.number == 11, "{error}");
+    if buffer.len() >= EMPTY.len() {
+        let found = ROW_CAUSES.into_iter().find(|cause| finds(*cause, text, error.place, buffer));
+        assert_eq!(found, error.cause().filter(|cause| ROW_CAUSES.contains(cause)), "{error}");
     }
     assert!(error.to_string().ends_with(&format!(" (refusal {})", error.number)));
     error.number
@@ -107,13 +129,13 @@ fn compare(text: &[u8], buffer: &mut [u8]) -> u16 {
 #[test]
 fn a_cause_is_found_in_every_refused_row_and_in_no_other() {
     let mut texts = Texts(3);
-    let mut met = [0; 19];
+    let mut met = [0; 21];
     for _ in 0..40_000 {
         let text = if texts.below(8) == 0 { texts.bytes() } else { texts.rows() };
         let length = if texts.below(4) == 0 { texts.below(60) } else { 400 };
         met[usize::from(compare(&text, &mut [0; 400][..length]))] += 1;
     }
-    for number in [0, 11, 13, 18] {
+    for number in [0, 11, 13, 18, 20] {
         assert!(met[number] > 100, "{met:?}");
     }
 }
@@ -123,9 +145,10 @@ fn no_row_and_no_cause_panics() {
     let mut texts = Texts(4);
     for _ in 0..20_000 {
         let row = if texts.below(2) == 0 { texts.bytes() } else { texts.rows() };
+        let before = if texts.below(2) == 0 { texts.bytes() } else { texts.rows() };
         let buffer: Vec<u8> = (0..texts.below(20)).map(|_| texts.below(256) as u8).collect();
         for cause in Cause::ALL.map(Some).into_iter().chain([None]) {
-            let wrong = diagnosis::find(cause, &row, &buffer);
+            let wrong = diagnosis::find(cause, &before, &row, &buffer);
             assert!(!wrong.to_string().is_empty());
         }
     }
