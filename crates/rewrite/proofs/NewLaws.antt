@@ -1,7 +1,7 @@
 -- Laws of the new image, by the parts that are written. Assumes nothing.
 --     field-follows       a type field that is looked up goes where references go
 --     rules-as, constraints-as   so the records with their fields changed are the new policy's
---     rules-fit, constraints-fit   the records are as long as they say, and of bytes
+--     each-rule, each-constraint   each record becomes the new one where it stands
 --     nine, image-split   an image: the nine bytes of its header, and its records
 --     Planned, planned    what the code relies on before it writes, at its counts and places
 --     rules-step, constraints-step, whole-step   the buffer after the copy, and after each of the two loops over records
@@ -43,7 +43,7 @@ use Rattle.rewrite.specs.Inner.Retype.{renumbered, recordsFrom, Lie}
 use Rattle.rewrite.specs.Inner.Kept.{Rows, pick}
 use Rattle.rewrite.specs.Inner.Settle.{Ready}
 use Rattle.rewrite.proofs.PutLaws.{header-bytes, header-length, put-length}
-use Rattle.rewrite.proofs.RetypeLaws.{renumbered-basic, renumbered-group, retyped, Fit, records-put}
+use Rattle.rewrite.proofs.RetypeLaws.{renumbered-basic, renumbered-group, Put, rule-put, constraint-put, records-put}
 
 rows-run : {l : List ℕ} {at e : ℕ} {rs : List (List ℕ)} → Runs l at rs e → Shaped rs → Rows l at (length rs)
 unfolding Rows
@@ -79,16 +79,14 @@ module _ (p : Policy) (w : WellFormed p) (to : List ℕ) (small : Bytes to)
         renumbered-group to small t (omega arith) ∙ ap₂ (λ (i j : ℕ). i + getD to j 0) x y
         ∙ ap (λ (i : ℕ). 32768 + i) (numbers k (q .1)) ∙ sym (ap (follow p) e ∙ follow-group p k)
 
-    pub rules-as : map (retyped Rules to) (p .rules) ≡ converted p .rules
-    unfolding retyped
+    pub rules-as : map (retypeRule (renumbered to)) (p .rules) ≡ converted p .rules
     rules-as =
         map-same (retypeRule (renumbered to)) (retypeRule (follow p)) (p .rules)
         (λ r m. let t = rule-at p w r m in
         rule-fields (renumbered to) (follow p) r (field-follows _ (t .source)) (field-follows _ (t .dest)))
         ∙ sym (rules-are p)
 
-    pub constraints-as : map (retyped Constraints to) (p .constraints) ≡ converted p .constraints
-    unfolding retyped
+    pub constraints-as : map (retypeConstraint (renumbered to)) (p .constraints) ≡ converted p .constraints
     constraints-as =
         map-same (retypeConstraint (renumbered to)) (retypeConstraint (follow p)) (p .constraints)
         (λ r m. let t = constraint-at p w r m in
@@ -96,20 +94,23 @@ module _ (p : Policy) (w : WellFormed p) (to : List ℕ) (small : Bytes to)
         (map-same (renumbered to) (follow p) (words (drop 11 r)) (λ x k. field-follows x (t .list x k))))
         ∙ sym (constraints-are p)
 
-module _ (p : Policy) (w : WellFormed p) where
-  rules-fit : (r : List ℕ) → List·Memᴰ r (p .rules) → (0 < length r) × Fit Rules r × Bytes r
-  unfolding Fit
-  rules-fit r m =
+module _ (p : Policy) (w : WellFormed p) (to : List ℕ) (small : Bytes to) where
+  each-rule :
+      (r : List ℕ) → List·Memᴰ r (p .rules) → (x y : List ℕ) (i : ℕ) → length x ≡ i
+      → Put 2 to x r (retypeRule (renumbered to) r) y i
+  each-rule r m x y i q =
+      let b = rule-bytes-at p w r m in
       ⊎-elim
-      (λ a. (omega (arith, a .size .1), (a .size .0, omega (arith, a .size .1)), rule-bytes-at p w r m))
-      (λ a. (omega (arith, a .size .1), (a .size .0, omega (arith, a .size .1)), rule-bytes-at p w r m))
+      (λ a. rule-put to small x r y i q (a .size .0) (omega (arith, a .size .1)) (omega (arith, a .size .1)) b)
+      (λ a. rule-put to small x r y i q (a .size .0) (omega (arith, a .size .1)) (omega (arith, a .size .1)) b)
       (record-rule (length (p .groups)) r (rule-record-at p w r m))
 
-  constraints-fit : (r : List ℕ) → List·Memᴰ r (p .constraints) → (0 < length r) × Fit Constraints r × Bytes r
-  unfolding Fit
-  constraints-fit r m =
+  each-constraint :
+      (r : List ℕ) → List·Memᴰ r (p .constraints) → (x y : List ℕ) (i : ℕ) → length x ≡ i
+      → Put 6 to x r (retypeConstraint (renumbered to) r) y i
+  each-constraint r m x y i q =
       let a = record-constraint (length (p .groups)) r (constraint-record-at p w r m) in
-      (omega (arith, a .1 .size .1), (a .1 .size .0, (a .0, a .1 .size .1)), constraint-bytes-at p w r m)
+      constraint-put to small x r y i (a .0) q (a .1 .size .0) (a .1 .size .1) (constraint-bytes-at p w r m)
 
 -- ---- an old image, by its parts
 
@@ -330,16 +331,16 @@ module _ (l : List ℕ) (s : Starts) (to : List ℕ) (keep : List Bool) (kept : 
           ∙ ap₂ _+_ (nine-length (converted (policyOf l))) (ap length (sym eg)) ∙ sym ea
 
       pub rules-step :
-          Lie Rules to b₃ at m
-          × (recordsFrom Rules to b₃ at m
+          Lie 2 to b₃ at m
+          × (recordsFrom 2 to b₃ at m
           ≡ front ++ (flatten (converted (policyOf l) .rules) ++ (flatten (policyOf l .constraints) ++ past b)))
       rules-step =
           let f = formed l by (w .laid) in
-          let q = records-put to (w .settled .small) Rules (policyOf l .rules) front
-          (flatten (policyOf l .constraints) ++ past b) at front-length (rules-fit (policyOf l) f) in
+          let q = records-put 2 to (retypeRule (renumbered to)) (policyOf l .rules) front
+          (flatten (policyOf l .constraints) ++ past b) at front-length (each-rule (policyOf l) f to (w .settled .small)) in
           rw (copied, em ∙ rules-count l, ← rules-as (policyOf l) f to (w .settled .small) (w .settled .numbers)) q
 
-      module _ (b₄ : List ℕ) (at₂ : ℕ) (e₄ : b₄ ≡ recordsFrom Rules to b₃ at m) (e₂ : at₂ ≡ at + (s .constraints - s .rules)) where
+      module _ (b₄ : List ℕ) (at₂ : ℕ) (e₄ : b₄ ≡ recordsFrom 2 to b₃ at m) (e₂ : at₂ ≡ at + (s .constraints - s .rules)) where
         pub more : List ℕ
         more = front ++ flatten (converted (policyOf l) .rules)
 
@@ -353,8 +354,8 @@ module _ (l : List ℕ) (s : Starts) (to : List ℕ) (keep : List Bool) (kept : 
             omega (arith, length-append front (flatten (converted p .rules)), front-length)
 
         pub constraints-step :
-            Lie Constraints to b₄ at₂ k
-            × (recordsFrom Constraints to b₄ at₂ k ≡ more ++ (flatten (converted (policyOf l) .constraints) ++ past b))
+            Lie 6 to b₄ at₂ k
+            × (recordsFrom 6 to b₄ at₂ k ≡ more ++ (flatten (converted (policyOf l) .constraints) ++ past b))
         unfolding more
         constraints-step =
             let f = formed l by (w .laid) in
@@ -362,11 +363,12 @@ module _ (l : List ℕ) (s : Starts) (to : List ℕ) (keep : List Bool) (kept : 
             let small : Bytes to = w .settled .small in
             let e : b₄ ≡ more ++ (flatten (p .constraints) ++ past b)
             = e₄ ∙ rules-step .1 ∙ sym (append-assoc front (flatten (converted p .rules)) (flatten (p .constraints) ++ past b)) in
-            let q = records-put to small Constraints (p .constraints) more (past b) at₂ more-length (constraints-fit p f) in
+            let q = records-put 6 to (retypeConstraint (renumbered to)) (p .constraints) more (past b) at₂ more-length
+            (each-constraint p f to small) in
             rw (e, ek ∙ constraints-count l, ← constraints-as p f to small (w .settled .numbers)) q
 
         pub whole-step :
-            (b₅ : List ℕ) → b₅ ≡ recordsFrom Constraints to b₄ at₂ k → length (convertedImage l) ≤ length b
+            (b₅ : List ℕ) → b₅ ≡ recordsFrom 6 to b₄ at₂ k → length (convertedImage l) ≤ length b
             → Wrote b b₅ 0 n (convertedImage l)
         unfolding more front past putAt
         whole-step b₅ e₅ room =

@@ -2,10 +2,9 @@
 --     renumbered-basic, renumbered-group   a type field, by what it is
 --     low-put          its two bytes, the second changed
 --     field-put, list-put   the type field behind some bytes, and those of a list
---     retyped s to r   a record with its references rewritten
---     Fit s r          a record that is as long as it says, and long enough
---     record-put       its type fields changed, behind some bytes; `rule-put`, `constraint-put`
---     records-put      those of records one after the other, and that they lie in the buffer
+--     Put              a record that becomes another where its type fields are changed, behind some bytes
+--     rule-put, constraint-put   a rule and a constraint so, with their references rewritten
+--     records-put      records one after the other, and that they lie in the buffer
 use Prim.Native.Nat.{ℕ, zero, suc, _+_, _-_, _*_, _/_, _%_, _<_, _≤_}
 use mathlib.Core.Path.{_≡_, refl, sym, ap, ap₂, _∙_}
 use mathlib.Core.List.{List, [], _∷_, _++_, append-assoc, map, flatten, List·Memᴰ, List·Memᴰ·head, List·Memᴰ·tail}
@@ -14,13 +13,11 @@ use lib.ListN.{length, getD, set, length-append}
 use lib.Seq.{append-snoc, set-at, getD-at, getD-append-add}
 use lib.Dec.{ltb}
 use borrow.Author.Tests.{lt-ltb, le-ltb, ltb-true, ltb-false}
-use Rattle.format.specs.declared.Section.{Section}
-use Rattle.format.specs.declared.Section.the-variants.{Groups, Rules, Constraints}
 use Rattle.format.specs.Bytes.{Bytes, wordAt, words, putWord, putWords}
 use Rattle.format.proofs.Bytes.{bytes-cons, bytes-drop, put-word, word-at, words-next, words-end, put-words}
 use Rattle.decision.proofs.Search.{by-test}
 use Rattle.conversion.specs.Retype.{retypeRule, retypeConstraint}
-use Rattle.rewrite.specs.Inner.Retype.{renumbered, newLow, fieldAt, fieldsAt, leastOf, recordFrom, recordsFrom, Lie}
+use Rattle.rewrite.specs.Inner.Retype.{renumbered, newLow, fieldAt, fieldsAt, recordFrom, recordsFrom, Lie}
 use Rattle.rewrite.proofs.FieldLaws.{low-basic, low-group, fields-next, fields-none}
 
 -- ---- one field
@@ -144,59 +141,53 @@ field-in to pre mid post x y at place e q =
     ∙ field-put to (pre ++ mid) post x y place n
     ∙ append-assoc pre mid (x ∷ newLow to x y ∷ post)
 
-unfoldable pub retyped : Section → List ℕ → List ℕ → List ℕ
-retyped Groups to r = r
-retyped Rules to r = retypeRule (renumbered to) r
-retyped Constraints to r = retypeConstraint (renumbered to) r
-
--- a record that is as long as it says, and long enough, with a list of whole types
-unfoldable pub Fit : Section → List ℕ → Type 0
-Fit Groups r = getD r 0 0 ≡ length r
-Fit Rules r = (getD r 0 0 ≡ length r) × (6 ≤ length r)
-Fit Constraints r = (getD r 0 0 ≡ length r) × ((n : ℕ) × (length r ≡ 11 + 2 * n))
-
-record Put (s : Section) (to pre r post : List ℕ) (at : ℕ) : Type 0 where
+-- the record r behind some bytes and before others, which becomes r'
+pub record Put (k : ℕ) (to pre r r' post : List ℕ) (at : ℕ) : Type 0 where
   first : getD (pre ++ (r ++ post)) at 0 ≡ length r
-  long : leastOf s ≤ length r
-  bytes : recordFrom s to (pre ++ (r ++ post)) at ≡ pre ++ (retyped s to r ++ post)
-  size : length (retyped s to r) ≡ length r
+  long : k + 4 ≤ length r
+  bytes : recordFrom k to (pre ++ (r ++ post)) at (at + length r) ≡ pre ++ (r' ++ post)
+  size : length r' ≡ length r
 
 module _ (to : List ℕ) (small : Bytes to) where
   rule-is :
       (a k s t d e : ℕ) (l : List ℕ) → Bytes (a ∷ k ∷ s ∷ t ∷ d ∷ e ∷ l)
-      → retyped Rules to (a ∷ k ∷ s ∷ t ∷ d ∷ e ∷ l) ≡ a ∷ k ∷ s ∷ newLow to s t ∷ d ∷ newLow to d e ∷ l
-  unfolding retyped retypeRule
+      → retypeRule (renumbered to) (a ∷ k ∷ s ∷ t ∷ d ∷ e ∷ l) ≡ a ∷ k ∷ s ∷ newLow to s t ∷ d ∷ newLow to d e ∷ l
+  unfolding retypeRule
   rule-is a k s t d e l b =
       let r : List ℕ = a ∷ k ∷ s ∷ t ∷ d ∷ e ∷ l in
       ap (λ (x : List ℕ). a ∷ k ∷ x)
       (low-put to small s t (wordAt r 2) _ (b 3) (word-at r 2)
       ∙ ap (λ (x : List ℕ). s ∷ newLow to s t ∷ x) (low-put to small d e (wordAt r 4) l (b 5) (word-at r 4)))
 
-  rule-put : (pre r post : List ℕ) (at : ℕ) → length pre ≡ at → Fit Rules r → Bytes r → Put Rules to pre r post at
-  unfolding recordFrom Fit leastOf
-  rule-put pre [] post at q f b = absurd (omega (arith, f .1))
-  rule-put pre (a ∷ []) post at q f b = absurd (omega (arith, f .1))
-  rule-put pre (a ∷ k ∷ []) post at q f b = absurd (omega (arith, f .1))
-  rule-put pre (a ∷ k ∷ s ∷ []) post at q f b = absurd (omega (arith, f .1))
-  rule-put pre (a ∷ k ∷ s ∷ t ∷ []) post at q f b = absurd (omega (arith, f .1))
-  rule-put pre (a ∷ k ∷ s ∷ t ∷ d ∷ []) post at q f b = absurd (omega (arith, f .1))
-  rule-put pre (a ∷ k ∷ s ∷ t ∷ d ∷ e ∷ l) post at q f b =
+  pub rule-put :
+      (pre r post : List ℕ) (at : ℕ) → length pre ≡ at → getD r 0 0 ≡ length r → 6 ≤ length r → length r ≤ 11 → Bytes r
+      → Put 2 to pre r (retypeRule (renumbered to) r) post at
+  unfolding recordFrom
+  rule-put pre [] post at q f m n b = absurd (omega (arith, m))
+  rule-put pre (a ∷ []) post at q f m n b = absurd (omega (arith, m))
+  rule-put pre (a ∷ k ∷ []) post at q f m n b = absurd (omega (arith, m))
+  rule-put pre (a ∷ k ∷ s ∷ []) post at q f m n b = absurd (omega (arith, m))
+  rule-put pre (a ∷ k ∷ s ∷ t ∷ []) post at q f m n b = absurd (omega (arith, m))
+  rule-put pre (a ∷ k ∷ s ∷ t ∷ d ∷ []) post at q f m n b = absurd (omega (arith, m))
+  rule-put pre (a ∷ k ∷ s ∷ t ∷ d ∷ e ∷ l) post at q f m n b =
       let is = rule-is a k s t d e l b in
       record {
-        first = getD-at pre a _ 0 at q ∙ f .0;
-        long = f .1;
+        first = getD-at pre a _ 0 at q ∙ f;
+        long = m;
         bytes =
-            ap (λ (x : List ℕ). fieldAt to x (at + 4)) (field-in to pre (a ∷ k ∷ []) (d ∷ e ∷ (l ++ post)) s t at (at + 2) q refl)
-            ∙ field-in to pre (a ∷ k ∷ s ∷ newLow to s t ∷ []) (l ++ post) d e at (at + 4) q refl
+            fields-none to _ (at + 11) ((at + length (a ∷ k ∷ s ∷ t ∷ d ∷ e ∷ l) - (at + 11)) / 2) (omega (arith, n))
+            ∙ ap (λ (x : List ℕ). fieldAt to x (at + 2 + 2))
+            (field-in to pre (a ∷ k ∷ []) (d ∷ e ∷ (l ++ post)) s t at (at + 2) q refl)
+            ∙ field-in to pre (a ∷ k ∷ s ∷ newLow to s t ∷ []) (l ++ post) d e at (at + 2 + 2) q (omega arith)
             ∙ ap (λ (x : List ℕ). pre ++ (x ++ post)) (sym is);
         size = ap length is;
       }
 
   constraint-is :
       (a k c d e f g h i j p : ℕ) (l : List ℕ) (n : ℕ) → length l ≡ 2 * n → Bytes (a ∷ k ∷ c ∷ d ∷ e ∷ f ∷ g ∷ h ∷ i ∷ j ∷ p ∷ l)
-      → retyped Constraints to (a ∷ k ∷ c ∷ d ∷ e ∷ f ∷ g ∷ h ∷ i ∷ j ∷ p ∷ l)
+      → retypeConstraint (renumbered to) (a ∷ k ∷ c ∷ d ∷ e ∷ f ∷ g ∷ h ∷ i ∷ j ∷ p ∷ l)
       ≡ a ∷ k ∷ c ∷ d ∷ e ∷ f ∷ g ∷ newLow to g h ∷ i ∷ newLow to i j ∷ p ∷ changed to l
-  unfolding retyped retypeConstraint
+  unfolding retypeConstraint
   constraint-is a k c d e f g h i j p l n q b =
       let r : List ℕ = a ∷ k ∷ c ∷ d ∷ e ∷ f ∷ g ∷ h ∷ i ∷ j ∷ p ∷ l in
       ap (λ (x : List ℕ). a ∷ k ∷ c ∷ d ∷ e ∷ f ∷ x)
@@ -209,27 +200,27 @@ module _ (to : List ℕ) (small : Bytes to) where
       (a k c d e f g h i j p : ℕ) (l pre post : List ℕ) (at n : ℕ) → length pre ≡ at
       → a ≡ length (a ∷ k ∷ c ∷ d ∷ e ∷ f ∷ g ∷ h ∷ i ∷ j ∷ p ∷ l) → length l ≡ 2 * n
       → Bytes (a ∷ k ∷ c ∷ d ∷ e ∷ f ∷ g ∷ h ∷ i ∷ j ∷ p ∷ l)
-      → Put Constraints to pre (a ∷ k ∷ c ∷ d ∷ e ∷ f ∷ g ∷ h ∷ i ∷ j ∷ p ∷ l) post at
-  unfolding recordFrom leastOf
+      → Put 6 to pre (a ∷ k ∷ c ∷ d ∷ e ∷ f ∷ g ∷ h ∷ i ∷ j ∷ p ∷ l)
+      (retypeConstraint (renumbered to) (a ∷ k ∷ c ∷ d ∷ e ∷ f ∷ g ∷ h ∷ i ∷ j ∷ p ∷ l)) post at
+  unfolding recordFrom
   constraint-long a k c d e f g h i j p l pre post at n q whole even b =
       let is = constraint-is a k c d e f g h i j p l n even b in
       let first : getD (pre ++ (a ∷ k ∷ c ∷ d ∷ e ∷ f ∷ g ∷ h ∷ i ∷ j ∷ p ∷ (l ++ post))) at 0 ≡ length l + 11
       = getD-at pre a (k ∷ c ∷ d ∷ e ∷ f ∷ g ∷ h ∷ i ∷ j ∷ p ∷ (l ++ post)) 0 at q ∙ omega arith in
       let mid : List ℕ = a ∷ k ∷ c ∷ d ∷ e ∷ f ∷ g ∷ newLow to g h ∷ i ∷ newLow to i j ∷ p ∷ [] in
-      let m : (at + (length l + 11) - (at + 11)) / 2 ≡ n = omega arith in
+      let m : (at + length (a ∷ k ∷ c ∷ d ∷ e ∷ f ∷ g ∷ h ∷ i ∷ j ∷ p ∷ l) - (at + 11)) / 2 ≡ n = omega arith in
       let old : List ℕ = pre ++ (a ∷ k ∷ c ∷ d ∷ e ∷ f ∷ g ∷ h ∷ i ∷ j ∷ p ∷ (l ++ post)) in
-      let args : List ℕ = fieldAt to (fieldAt to old (at + 6)) (at + 8) in
+      let args : List ℕ = fieldAt to (fieldAt to old (at + 6)) (at + 6 + 2) in
       let z : length (pre ++ mid) ≡ at + 11 = length-append pre mid ∙ ap (λ (x : ℕ). x + 11) q in
       record {
         first = first ∙ omega arith;
         long = omega arith;
         bytes =
-            ap (λ (x : ℕ). fieldsAt to args (at + 11) ((at + x - (at + 11)) / 2)) first
-            ∙ ap (λ (x : ℕ). fieldsAt to args (at + 11) x) m
-            ∙ ap (λ (x : List ℕ). fieldsAt to (fieldAt to x (at + 8)) (at + 11) n)
+            ap (λ (x : ℕ). fieldsAt to args (at + 11) x) m
+            ∙ ap (λ (x : List ℕ). fieldsAt to (fieldAt to x (at + 6 + 2)) (at + 11) n)
             (field-in to pre (a ∷ k ∷ c ∷ d ∷ e ∷ f ∷ []) (i ∷ j ∷ p ∷ (l ++ post)) g h at (at + 6) q refl)
             ∙ ap (λ (x : List ℕ). fieldsAt to x (at + 11) n)
-            (field-in to pre (a ∷ k ∷ c ∷ d ∷ e ∷ f ∷ g ∷ newLow to g h ∷ []) (p ∷ (l ++ post)) i j at (at + 8) q refl
+            (field-in to pre (a ∷ k ∷ c ∷ d ∷ e ∷ f ∷ g ∷ newLow to g h ∷ []) (p ∷ (l ++ post)) i j at (at + 6 + 2) q (omega arith)
             ∙ sym (append-assoc pre mid (l ++ post)))
             ∙ list-put to small n (pre ++ mid) l post (at + 11) z even
             ∙ append-assoc pre mid (changed to l ++ post)
@@ -237,60 +228,50 @@ module _ (to : List ℕ) (small : Bytes to) where
         size = ap length is ∙ omega (arith, changed-length to l);
       }
 
-  constraint-put : (pre r post : List ℕ) (at : ℕ) → length pre ≡ at → Fit Constraints r → Bytes r
-      → Put Constraints to pre r post at
-  unfolding Fit
-  constraint-put pre [] post at q f b = absurd (omega (arith, f .1 .1))
-  constraint-put pre (a ∷ []) post at q f b = absurd (omega (arith, f .1 .1))
-  constraint-put pre (a ∷ k ∷ []) post at q f b = absurd (omega (arith, f .1 .1))
-  constraint-put pre (a ∷ k ∷ c ∷ []) post at q f b = absurd (omega (arith, f .1 .1))
-  constraint-put pre (a ∷ k ∷ c ∷ d ∷ []) post at q f b = absurd (omega (arith, f .1 .1))
-  constraint-put pre (a ∷ k ∷ c ∷ d ∷ e ∷ []) post at q f b = absurd (omega (arith, f .1 .1))
-  constraint-put pre (a ∷ k ∷ c ∷ d ∷ e ∷ x ∷ []) post at q f b = absurd (omega (arith, f .1 .1))
-  constraint-put pre (a ∷ k ∷ c ∷ d ∷ e ∷ x ∷ g ∷ []) post at q f b = absurd (omega (arith, f .1 .1))
-  constraint-put pre (a ∷ k ∷ c ∷ d ∷ e ∷ x ∷ g ∷ h ∷ []) post at q f b = absurd (omega (arith, f .1 .1))
-  constraint-put pre (a ∷ k ∷ c ∷ d ∷ e ∷ x ∷ g ∷ h ∷ i ∷ []) post at q f b = absurd (omega (arith, f .1 .1))
-  constraint-put pre (a ∷ k ∷ c ∷ d ∷ e ∷ x ∷ g ∷ h ∷ i ∷ j ∷ []) post at q f b = absurd (omega (arith, f .1 .1))
-  constraint-put pre (a ∷ k ∷ c ∷ d ∷ e ∷ x ∷ g ∷ h ∷ i ∷ j ∷ p ∷ l) post at q f b =
-      constraint-long a k c d e x g h i j p l pre post at (f .1 .0) q (f .0) (omega (arith, f .1 .1)) b
+  pub constraint-put :
+      (pre r post : List ℕ) (at n : ℕ) → length pre ≡ at → getD r 0 0 ≡ length r → length r ≡ 11 + 2 * n → Bytes r
+      → Put 6 to pre r (retypeConstraint (renumbered to) r) post at
+  constraint-put pre [] post at n q w v b = absurd (omega (arith, v))
+  constraint-put pre (a ∷ []) post at n q w v b = absurd (omega (arith, v))
+  constraint-put pre (a ∷ k ∷ []) post at n q w v b = absurd (omega (arith, v))
+  constraint-put pre (a ∷ k ∷ c ∷ []) post at n q w v b = absurd (omega (arith, v))
+  constraint-put pre (a ∷ k ∷ c ∷ d ∷ []) post at n q w v b = absurd (omega (arith, v))
+  constraint-put pre (a ∷ k ∷ c ∷ d ∷ e ∷ []) post at n q w v b = absurd (omega (arith, v))
+  constraint-put pre (a ∷ k ∷ c ∷ d ∷ e ∷ x ∷ []) post at n q w v b = absurd (omega (arith, v))
+  constraint-put pre (a ∷ k ∷ c ∷ d ∷ e ∷ x ∷ g ∷ []) post at n q w v b = absurd (omega (arith, v))
+  constraint-put pre (a ∷ k ∷ c ∷ d ∷ e ∷ x ∷ g ∷ h ∷ []) post at n q w v b = absurd (omega (arith, v))
+  constraint-put pre (a ∷ k ∷ c ∷ d ∷ e ∷ x ∷ g ∷ h ∷ i ∷ []) post at n q w v b = absurd (omega (arith, v))
+  constraint-put pre (a ∷ k ∷ c ∷ d ∷ e ∷ x ∷ g ∷ h ∷ i ∷ j ∷ []) post at n q w v b = absurd (omega (arith, v))
+  constraint-put pre (a ∷ k ∷ c ∷ d ∷ e ∷ x ∷ g ∷ h ∷ i ∷ j ∷ p ∷ l) post at n q w v b =
+      constraint-long a k c d e x g h i j p l pre post at n q w (omega (arith, v)) b
 
-  record-put : (s : Section) (pre r post : List ℕ) (at : ℕ) → length pre ≡ at → 0 < length r → Fit s r → Bytes r
-      → Put s to pre r post at
-  unfolding Fit recordFrom retyped leastOf
-  record-put Groups pre [] post at q h f b = absurd (omega arith)
-  record-put Groups pre (a ∷ l) post at q h f b =
-      record { first = getD-at pre a (l ++ post) 0 at q ∙ f; long = omega arith; bytes = refl; size = refl }
-  record-put Rules pre r post at q h f b = rule-put pre r post at q f b
-  record-put Constraints pre r post at q h f b = constraint-put pre r post at q f b
+-- ---- records one after the other
 
-  -- ---- records one after the other
-
+module _ (k : ℕ) (to : List ℕ) (new : List ℕ → List ℕ) where
   pub records-put :
-      (s : Section) (rs : List (List ℕ)) (pre post : List ℕ) (at : ℕ) → length pre ≡ at
-      → ((r : List ℕ) → List·Memᴰ r rs → (0 < length r) × Fit s r × Bytes r)
-      → Lie s to (pre ++ (flatten rs ++ post)) at (length rs)
-      × (recordsFrom s to (pre ++ (flatten rs ++ post)) at (length rs) ≡ pre ++ (flatten (map (retyped s to) rs) ++ post))
+      (rs : List (List ℕ)) (pre post : List ℕ) (at : ℕ) → length pre ≡ at
+      → ((r : List ℕ) → List·Memᴰ r rs → (x y : List ℕ) (i : ℕ) → length x ≡ i → Put k to x r (new r) y i)
+      → Lie k to (pre ++ (flatten rs ++ post)) at (length rs)
+      × (recordsFrom k to (pre ++ (flatten rs ++ post)) at (length rs) ≡ pre ++ (flatten (map new rs) ++ post))
   unfolding Lie recordsFrom flatten
-  records-put s [] pre post at q f = (tt, refl)
-  records-put s (r ∷ rs) pre post at q f =
-      let k = f r (List·Memᴰ·head refl) in
+  records-put [] pre post at q f = (tt, refl)
+  records-put (r ∷ rs) pre post at q f =
       let rest : List ℕ = flatten rs ++ post in
-      let p = record-put s pre r rest at q (k .0) (k .1) (k .2) in
+      let p = f r (List·Memᴰ·head refl) pre rest at q in
       let b : List ℕ = pre ++ ((r ++ flatten rs) ++ post) in
       let e : b ≡ pre ++ (r ++ rest) = ap (λ (x : List ℕ). pre ++ x) (append-assoc r (flatten rs) post) in
       let one : getD b at 0 ≡ length r = ap (λ (x : List ℕ). getD x at 0) e ∙ p .first in
-      let new : List ℕ = retyped s to r in
-      let two : recordFrom s to b at ≡ (pre ++ new) ++ rest
-      = ap (λ (x : List ℕ). recordFrom s to x at) e ∙ p .bytes ∙ sym (append-assoc pre new rest) in
-      let z : length (pre ++ new) ≡ at + getD b at 0 = omega (arith, length-append pre new, p .size) in
-      let w = records-put s rs (pre ++ new) post (at + getD b at 0) z (λ x m. f x (List·Memᴰ·tail m)) in
+      let two : recordFrom k to b at (at + getD b at 0) ≡ (pre ++ new r) ++ rest
+      = ap₂ (λ (x : List ℕ) (n : ℕ). recordFrom k to x at (at + n)) e one ∙ p .bytes ∙ sym (append-assoc pre (new r) rest) in
+      let z : length (pre ++ new r) ≡ at + getD b at 0 = omega (arith, length-append pre (new r), p .size) in
+      let w = records-put rs (pre ++ new r) post (at + getD b at 0) z (λ x m. f x (List·Memᴰ·tail m)) in
       let n : length b ≡ at + (length r + length rest) = ap length e
       ∙ omega (arith, length-append pre (r ++ rest), length-append r rest) in
-      let l : (leastOf s ≤ getD b at 0) × (at + getD b at 0 ≤ length b)
-      × Lie s to (recordFrom s to b at) (at + getD b at 0) (length rs)
+      let l : (k + 4 ≤ getD b at 0) × (at + getD b at 0 ≤ length b)
+      × Lie k to (recordFrom k to b at (at + getD b at 0)) (at + getD b at 0) (length rs)
       = (omega (arith, p .long), omega arith, rw two (w .0)) in (
         l,
-        ap (λ (x : List ℕ). recordsFrom s to x (at + getD b at 0) (length rs)) two ∙ w .1
-            ∙ append-assoc pre new (flatten (map (retyped s to) rs) ++ post)
-            ∙ ap (λ (x : List ℕ). pre ++ x) (sym (append-assoc new (flatten (map (retyped s to) rs)) post)),
+        ap (λ (x : List ℕ). recordsFrom k to x (at + getD b at 0) (length rs)) two ∙ w .1
+            ∙ append-assoc pre (new r) (flatten (map new rs) ++ post)
+            ∙ ap (λ (x : List ℕ). pre ++ x) (sym (append-assoc (new r) (flatten (map new rs)) post)),
       )

@@ -1,8 +1,7 @@
 // The image without twins: its length is known before a byte is written.
 use crate::put::copy;
 use crate::put::put_header;
-use crate::retype::retype_constraints;
-use crate::retype::retype_rules;
+use crate::retype::retype_records;
 use crate::section::kept_length;
 use crate::section::put_kept;
 use crate::twins::settle;
@@ -43,8 +42,14 @@ fn put_image(
     let at = put_kept(buffer, first, image, header::SIZE, groups, keep);
     let from = sections.rules;
     copy(buffer, at, &image[from..]);
-    retype_rules(buffer, at, rules, to);
-    retype_constraints(buffer, at + (sections.constraints - from), constraints, to);
+    retype_records(buffer, at, rules, 2, to);
+    retype_records(
+        buffer,
+        at + (sections.constraints - from),
+        constraints,
+        6,
+        to,
+    );
 }
 
 // An image that passes 1 to 7, whose sections start at given places and whose groups are first alike to given ones.

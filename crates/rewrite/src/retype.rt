@@ -4,8 +4,7 @@ use crate::word::wide;
 ghost use mathlib.Core.Path.{_≡_};
 ghost use Prim.Native.Nat.{_+_, _-_, _/_, _≤_, _<_};
 ghost use lib.ListN.{length};
-ghost use Rattle.format.specs.declared.Section.the-variants.{Rules, Constraints};
-ghost use Rattle.rewrite.specs.Inner.Retype.{newLow, fieldAt, fieldsAt, recordsFrom, Lie};
+ghost use Rattle.rewrite.specs.Inner.Retype.{newLow, fieldAt, fieldsAt, recordFrom, recordsFrom, Lie};
 
 // The second byte of a type field, changed.
 fn renumbered(to: &[u8; 256], high: u8, low: u8) -> u8
@@ -38,34 +37,35 @@ fn retype_list(buffer: &mut [u8], from: usize, end: usize, to: &[u8; 256])
     }
 }
 
-// Source and destination of so many rules from a place on.
-pub(crate) fn retype_rules(buffer: &mut [u8], from: usize, count: usize, to: &[u8; 256])
-    requires { ⌜ Lie Rules (now to) (now buffer) from count ⌝ }
-    ensures { λ _. ⌜ now (buffer .exit) ≡ recordsFrom Rules (now (to .entry)) (now (buffer .entry)) from count ⌝ }
+// The type fields of the record at a place, which ends at another: two from its byte `first` on, and those behind its eleventh
+// byte. A rule has none there.
+fn retype_record(buffer: &mut [u8], at: usize, end: usize, first: usize, to: &[u8; 256])
+    requires { ⌜ (at + first + 4 ≤ end) × (end ≤ length (now buffer)) ⌝ }
+    ensures { λ _. ⌜ now (buffer .exit) ≡ recordFrom first (now (to .entry)) (now (buffer .entry)) at end ⌝ }
 {
-    let mut at = from;
-    let mut left = count;
-    while 0 < left {
-        let end = at + wide(buffer[at]);
-        retype_field(buffer, at + 2, to);
-        retype_field(buffer, at + 4, to);
-        at = end;
-        left -= 1;
+    retype_field(buffer, at + first, to);
+    retype_field(buffer, at + first + 2, to);
+    if at + 11 < end {
+        retype_list(buffer, at + 11, end, to);
     }
 }
 
-// First and second argument and the list of so many constraints from a place on.
-pub(crate) fn retype_constraints(buffer: &mut [u8], from: usize, count: usize, to: &[u8; 256])
-    requires { ⌜ Lie Constraints (now to) (now buffer) from count ⌝ }
-    ensures { λ _. ⌜ now (buffer .exit) ≡ recordsFrom Constraints (now (to .entry)) (now (buffer .entry)) from count ⌝ }
+// The type fields of so many records from a place on.
+pub(crate) fn retype_records(
+    buffer: &mut [u8],
+    from: usize,
+    count: usize,
+    first: usize,
+    to: &[u8; 256],
+)
+    requires { ⌜ Lie first (now to) (now buffer) from count ⌝ }
+    ensures { λ _. ⌜ now (buffer .exit) ≡ recordsFrom first (now (to .entry)) (now (buffer .entry)) from count ⌝ }
 {
     let mut at = from;
     let mut left = count;
     while 0 < left {
         let end = at + wide(buffer[at]);
-        retype_field(buffer, at + 6, to);
-        retype_field(buffer, at + 8, to);
-        retype_list(buffer, at + 11, end, to);
+        retype_record(buffer, at, end, first, to);
         at = end;
         left -= 1;
     }

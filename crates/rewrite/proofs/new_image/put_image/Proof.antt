@@ -111,22 +111,22 @@ wrote d =
     wrote-then (wrote-then (headed (kept d) .put-header .ensures) (kept d .put-kept .ensures) (omega arith)) (d .copy .ensures)
     (omega arith)
 
-retype-rules-requires : tie.Need-retype-rules-requires
-retype-rules-requires c κs = let d : tie.After-copy = c .before .before .before in
+retype-records-requires : tie.Need-retype-records-requires
+retype-records-requires c κs = let d : tie.After-copy = c .before .before .before in
     let e = counted (headed (kept d)) in
     let a = start e in
     rules-step (image e) (a .args .sections) (now (a .args .to)) (now (a .args .keep)) (a .args .kept) (a .pre .0) (bytes e)
     (now (a .args .buffer)) _ (a .args .size) _ _ _ _ _ _ (a .pre .1) (e .before .word-at2 .ensures .0) (e .word-at3 .ensures .0)
     (wrote d) (ap flatten (plan e .groups)) (plan e .tail) (rules-place (kept d)) .0
 
-abbrev retyped : tie.After-retype-rules → tie.After-copy
+abbrev retyped : tie.After-retype-records → tie.After-copy
 retyped d = d .before .before .before .before
 
-sub-retype-constraints : tie.Need-sub-retype-constraints
-sub-retype-constraints c = plan (counted (headed (kept (retyped (c .before .before .before .before))))) .order
+sub-retype-records : tie.Need-sub-retype-records
+sub-retype-records c = plan (counted (headed (kept (retyped (c .before .before .before .before))))) .order
 
-add-retype-constraints : tie.Need-add-retype-constraints
-add-retype-constraints c = let d = kept (retyped (c .before .before .before .before)) in
+add-retype-records : tie.Need-add-retype-records
+add-retype-records c = let d = kept (retyped (c .before .before .before .before)) in
     let e = counted (headed d) in
     let f = plan e in
     let n = start e .pre .1 in
@@ -142,24 +142,24 @@ add-retype-constraints c = let d = kept (retyped (c .before .before .before .bef
           (flatten (p .constraints)),
     )
 
-retype-constraints-requires : tie.Need-retype-constraints-requires
-retype-constraints-requires c κs = let r : tie.After-retype-rules = c .before .before .before .before in
+retype-records-requires-2 : tie.Need-retype-records-requires-2
+retype-records-requires-2 c κs = let r : tie.After-retype-records = c .before .before .before .before in
     let d = retyped r in
     let e = counted (headed (kept d)) in
     let a = start e in
     constraints-step (image e) (a .args .sections) (now (a .args .to)) (now (a .args .keep)) (a .args .kept) (a .pre .0) (bytes e)
     (now (a .args .buffer)) _ (a .args .size) _ _ _ _ _ _ (a .pre .1) (e .before .word-at2 .ensures .0) (e .word-at3 .ensures .0)
-    (wrote d) (ap flatten (plan e .groups)) (plan e .tail) (rules-place (kept d)) _ _ (r .retype-rules .ensures) refl .0
+    (wrote d) (ap flatten (plan e .groups)) (plan e .tail) (rules-place (kept d)) _ _ (r .retype-records .ensures) refl .0
 
 returns : tie.Need-returns
-returns c = let r : tie.After-retype-rules = c .before .before .before .before .before .before .before in
+returns c = let r : tie.After-retype-records = c .before .before .before .before .before .before .before in
     let d = retyped r in
     let e = counted (headed (kept d)) in
     let a = start e in
     whole-step (image e) (a .args .sections) (now (a .args .to)) (now (a .args .keep)) (a .args .kept) (a .pre .0) (bytes e)
     (now (a .args .buffer)) _ (a .args .size) _ _ _ _ _ _ (a .pre .1) (e .before .word-at2 .ensures .0) (e .word-at3 .ensures .0)
-    (wrote d) (ap flatten (plan e .groups)) (plan e .tail) (rules-place (kept d)) _ _ (r .retype-rules .ensures) refl
-    _ (c .before .before .retype-constraints .ensures) (omega arith)
+    (wrote d) (ap flatten (plan e .groups)) (plan e .tail) (rules-place (kept d)) _ _ (r .retype-records .ensures) refl
+    _ (c .before .before .retype-records2 .ensures) (omega arith)
 
 pub put-image-spec : {M : Type 1} → statement M
 put-image-spec =
@@ -175,9 +175,9 @@ put-image-spec =
     part-copy-start
     (λ c. search needs)
     copy-requires
-    retype-rules-requires
-    sub-retype-constraints
-    add-retype-constraints
-    retype-constraints-requires
+    retype-records-requires
+    sub-retype-records
+    add-retype-records
+    retype-records-requires-2
     (λ c. search needs)
     returns)
