@@ -1,9 +1,10 @@
-//! One policy and its queries, put to both engines.
+//! One policy and its queries, put to both engines; and an image that both write.
 
 use crate::measure::{least, Effort};
 use crate::ours;
 use hand_written::{check, decide, decide_checked, Prepared};
-use mungaite::{Kind, Query};
+use mungaite::{Kind, Query, LARGEST};
+use std::fmt::Debug;
 use std::hint::black_box;
 use std::process::exit;
 
@@ -78,7 +79,27 @@ impl Case {
     }
 
     pub fn fail(&self, what: &str) -> ! {
-        eprintln!("{}: {what}", self.name);
-        exit(1)
+        fail(&self.name, what)
     }
+}
+
+/// Ends the program where an engine does not write the image or writes past it, or where ours answers another number.
+pub fn compare_written<E: Debug + PartialEq>(
+    name: &str,
+    image: &[u8],
+    number: u64,
+    ours: impl Fn(&mut [u8]) -> u64,
+    its: impl Fn(&mut [u8]) -> Result<usize, E>,
+) {
+    let [mut expected, mut our_buffer, mut its_buffer] = [(); 3].map(|()| vec![77; LARGEST + 1]);
+    expected[..image.len()].copy_from_slice(image);
+    let (answer, said) = (ours(&mut our_buffer), its(&mut its_buffer));
+    if answer != number || said != Ok(image.len()) || our_buffer != expected || its_buffer != expected {
+        fail(name, &format!("{answer:#x}, and {said:?}: not the image"));
+    }
+}
+
+fn fail(name: &str, what: &str) -> ! {
+    eprintln!("{name}: {what}");
+    exit(1)
 }

@@ -1,12 +1,12 @@
 //! Images converted by both engines.
 
 use crate::cases::twins::Conversion;
+use crate::contest::compare_written;
 use crate::measure::{least, Effort};
 use crate::ours;
 use crate::table::{nanoseconds, FIRST};
 use mungaite::LARGEST;
 use std::hint::black_box;
-use std::process::exit;
 
 pub fn print(conversions: &[Conversion], effort: Effort) {
     println!(
@@ -47,15 +47,8 @@ impl Conversion {
 
     /// Ends the program where an engine does not write the new image, or writes past it.
     fn compare(&self) {
-        let length = self.new.len();
-        let mut expected = vec![77; LARGEST + 1];
-        expected[..length].copy_from_slice(&self.new);
-        let [mut ours, mut its] = [(); 2].map(|()| vec![77; LARGEST + 1]);
-        let answer = ours::convert(&self.old, &mut ours);
-        let said = hand_written::convert(&self.old, &mut its);
-        if answer != 1 << 32 | length as u64 || said != Ok(length) || ours != expected || its != expected {
-            eprintln!("{}: {answer:#x}, and {said:?}: not the new image", self.name);
-            exit(1);
-        }
+        let ours = |buffer: &mut [u8]| ours::convert(&self.old, buffer);
+        let its = |buffer: &mut [u8]| hand_written::convert(&self.old, buffer);
+        compare_written(self.name, &self.new, 1 << 32 | self.new.len() as u64, ours, its);
     }
 }

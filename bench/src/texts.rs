@@ -1,12 +1,12 @@
 //! Policies as text, built by both engines.
 
 use crate::cases::texts::Text;
+use crate::contest::compare_written;
 use crate::measure::{least, Effort};
 use crate::ours;
 use crate::table::{nanoseconds, FIRST};
 use mungaite::LARGEST;
 use std::hint::black_box;
-use std::process::exit;
 
 pub fn print(texts: &[Text], effort: Effort) {
     println!("\nPolicies as text: build; 1,000,000 or less is wanted of the largest\n");
@@ -44,15 +44,8 @@ impl Text {
 
     /// Ends the program where an engine does not build the image, or writes past it.
     fn compare(&self) {
-        let length = self.image.len();
-        let mut expected = vec![77; LARGEST + 1];
-        expected[..length].copy_from_slice(&self.image);
-        let [mut ours, mut its] = [(); 2].map(|()| vec![77; LARGEST + 1]);
-        let answer = ours::build(&self.text, &mut ours);
-        let said = hand_written::build(&self.text, &mut its);
-        if answer != length as u64 || said != Ok(length) || ours != expected || its != expected {
-            eprintln!("{}: {answer:#x}, and {said:?}: not the image", self.name);
-            exit(1);
-        }
+        let ours = |buffer: &mut [u8]| ours::build(&self.text, buffer);
+        let its = |buffer: &mut [u8]| hand_written::build(&self.text, buffer);
+        compare_written(self.name, &self.image, self.image.len() as u64, ours, its);
     }
 }

@@ -46,19 +46,7 @@ impl Pair<'_> {
 
     pub fn add(&self, buffer: &[u8], record: &[u8]) -> Outcome {
         let shown = || format!("{} into {}", hex(record), hex(buffer));
-        let mut guarded = [&GUARD, buffer, &GUARD].concat();
-        let place = GUARD.len()..GUARD.len() + buffer.len();
-        let answer = self.engine.add(&mut guarded[place.clone()], record);
-        if answer.is_err() {
-            same_bytes("buffer after a refused add", &guarded[place.clone()], buffer, shown)?;
-        }
-        let mut modelled = buffer.to_vec();
-        equal("add", answer, self.model.add(&mut modelled, record), shown)?;
-        same_bytes("buffer after add", &guarded[place.clone()], &modelled, shown)?;
-        if guarded[..place.start] != GUARD || guarded[place.end..] != GUARD {
-            return Err(format!("add wrote outside of its buffer: {}", shown()));
-        }
-        Ok(())
+        self.writes_unless_refused("add", buffer, |subject, buffer| subject.add(buffer, record), shown)
     }
 
     pub fn permit(&self, input: &[u8]) -> Outcome {
@@ -67,16 +55,7 @@ impl Pair<'_> {
 
     pub fn build(&self, text: &[u8], buffer: &[u8]) -> Outcome {
         let shown = || format!("{} into {} bytes", typed(text), buffer.len());
-        let mut guarded = [&GUARD, buffer, &GUARD].concat();
-        let place = GUARD.len()..GUARD.len() + buffer.len();
-        let answer = self.engine.build(text, &mut guarded[place.clone()]);
-        let mut modelled = buffer.to_vec();
-        equal("build", answer, self.model.build(text, &mut modelled), shown)?;
-        same_bytes("buffer after build", &guarded[place.clone()], &modelled, shown)?;
-        if guarded[..place.start] != GUARD || guarded[place.end..] != GUARD {
-            return Err(format!("build wrote outside of its buffer: {}", shown()));
-        }
-        Ok(())
+        self.writes("build", buffer, |subject, buffer| subject.build(text, buffer), shown).map(drop)
     }
 
     pub fn compile(&self, text: &[u8]) -> Outcome {
@@ -85,24 +64,47 @@ impl Pair<'_> {
 
     pub fn convert(&self, image: &[u8], buffer: &[u8]) -> Outcome {
         let shown = || format!("{} into {} bytes", hex(image), buffer.len());
-        let mut guarded = [&GUARD, buffer, &GUARD].concat();
-        let place = GUARD.len()..GUARD.len() + buffer.len();
-        let answer = self.engine.convert(image, &mut guarded[place.clone()]);
-        if answer.is_err() {
-            same_bytes("buffer after a refused convert", &guarded[place.clone()], buffer, shown)?;
-        }
-        let mut modelled = buffer.to_vec();
-        equal("convert", answer, self.model.convert(image, &mut modelled), shown)?;
-        same_bytes("buffer after convert", &guarded[place.clone()], &modelled, shown)?;
-        if guarded[..place.start] != GUARD || guarded[place.end..] != GUARD {
-            return Err(format!("convert wrote outside of its buffer: {}", shown()));
-        }
-        Ok(())
+        self.writes_unless_refused("convert", buffer, |subject, buffer| subject.convert(image, buffer), shown)
     }
 
     pub fn convert_program(&self, input: &[u8]) -> Outcome {
         let answers = (self.engine.convert_program(input), self.model.convert_program(input));
         equal("the program convert", answers.0, answers.1, || hex(input))
+    }
+
+    /// A call that writes to a buffer, and leaves it as it was where it refuses.
+    fn writes_unless_refused<T: PartialEq + Debug>(
+        &self,
+        call: &str,
+        buffer: &[u8],
+        ask: impl Fn(&dyn Subject, &mut [u8]) -> Result<T, Refusal>,
+        shown: impl Fn() -> String,
+    ) -> Outcome {
+        match self.writes(call, buffer, ask, &shown)? {
+            (Ok(_), _) => Ok(()),
+            (Err(_), left) => same_bytes(&format!("buffer after a refused {call}"), &left, buffer, shown),
+        }
+    }
+
+    /// A call that writes to a buffer, and to nothing around it: the engine's answer, and its buffer afterwards.
+    fn writes<T: PartialEq + Debug>(
+        &self,
+        call: &str,
+        buffer: &[u8],
+        ask: impl Fn(&dyn Subject, &mut [u8]) -> T,
+        shown: impl Fn() -> String,
+    ) -> Result<(T, Vec<u8>), String> {
+        let mut guarded = [&GUARD, buffer, &GUARD].concat();
+        let place = GUARD.len()..GUARD.len() + buffer.len();
+        let answer = ask(self.engine, &mut guarded[place.clone()]);
+        let mut modelled = buffer.to_vec();
+        let expected = ask(&self.model, &mut modelled);
+        equal(call, &answer, &expected, &shown)?;
+        same_bytes(&format!("buffer after {call}"), &guarded[place.clone()], &modelled, &shown)?;
+        if guarded[..place.start] != GUARD || guarded[place.end..] != GUARD {
+            return Err(format!("{call} wrote outside of its buffer: {}", shown()));
+        }
+        Ok((answer, modelled))
     }
 }
 

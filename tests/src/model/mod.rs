@@ -43,7 +43,7 @@ mod text_slip;
 mod twin_slip;
 mod twins;
 
-pub use slip::{Predicate, Reader, Slip};
+pub use slip::{Mistake, Predicate, Reader, Slip};
 pub use text_slip::TextSlip;
 pub use twin_slip::{Field, TwinSlip};
 

@@ -1,6 +1,8 @@
 //! Mistakes that the model can be told to make, to see that the tests notice them.
 
+use super::Model;
 use mungaite::Section;
+use std::fmt::Debug;
 
 /// A predicate that looks at the rules.
 #[derive(Clone, Copy, Debug, PartialEq, Eq)]
@@ -49,31 +51,45 @@ impl Reader {
     }
 }
 
+/// A kind of mistakes that the model can be told to make.
+pub trait Mistake: Copy + Debug + 'static {
+    fn all() -> Vec<Self>;
+
+    /// The mistake's name, in letters only.
+    fn name(self) -> String {
+        format!("{self:?}").replace(['(', ')'], "")
+    }
+
+    /// What the mistaken model does.
+    fn says(self) -> &'static str;
+
+    /// The mistaken model.
+    fn model(self) -> Model;
+}
+
 /// The mistakes, each with what the mistaken model does. One with a kind in brackets is a mistake for each of that
-/// kind.
+/// kind. The model is told of one by the function that stands behind `by`.
 macro_rules! slips {
-    ($slip:ident $($name:ident $(($kind:ident))? => $says:literal,)*) => {
+    ($slip:ident by $with:ident: $($name:ident $(($kind:ident))? => $says:literal,)*) => {
         /// One mistake.
         #[derive(Clone, Copy, Debug, PartialEq, Eq)]
         pub enum $slip {
             $(#[doc = $says] $name $(($kind))?,)*
         }
 
-        impl $slip {
-            pub fn all() -> Vec<$slip> {
+        impl $crate::model::Mistake for $slip {
+            fn all() -> Vec<$slip> {
                 [$(slips!(@each $slip $name $($kind)?),)*].concat()
             }
 
-            /// The mistake's name, in letters only.
-            pub fn name(self) -> String {
-                format!("{self:?}").replace(['(', ')'], "")
-            }
-
-            /// What the mistaken model does.
-            pub fn says(self) -> &'static str {
+            fn says(self) -> &'static str {
                 match self {
                     $($slip::$name { .. } => $says,)*
                 }
+            }
+
+            fn model(self) -> $crate::model::Model {
+                $crate::model::Model::$with(self)
             }
         }
     };
@@ -83,7 +99,7 @@ macro_rules! slips {
 
 pub(super) use slips;
 
-slips! { Slip
+slips! { Slip by with:
     // The five misreadings of document 01.
     LastRuleSkipped => "the last rule is skipped, since nothing follows it",
     FailureLiftsUncovered => "a failing constraint lifts an uncovered query to UnKnown",

@@ -2,7 +2,7 @@
 
 use super::slip::slips;
 
-slips! { TextSlip
+slips! { TextSlip by with_text:
     // The rows of a text, and the words of a row.
     LastRowDropped => "a last row without a line feed is dropped",
     EmptyRowRefused => "an empty row is outside the form",

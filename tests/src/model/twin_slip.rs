@@ -44,7 +44,7 @@ impl Field {
     ];
 }
 
-slips! { TwinSlip
+slips! { TwinSlip by with_twins:
     // Which groups are twins.
     ByLength => "groups of equal length are twins",
     ByFirstMember => "groups with the same first member are twins",

@@ -49,8 +49,8 @@ pub fn all(run: &mut Run) {
         .chain(worked::OF_THE_LIBRARY)
         .chain(streams::TESTS)
         .chain(streams_compile::TESTS)
-        .chain(streams_failing::TESTS)
         .chain(streams_convert::TESTS)
+        .chain(streams_failing::TESTS)
     {
         run.cases(test);
     }

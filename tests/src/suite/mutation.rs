@@ -2,7 +2,7 @@
 
 use super::{differential, order, round_trip, rows, steps, switches, worked};
 use crate::compare::Pair;
-use crate::model::{Model, Predicate, Reader, Slip};
+use crate::model::{Mistake, Model, Predicate, Reader, Slip};
 use crate::runner::{run_case, Cases, Finding, Run, Whole, PANIC};
 
 /// Mistakes that the tests of the engine's answers alone must notice, with the mistaken model in the engine's place.
@@ -55,30 +55,47 @@ const PROPERTIES: [(Cases, Slip); 46] = [
     (round_trip::RANDOM, Slip::LimitReached(mungaite::Section::Rules)),
 ];
 
-/// Two tests for each mistake, one for each of the table's rows, and one for each term that the order rule's pairs are
-/// made without.
+/// The tests of the mistakes, and one for each term that the order rule's pairs are made without.
 pub fn tests() -> Vec<Whole> {
-    let worked_out = Slip::all().into_iter().map(|slip| Whole {
-        name: format!("mutation/worked/{}", slip.name()),
-        run: Box::new(move |run| worked_out(run, worked::TESTS, Model::with(slip), slip.says())),
-    });
-    let compared = Slip::all().into_iter().map(|slip| Whole {
-        name: format!("mutation/generated/{}", slip.name()),
-        run: Box::new(move |run| noticed(run, &differential(), &run.pair(Model::with(slip)), slip.says())),
-    });
-    let alone = PROPERTIES.into_iter().map(|(test, slip)| Whole {
-        name: format!("mutation/{}/{}", test.name, slip.name()),
-        run: Box::new(move |run| alone(run, test, Model::with(slip), slip.says())),
-    });
-    let without = order::WITHOUT.into_iter().map(|(pairs, says)| Whole {
+    let mut tests = of_mistakes("", worked::TESTS, &differential(), &PROPERTIES);
+    tests.extend(order::WITHOUT.into_iter().map(|(pairs, says)| Whole {
         name: format!("mutation/{}", pairs.name),
         run: Box::new(move |run| noticed(run, &[pairs], &run.pair(Model::RIGHT), says)),
+    }));
+    tests
+}
+
+/// Two tests for each mistake, by worked tables and by generated inputs, and one for each of the properties. The kind
+/// stands before the mistakes' names.
+pub fn of_mistakes<M: Mistake>(
+    kind: &str,
+    tables: &[Cases],
+    generated: &[Cases],
+    properties: &[(Cases, M)],
+) -> Vec<Whole> {
+    let worked_out = M::all().into_iter().map(|slip| {
+        let tables = tables.to_vec();
+        Whole {
+            name: format!("mutation/worked/{kind}{}", slip.name()),
+            run: Box::new(move |run| worked_out(run, &tables, slip.model(), slip.says())),
+        }
     });
-    worked_out.chain(compared).chain(alone).chain(without).collect()
+    let compared = M::all().into_iter().map(|slip| {
+        let generated = generated.to_vec();
+        Whole {
+            name: format!("mutation/generated/{kind}{}", slip.name()),
+            run: Box::new(move |run| noticed(run, &generated, &run.pair(slip.model()), slip.says())),
+        }
+    });
+    let alone = properties.iter().map(|&(test, slip)| Whole {
+        name: format!("mutation/{}/{}", test.name, slip.name()),
+        run: Box::new(move |run| alone(run, test, slip.model(), slip.says())),
+    });
+    worked_out.chain(compared).chain(alone).collect()
 }
 
 /// The worked tables, with the mistaken model in the engine's place.
-pub fn worked_out(run: &Run, tables: &[Cases], mistaken: Model, says: &str) -> Finding {
+fn worked_out(run: &Run, tables: &[Cases], mistaken: Model, says: &str) -> Finding {
     let pair = Pair { engine: &mistaken, model: Model::RIGHT };
     for test in tables {
         for case in run.quick_seeds(test) {
@@ -93,7 +110,7 @@ pub fn worked_out(run: &Run, tables: &[Cases], mistaken: Model, says: &str) -> F
 }
 
 /// A test of the engine's answers alone, with the mistaken model in the engine's place.
-pub fn alone(run: &Run, test: Cases, mistaken: Model, says: &str) -> Finding {
+fn alone(run: &Run, test: Cases, mistaken: Model, says: &str) -> Finding {
     noticed(run, &[test], &Pair { engine: &mistaken, model: Model::RIGHT }, says)
 }
 
@@ -102,7 +119,7 @@ const PARTS: usize = 100;
 
 /// Runs the tests, a part of each in turn, until a case fails: the engine against a mistaken model, or a mistaken model
 /// in the engine's place.
-pub fn noticed(run: &Run, tests: &[Cases], pair: &Pair, says: &str) -> Finding {
+fn noticed(run: &Run, tests: &[Cases], pair: &Pair, says: &str) -> Finding {
     let seeds: Vec<Vec<u64>> = tests.iter().map(|test| run.quick_seeds(test).collect()).collect();
     for part in 0..PARTS {
         for (test, seeds) in tests.iter().zip(&seeds) {

@@ -2,9 +2,9 @@
 //! generated
 //! images.
 
-use super::mutation::{alone, noticed, worked_out};
+use super::mutation::of_mistakes;
 use super::{converts, differential, old, texts, worked};
-use crate::model::{Field, Model, TwinSlip};
+use crate::model::{Field, TwinSlip};
 use crate::runner::{Cases, Whole};
 
 /// Mistakes that the tests of what the engine makes of old images must notice, with the mistaken model in its place.
@@ -41,25 +41,8 @@ const PROPERTIES: [(Cases, TwinSlip); 30] = [
     (old::ANSWERS, TwinSlip::NotFollowed(Field::Listed)),
 ];
 
-/// Two tests for each mistake, and one for each of the table's rows.
 pub fn tests() -> Vec<Whole> {
-    let worked_out = TwinSlip::all().into_iter().map(|slip| Whole {
-        name: format!("mutation/worked/twins/{}", slip.name()),
-        run: Box::new(move |run| {
-            let tables = [worked::TWINS, worked::TEXTS, worked::TESTS].concat();
-            worked_out(run, &tables, Model::with_twins(slip), slip.says())
-        }),
-    });
-    let compared = TwinSlip::all().into_iter().map(|slip| Whole {
-        name: format!("mutation/generated/twins/{}", slip.name()),
-        run: Box::new(move |run| {
-            let tests = [converts::TESTS, &differential(), texts::TESTS].concat();
-            noticed(run, &tests, &run.pair(Model::with_twins(slip)), slip.says())
-        }),
-    });
-    let alone = PROPERTIES.into_iter().map(|(test, slip)| Whole {
-        name: format!("mutation/{}/{}", test.name, slip.name()),
-        run: Box::new(move |run| alone(run, test, Model::with_twins(slip), slip.says())),
-    });
-    worked_out.chain(compared).chain(alone).collect()
+    let tables = [worked::TWINS, worked::TEXTS, worked::TESTS].concat();
+    let generated = [converts::TESTS, &differential(), texts::TESTS].concat();
+    of_mistakes("twins/", &tables, &generated, &PROPERTIES)
 }

@@ -1,26 +1,17 @@
-//! The program `convert` and inputs that come in pieces or from a file, that are long, late or broken, and outputs
-//! that are
-//! full or that nobody reads: what it writes, what it says on standard error, and how it ends.
+//! The program `convert` and inputs that come in pieces or from a file, and that are long: what it writes, what it says
+//! on standard error, and how it ends.
 
 use super::converts::OLD;
 use super::limits::largest;
 use super::streams_compile::{from_file, from_pieces};
-use super::streams_failing::ends;
-use super::watched::{ended, send, start, told, LATE, SIGPIPE};
 use crate::compare::{equal, hex, Outcome, Pair};
 use crate::engine::Engine;
 use crate::runner::{Cases, Count};
-use std::fs::File;
-use std::os::fd::OwnedFd;
-use std::os::unix::net::UnixStream;
-use std::os::unix::process::ExitStatusExt;
-use std::process::{Child, Stdio};
-use std::thread::sleep;
 
 /// The new image of `OLD`: groups of 7, 20 and 21, and 8. Group 2 and group 4 became group 0, 3 became 1, and 5 became
 /// 2.
 #[rustfmt::skip]
-const NEW: [u8; 85] = [
+pub const NEW: [u8; 85] = [
     0x01, 0x00, 0x55, 0x00, 0x03, 0x00, 0x03, 0x00, 0x02,
     0x04, 0x01, 0x00, 0x07,
     0x06, 0x01, 0x00, 0x14, 0x00, 0x15,
@@ -37,16 +28,10 @@ const NEW: [u8; 85] = [
 const BLOCKS: [usize; 9] = [512, 1024, 2048, 4096, 8192, 16_384, 32_768, 32_769, 55_560];
 const LENGTHS: [usize; 7] = [65_535, 65_536, 65_537, 131_072, 200_000, 1_000_000, 10_000_000];
 
-#[rustfmt::skip]
 pub const TESTS: &[Cases] = &[
     Cases { name: "streams/convert-pieces", count: Count::Listed(OLD.len() as u64 + 1), run: pieces },
     Cases { name: "streams/convert-blocks", count: Count::Listed(BLOCKS.len() as u64), run: blocks },
     Cases { name: "streams/convert-long-input", count: Count::Listed(LENGTHS.len() as u64), run: long_input },
-    Cases { name: "streams/convert-late-input", count: Count::Listed(3), run: late_input },
-    Cases { name: "streams/convert-broken-input", count: Count::Listed(3), run: broken_input },
-    Cases { name: "streams/convert-no-input", count: Count::Listed(1), run: no_input },
-    Cases { name: "streams/convert-full-output", count: Count::Listed(1), run: full_output },
-    Cases { name: "streams/convert-closed-output", count: Count::Listed(1), run: closed_output },
 ];
 
 /// Case n: the first n bytes, a pause, and the rest; and the same with a byte more.
@@ -80,64 +65,4 @@ fn long_input(_: &Pair, case: u64) -> Outcome {
         equal("convert", from_file(Engine::new().converter(), 2000 + case, &input)?, Err(line.to_string()), shown)?;
     }
     Ok(())
-}
-
-/// The bytes of the image that come at once, by case: none, up to within a record, all.
-fn first(case: u64) -> usize {
-    [0, 40, OLD.len()][case as usize]
-}
-
-/// An input on which no read waits, and a host that stops within the image.
-fn late_input(_: &Pair, case: u64) -> Outcome {
-    let (mut ours, theirs) = UnixStream::pair().map_err(|error| error.to_string())?;
-    theirs.set_nonblocking(true).map_err(|error| error.to_string())?;
-    let child = convert(OwnedFd::from(theirs), Stdio::piped())?;
-    let (now, later) = OLD.split_at(first(case));
-    send(&mut ours, now)?;
-    sleep(LATE);
-    send(&mut ours, later)?;
-    drop(ours);
-    ends(child, &NEW, "")
-}
-
-/// An input that breaks: what came is not taken for the whole image.
-fn broken_input(_: &Pair, case: u64) -> Outcome {
-    let (mut ours, theirs) = UnixStream::pair().map_err(|error| error.to_string())?;
-    // the peer of a stream that is closed with bytes unread is told so by an error
-    send(&mut &theirs, &[0])?;
-    let child = convert(OwnedFd::from(theirs), Stdio::piped())?;
-    send(&mut ours, &OLD[..first(case)])?;
-    sleep(LATE);
-    drop(ours);
-    ends(child, &[], "convert: standard input: Connection reset by peer\n")
-}
-
-/// A standard input that cannot be read at all: a folder.
-fn no_input(_: &Pair, _: u64) -> Outcome {
-    let folder = File::open("/").map_err(|error| error.to_string())?;
-    ends(convert(folder, Stdio::piped())?, &[], "convert: standard input: Is a directory\n")
-}
-
-/// A disk that is full.
-fn full_output(_: &Pair, _: u64) -> Outcome {
-    let full = File::options().write(true).open("/dev/full").map_err(|error| error.to_string())?;
-    let mut child = convert(Stdio::piped(), full)?;
-    send(&mut child.stdin.take().expect("stdin is piped"), &OLD)?;
-    ends(child, &[], "convert: standard output: No space left on device\n")
-}
-
-/// Nobody reads the output: the program is ended by the signal, and says nothing.
-fn closed_output(_: &Pair, _: u64) -> Outcome {
-    let mut child = convert(Stdio::piped(), Stdio::piped())?;
-    drop(child.stdout.take());
-    send(&mut child.stdin.take().expect("stdin is piped"), &OLD)?;
-    let status = ended(&mut child)?;
-    match (told(&mut child).as_str(), status.signal()) {
-        ("", Some(SIGPIPE)) => Ok(()),
-        (said, _) => Err(format!("{said:?} on standard error, {status}")),
-    }
-}
-
-fn convert(input: impl Into<Stdio>, output: impl Into<Stdio>) -> Result<Child, String> {
-    start(Engine::new().converter().stdin(input).stdout(output))
 }
