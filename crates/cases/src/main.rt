@@ -1,6 +1,8 @@
 // The sample sheet of document 01, with request [2]'s steps, as request [3]'s text, with request [5]'s story and request [6]'s
 // switches, run through the C interface, and records given as parts of an image, which C does not have: each line is a case and
 // its answer. The file stdout beside src/ has what the documents say.
+#![tactic(auto)]
+
 mod batch; // batch.rt: runs of queries on the sample
 mod images; // images.rt: images that are longer than a line
 mod show; // show.rt: a case's line

@@ -4,6 +4,8 @@
 // A text may have any length, and rows are added as they come: there is space for 65,536 bytes of rows, and a row in the form
 // has at most 460. What a row adds is `extend`'s; here are only the reads, the writes and the line. An input that cannot be
 // read, or an output that cannot be written, ends the program, which says so on standard error.
+#![tactic(auto)]
+
 mod feeds; // feeds.rt: line feeds in the bytes that have come
 mod line; // line.rt: the line of a refused row
 mod turn; // turn.rt: a turn, and the end of the input

@@ -4,6 +4,8 @@
 // The image is the whole input. There is space for 65,536 bytes of it, one more than a length field can say: an input that fills
 // it is refused, and is read no further. What is converted is `rewrite`'s; here are only the reads, the writes and the line. An
 // input that cannot be read, or an output that cannot be written, ends the program, which says so on standard error.
+#![tactic(auto)]
+
 mod line; // line.rt: the line of a refused image
 mod source; // source.rt: standard input
 mod sink; // sink.rt: standard output and standard error

@@ -1,4 +1,6 @@
 // Deciding queries, in one call with the check: one query, or many on one policy.
+#![tactic(auto)]
+
 mod word; // word.rt: numbers in bytes
 mod types; // types.rt: where the members of a type lie in the image
 mod marks; // marks.rt: sets as 1,024 marks, and the members of a type against them

@@ -1,4 +1,6 @@
 // The types of deciding. Their meaning is in specs/, and no code is here.
+#![tactic(auto)]
+
 use format::Refusal;
 
 // A source type, a destination type, a class, an action, and a word of 32 switches.

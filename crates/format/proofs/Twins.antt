@@ -27,8 +27,13 @@ use Rattle.format.proofs.Chain.{some_not_none}
 
 pub mem_get_or : {A : Type 0} {x : A} (xs : List A) (d : A) → Memᴰ x xs → (i : ℕ) × (i < length xs) × (get_or xs i d ≡ x)
 mem_get_or [] d m = absurd (Memᴰ.not-nil m)
-mem_get_or (y ∷ ys) d m =
-    ⊎_elim (λ e. (0, omega arith, sym e)) (λ k. let r = mem_get_or ys d k in (suc r.0, omega (arith, r.1), r.2)) (Memᴰ.cases_cons m)
+mem_get_or {x = x} (y ∷ ys) d m =
+    ⊎_elim
+    (λ e. (0, omega arith, sym e))
+    (λ (k : Memᴰ x ys).
+    let r : (i : ℕ) × (i < length ys) × (get_or ys i d ≡ x) = mem_get_or ys d k in
+    (suc r.0, omega (arith, r.1), r.2))
+    (Memᴰ.cases_cons m)
 
 pub get_or_mem : {A : Type 0} (xs : List A) (i : ℕ) (d : A) → i < length xs → Memᴰ (get_or xs i d) xs
 get_or_mem [] i d h = absurd (omega arith)

@@ -1,5 +1,7 @@
 // The types that the reading layer shares with the layers above it, and the header's numbers. Their meaning is in specs/,
 // and no code is here.
+#![tactic(auto)]
+
 pub mod header; // header.rt: the header's places and the limits
 
 // One of the three sections of an image.

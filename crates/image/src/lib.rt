@@ -3,6 +3,8 @@
 // Each public function takes any bytes and says in its contract what it answers, by the definitions of the crate `format`, and
 // `survey` and `survey_old` by specs/Survey.antt. Nothing lent is changed but the tables of these two, and nothing is remembered
 // from one call to the next.
+#![tactic(auto)]
+
 mod word; // word.rt: numbers in bytes
 mod kind; // kind.rt: kinds, lengths and the fields' single rules
 mod fields; // fields.rt: the fields of a record, by its kind

@@ -1,4 +1,5 @@
 // What the programs print is in specs/, and no code is here.
+#![tactic(auto)]
 
 // The refusal of a row: its number in the table, the place of the row's first byte in the text, and the row's number,
 // counted from 1.

@@ -1,4 +1,6 @@
 // An answer as a number of four 16-bit parts, the highest first. include/mungaite.h has the table.
+#![tactic(auto)]
+
 ghost use Rattle.std.specs.Prelude.{◌≡◌};
 ghost use Rattle.decision.specs.Decide.{answer_outcome};
 ghost use Rattle.decision.specs.Numbers.{parts_of, refusal_code, nearest_code, decision_code};

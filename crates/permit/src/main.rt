@@ -3,6 +3,8 @@
 // The image is the bytes up to its length field. A refused image gives one line and nothing more. What a query is
 // answered is `decide`'s; here are only the reads, the writes and the lines. An input that cannot be read, or an output
 // that cannot be written, ends the program, which says so on standard error.
+#![tactic(auto)]
+
 mod line; // line.rt: an answer as a line
 mod source; // source.rt: what standard input holds
 mod sink; // sink.rt: standard output

@@ -2,6 +2,8 @@
 //
 // The writer is apart from what is converted: put.rt and section.rt put bytes, a header and marked records at a place, and
 // retype.rt changes the groups that records in a buffer name, by a table.
+#![tactic(auto)]
+
 mod word; // word.rt: numbers in bytes
 mod put; // put.rt: bytes and the header
 mod retype; // retype.rt: type fields changed in place

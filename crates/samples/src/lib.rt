@@ -1,5 +1,7 @@
 // The sample sheet of document 01 and the empty policy, as the bytes that programs hold. A function for each says that they
 // are the definitions' own.
+#![tactic(auto)]
+
 ghost use Rattle.std.specs.Prelude.{◌≡◌};
 ghost use Rattle.format.specs.Sample as definitions;
 

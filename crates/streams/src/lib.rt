@@ -1,5 +1,7 @@
 // What the programs do: reads and writes that are made again where the C library says so, numbers put into a buffer, and what
 // is kept of a read.
+#![tactic(auto)]
+
 mod again; // again.rt: a call that failed
 mod source; // source.rt: a read
 mod sink; // sink.rt: a write

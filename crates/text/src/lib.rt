@@ -1,4 +1,6 @@
 // The types of policies as text. Their meaning is in specs/, and no code is here.
+#![tactic(auto)]
+
 use format::Refusal;
 
 // What a word of a row stands for: a member of a group, a type (a basic one or a group), a class or an action, a
