@@ -76,7 +76,7 @@ def declared(path):
             continue
         if inside:
             (fields if inside[0] == "record" else found).update(m.group(1).split())
-        elif indent in (0, 2) and " " not in m.group(1):
+        elif indent <= 8 and " " not in m.group(1):
             found.add(m.group(1))
     return found, fields
 

@@ -116,10 +116,10 @@ companion_section = section_of_lem Constraints 4 (kind_constraints 4 refl)
 
 -- a constraint is no rule
 pub companion_no_rule : section_of (get_or companion 1 0) ≡ Rules → ⊥
-companion_no_rule e = no-rule (sym companion_section ∙ e)
+companion_no_rule e = no_rule (sym companion_section ∙ e)
   where
-    no-rule : Constraints ≡ Rules → ⊥
-    no-rule k = (let z : ◌≡◌ {A = ℕ} 0 1 = cc in omega arith)
+    no_rule : Constraints ≡ Rules → ⊥
+    no_rule k = (let z : ◌≡◌ {A = ℕ} 0 1 = cc in omega arith)
 
 -- ---- the rule
 

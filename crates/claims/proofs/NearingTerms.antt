@@ -51,20 +51,20 @@ module _ (p : Promises) where
 
   -- the sample's rule 3 by switch 0
   module _ (s d c a w : ℕ) where
-    by-switch-0 : is_on w (get_or (get_or (policy_of (sample_if 2)).rules 3 []) 10 0) ≡ is_on w 2
-    by-switch-0 = ap (is_on w) switch_rules.condition
+    by_switch_0 : is_on w (get_or (get_or (policy_of (sample_if 2)).rules 3 []) 10 0) ≡ is_on w 2
+    by_switch_0 = ap (is_on w) switch_rules.condition
 
     switch_none : w % 2 ≡ 0 → steps_at (policy_of (sample_if 2)) (query_of s d c a w) 3 ≡ 0
     switch_none e =
         p.nearing.steps_of_record.off (policy_of (sample_if 2)) (query_of s d c a w) (get_or (policy_of (sample_if 2)).rules 3 []) switch_rules.allow
-        (by-switch-0 ∙ p.switching.condition_means.switch_off w 0 (w / 2) (omega (arith, e)))
+        (by_switch_0 ∙ p.switching.condition_means.switch_off w 0 (w / 2) (omega (arith, e)))
 
     switch_one :
         w % 2 ≡ 1 → source_in (policy_of (sample_if 2)) (query_of s d c a w) (get_or (policy_of (sample_if 2)).rules 3 []) ≡ false
         → steps_at (policy_of (sample_if 2)) (query_of s d c a w) 3 ≡ 1
     switch_one e f =
         p.nearing.steps_of_record.on (policy_of (sample_if 2)) (query_of s d c a w) (get_or (policy_of (sample_if 2)).rules 3 []) switch_rules.allow
-        (by-switch-0 ∙ p.switching.condition_means.switch_on_lem w 0 (w / 2) (omega (arith, e)))
+        (by_switch_0 ∙ p.switching.condition_means.switch_on_lem w 0 (w / 2) (omega (arith, e)))
         ∙ simp f
 
   pub nearing_met : NearingMet

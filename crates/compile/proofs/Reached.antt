@@ -2,7 +2,7 @@
 --     reached_first   the empty policy, and no byte read
 --     reached_read    a read leaves what was kept
 --     read_bytes      what was kept, and what came behind it
---     reached-next    a turn that goes on
+--     reached_next    a turn that goes on
 --     due_fault       a turn that refuses a row
 --     due_ended       the end of the input
 --     goes_most       a turn goes on by no more than its bytes
@@ -67,22 +67,22 @@ module _ (s : Reading) (k : Reached s) where
 
   module _ (c l : List ℕ) (came : s.kept ++ c ≡ l) where
     -- the reads so far, and the next one
-    on-to : (more : List (List ℕ)) → reads (begun k.space) ((k.brought ++ (c ∷ [])) ++ more) ≡ reads s (c ∷ more)
-    on-to more = ap (reads (begun k.space)) (append_assoc k.brought (c ∷ []) more) ∙ k.onward (c ∷ more)
+    on_to : (more : List (List ℕ)) → reads (begun k.space) ((k.brought ++ (c ∷ [])) ++ more) ≡ reads s (c ∷ more)
+    on_to more = ap (reads (begun k.space)) (append_assoc k.brought (c ∷ []) more) ∙ k.onward (c ∷ more)
 
     pub due_fault : (f : RowRefusal) → turn_fault s l ≡ some f → DueErrors (row_line f)
     due_fault f e =
         Due.refused k.space (k.brought ++ (c ∷ [])) k.long
-        (λ more. on-to more ∙ reads_stop s c more f (ap (turn_fault s) came ∙ e))
+        (λ more. on_to more ∙ reads_stop s c more f (ap (turn_fault s) came ∙ e))
 
-    pub reached-next : (q : Place) (input image : List ℕ) → Goes s l q input image → Reached (reading_of q input image)
-    reached-next q input image g =
+    pub reached_next : (q : Place) (input image : List ℕ) → Goes s l q input image → Reached (reading_of q input image)
+    reached_next q input image g =
         record {
           space = k.space;
           long = k.long;
           brought = k.brought ++ (c ∷ []);
           onward = λ more.
-              on-to more
+              on_to more
               ∙ reads_on s c more (ap (turn_fault s) came ∙ g.none_refused)
               ∙ ap (λ x. reads x more) (ap (turned s) came ∙ g.next);
         }

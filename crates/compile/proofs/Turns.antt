@@ -21,7 +21,7 @@ use Rattle.text.specs.Build.{built_outcome, AddsRows, rows_added}
 use Rattle.text.proofs.Chunks.{added_accepted, added_place}
 use Rattle.lines.specs.declared.RowRefusal.{RowRefusal}
 use Rattle.lines.specs.Compiled.{feeds, refused_row, row_line, cut, turn_fault, Reading, reads}
-use Rattle.lines.proofs.Compiled.{turn_faulty, turn-full, turn-goes, turned_is, reads_refused, reads_image}
+use Rattle.lines.proofs.Compiled.{turn_faulty, turn_full, turn_goes, turned_is, reads_refused, reads_image}
 use Rattle.compile.specs.declared.turn.Place.{Place}
 use Rattle.compile.specs.declared.turn.Step.{Step}
 use Rattle.compile.specs.declared.turn.Step.TheVariants as step
@@ -93,13 +93,13 @@ module _ (p : Place) (input image after : List ℕ) (have end : ℕ) (r : Built)
       → Turned (reading_of p input image) (take have input) q input' after
   turn_rests n (step.Fault f) input' front bytes e k =
       let adds = ap (λ x. (rows_added x image).answer) (sym rows) ∙ added_gives (take end input) image after r a n e in
-      turn-full (reading_of p input image) (take have input) n adds k.full ∙ ap some (sym k.is)
+      turn_full (reading_of p input image) (take have input) n adds k.full ∙ ap some (sym k.is)
   turn_rests n (step.Onward q) input' front bytes e k =
       let l = take have input in
       let adds = ap (λ x. (rows_added x image).answer) (sym rows) ∙ added_gives (take end input) image after r a n e in
       let same : (rows_added (take (cut (take have input)) (take have input)) image).buffer ≡ after = ap (λ x. (rows_added x image).buffer) (sym rows) ∙ sym a.buffer in
       record {
-        none_refused = turn-goes (reading_of p input image) l n adds k.few;
+        none_refused = turn_goes (reading_of p input image) l n adds k.few;
         accepted = ap check_front a.buffer ∙ (added_accepted image front bytes (take end input)).0;
         few = omega (arith, ap (λ (x : Place). x.kept) k.place, k.few);
         next = turned_is (reading_of p input image) l

@@ -13,7 +13,7 @@ use text::Built;
 
 // Where the program is in the text: the place and the number of the row that is being read, and how many of its bytes have
 // come.
-#[derive(Drop)]
+#[derive(Clone, Copy)]
 pub(crate) struct Place {
     pub at: usize,
     pub row: usize,
@@ -21,14 +21,14 @@ pub(crate) struct Place {
 }
 
 // What a turn comes to.
-#[derive(Drop)]
+#[derive(Clone, Copy)]
 pub(crate) enum Step {
     Onward(Place),
     Fault(RowRefusal),
 }
 
 // What the end of the input comes to: an image of this length, or a refused row.
-#[derive(Drop)]
+#[derive(Clone, Copy)]
 pub(crate) enum Ending {
     Image(usize),
     Fault(RowRefusal),

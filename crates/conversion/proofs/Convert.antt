@@ -39,8 +39,8 @@ use Rattle.conversion.proofs.Groups.{distinct_from, distinct_apart, distinct_cou
 use Rattle.conversion.proofs.Groups.{moved_same}
 use Rattle.conversion.proofs.Retype.{rule_same, rule_length, constraint_same, constraint_length}
 use Rattle.conversion.proofs.Moved.{rule_record_at, constraint_record_at, rule_bytes_at, constraint_bytes_at, rule_at}
-use Rattle.conversion.proofs.Moved.{constraint_at, request_moved, rules-alike, constraints-alike, rules-formed}
-use Rattle.conversion.proofs.Moved.{constraints-formed, rules-bytes, constraints-bytes}
+use Rattle.conversion.proofs.Moved.{constraint_at, request_moved, rules_alike, constraints_alike, rules_formed}
+use Rattle.conversion.proofs.Moved.{constraints_formed, rules_bytes, constraints_bytes}
 use Rattle.conversion.proofs.Records.{version_is, groups_are, rules_are, constraints_are, follow_is, groups_held}
 use Rattle.conversion.proofs.Records.{follow_type, records_kept}
 
@@ -64,19 +64,19 @@ module _ (p : Policy) (w : WellFormed p) where
       group_record (length (converted p).groups) r
       (record_group (length p.groups) r (w.records Groups r (group_from r (rw (records_of_groups (converted p)) at m))))
   records Rules r m =
-      rules-formed p (converted p) (groups_held p) w r
+      rules_formed p (converted p) (groups_held p) w r
       (subst (λ (rs : List (List ℕ)). Memᴰ r rs) rules_with (rw (records_of_rules (converted p)) at m))
   records Constraints r m =
-      constraints-formed p (converted p) (groups_held p) w r
+      constraints_formed p (converted p) (groups_held p) w r
       (subst (λ (rs : List (List ℕ)). Memᴰ r rs) constraints_with (rw (records_of_constraints (converted p)) at m))
 
   bytes : (s : Section) (r : List ℕ) → Memᴰ r (records_of (converted p) s) → Bytes r
   bytes Groups r m = w.bytes Groups r (group_from r (rw (records_of_groups (converted p)) at m))
   bytes Rules r m =
-      rules-bytes p (converted p) (groups_held p) w few_groups r
+      rules_bytes p (converted p) (groups_held p) w few_groups r
       (subst (λ (rs : List (List ℕ)). Memᴰ r rs) rules_with (rw (records_of_rules (converted p)) at m))
   bytes Constraints r m =
-      constraints-bytes p (converted p) (groups_held p) w few_groups r
+      constraints_bytes p (converted p) (groups_held p) w few_groups r
       (subst (λ (rs : List (List ℕ)). Memᴰ r rs) constraints_with (rw (records_of_constraints (converted p)) at m))
 
   pub converted_formed : WellFormed (converted p)
@@ -98,10 +98,10 @@ converted_apart p = rw (groups_are p) (distinct_apart p.groups)
 
 module _ (p : Policy) (w : WellFormed p) where
   pub rules_read : (v : ℕ) → rules_of (converted p) v ≡ rules_of p v
-  rules_read = rules-alike p (converted p) (groups_held p) w (rules_with p w)
+  rules_read = rules_alike p (converted p) (groups_held p) w (rules_with p w)
 
   pub constraints_read : constraints_of (converted p) ≡ constraints_of p
-  constraints_read = constraints-alike p (converted p) (groups_held p) w (constraints_with p w)
+  constraints_read = constraints_alike p (converted p) (groups_held p) w (constraints_with p w)
 
   pub converted_decides :
       (q : Query) → IsType (length p.groups) q.source → IsType (length p.groups) q.dest

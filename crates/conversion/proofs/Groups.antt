@@ -9,7 +9,7 @@
 --     distinct_apart                 there are no twins
 --     distinct_same                  groups without twins stay as they are
 --     moved_basic, moved-group       where a basic type goes, and a group's number
---     moved-set, moved-type          where each old group is a new one, a valid type stands for its set and is valid
+--     moved_set, moved-type          where each old group is a new one, a valid type stands for its set and is valid
 --     moved_same                     where there are no twins, nothing moves
 use Prim.Native.Nat.{ℕ, suc, ◌+◌, ◌-◌, ◌≤◌, ◌<◌}
 use native.Mathlib.Omega.{arith}
@@ -277,16 +277,16 @@ module _ (old new : List (List ℕ)) where
         → (number_of (get_or old k []) new < length new) × (get_or new (number_of (get_or old k []) new) [] ≡ get_or old k [])
     found k h = number_get new (held _ (get_or_mem old k [] h))
 
-    pub moved-set : (t : ℕ) → IsType (length old) t → set_of new (moved old new t) ≡ set_of old t
-    moved-set t (inl h) = rw (moved_basic t (omega arith), set_basic new t (omega arith), set_basic old t (omega arith))
-    moved-set t (inr q) =
+    pub moved_set : (t : ℕ) → IsType (length old) t → set_of new (moved old new t) ≡ set_of old t
+    moved_set t (inl h) = rw (moved_basic t (omega arith), set_basic new t (omega arith), set_basic old t (omega arith))
+    moved_set t (inr q) =
         subst (λ (u : ℕ). set_of new (moved old new u) ≡ set_of old u) (sym q.2)
         (ap (set_of new) (moved_group q.0) ∙ set_group new _
         ∙ ap (λ (r : List ℕ). words (drop 2 r)) (found q.0 q.1).1 ∙ sym (set_group old q.0))
 
-    pub moved-type : (t : ℕ) → IsType (length old) t → IsType (length new) (moved old new t)
-    moved-type t (inl h) = inl (rw (moved_basic t (omega arith)) h)
-    moved-type t (inr q) =
+    pub moved_type : (t : ℕ) → IsType (length old) t → IsType (length new) (moved old new t)
+    moved_type t (inl h) = inl (rw (moved_basic t (omega arith)) h)
+    moved_type t (inr q) =
         inr (number_of (get_or old q.0 []) new, (found q.0 q.1).0, ap (moved old new) q.2 ∙ moved_group q.0)
 
 pub moved_same : (gs : List (List ℕ)) → NoTwins gs → (t : ℕ) → IsType (length gs) t → moved gs gs t ≡ t

@@ -2,10 +2,10 @@
 --     RuleTypes, ConstraintTypes         the types of a record that is well formed
 --     rule_at, constraint-at             those of a policy's rule, and of a constraint
 --     rule_record_at, constraint-record-at, rule-bytes-at, constraint-bytes-at   that they are well formed, and of bytes
---     rules-alike, constraints-alike     over the new groups, the moved records read as they did
+--     rules_alike, constraints-alike     over the new groups, the moved records read as they did
 --     request_moved                      and a query whose types are moved asks what it asked
---     rules-formed, constraints-formed   the moved records are well formed over the new groups
---     rules-bytes, constraints-bytes     and of bytes
+--     rules_formed, constraints-formed   the moved records are well formed over the new groups
+--     rules_bytes, constraints-bytes     and of bytes
 use Prim.Native.Nat.{ℕ, ◌+◌, ◌*◌, ◌≤◌, ◌<◌}
 use native.Mathlib.Omega.{arith}
 use mathlib.Core.Path.{◌≡◌, refl, sym, subst, ap, ◌∙◌}
@@ -29,7 +29,7 @@ use Rattle.decision.proofs.Kept.{constraints_mapped}
 use Rattle.decision.proofs.Settled.{map_same}
 use Rattle.conversion.specs.Groups.{moved}
 use Rattle.conversion.specs.Retype.{retype_rule, retype_constraint, retype_query}
-use Rattle.conversion.proofs.Groups.{moved-set, moved-type}
+use Rattle.conversion.proofs.Groups.{moved_set, moved_type}
 use Rattle.conversion.proofs.Retype.{rule_fields, rule_formed, rule_bytes, constraint_fields, constraint_formed}
 use Rattle.conversion.proofs.Retype.{constraint_bytes, list_moved}
 
@@ -105,10 +105,10 @@ module _ (p p' : Policy) (held : (g : List ℕ) → Memᴰ g p.groups → Memᴰ
   to = moved p.groups p'.groups
 
   set_of_lem : (t : ℕ) → IsType (length p.groups) t → set_of p'.groups (to t) ≡ set_of p.groups t
-  set_of_lem = moved-set p.groups p'.groups held
+  set_of_lem = moved_set p.groups p'.groups held
 
   valid : (t : ℕ) → IsType (length p.groups) t → IsType (length p'.groups) (to t)
-  valid = moved-type p.groups p'.groups held
+  valid = moved_type p.groups p'.groups held
 
   rule_reads : (r : List ℕ) → RuleTypes (length p.groups) r → RuleAlike p p' r (retype_rule to r)
   rule_reads r t =
@@ -143,28 +143,28 @@ module _ (p p' : Policy) (held : (g : List ℕ) → Memᴰ g p.groups → Memᴰ
   request_moved q s d = request_alike p p' q (retype_query to q) (set_of_lem q.source s) (set_of_lem q.dest d) refl refl
 
   module _ (w : WellFormed p) where
-    pub rules-alike : p'.rules ≡ map (retype_rule to) p.rules → (v : ℕ) → rules_of p' v ≡ rules_of p v
-    rules-alike e v =
+    pub rules_alike : p'.rules ≡ map (retype_rule to) p.rules → (v : ℕ) → rules_of p' v ≡ rules_of p v
+    rules_alike e v =
         rules_mapped p' v ∙ ap (map (rule_of p' v)) e ∙ map-map (rule_of p' v) (retype_rule to) p.rules
         ∙ map_same (λ r. rule_of p' v (retype_rule to r)) (rule_of p v) p.rules
         (λ r m. rule_alike p p' v r _ (rule_reads r (rule_at p w r m)))
         ∙ sym (rules_mapped p v)
 
-    pub constraints-alike : p'.constraints ≡ map (retype_constraint to) p.constraints → constraints_of p' ≡ constraints_of p
-    constraints-alike e =
+    pub constraints_alike : p'.constraints ≡ map (retype_constraint to) p.constraints → constraints_of p' ≡ constraints_of p
+    constraints_alike e =
         constraints_mapped p' ∙ ap (map (constraint_of p')) e ∙ map-map (constraint_of p') (retype_constraint to) p.constraints
         ∙ map_same (λ r. constraint_of p' (retype_constraint to r)) (constraint_of p) p.constraints
         (λ r m. constraint_alike p p' r _ (constraint_reads r (constraint_at p w r m)))
         ∙ sym (constraints_mapped p)
 
-    pub rules-formed : (r : List ℕ) → Memᴰ r (map (retype_rule to) p.rules) → IsRecord Rules (length p'.groups) r
-    rules-formed =
+    pub rules_formed : (r : List ℕ) → Memᴰ r (map (retype_rule to) p.rules) → IsRecord Rules (length p'.groups) r
+    rules_formed =
         map_all (retype_rule to) (IsRecord Rules (length p'.groups)) p.rules
         (λ r m. rule_formed to (length p.groups) (length p'.groups) valid r (rule_record_at p w r m))
 
-    pub constraints-formed :
+    pub constraints_formed :
         (r : List ℕ) → Memᴰ r (map (retype_constraint to) p.constraints) → IsRecord Constraints (length p'.groups) r
-    constraints-formed =
+    constraints_formed =
         map_all (retype_constraint to) (IsRecord Constraints (length p'.groups)) p.constraints
         (λ r m. constraint_formed to (length p.groups) (length p'.groups) valid r (constraint_record_at p w r m))
 
@@ -172,13 +172,13 @@ module _ (p p' : Policy) (held : (g : List ℕ) → Memᴰ g p.groups → Memᴰ
       small : (t : ℕ) → IsType (length p.groups) t → to t < 65536
       small t h = type_small (length p'.groups) (to t) few (valid t h)
 
-      pub rules-bytes : (r : List ℕ) → Memᴰ r (map (retype_rule to) p.rules) → Bytes r
-      rules-bytes =
+      pub rules_bytes : (r : List ℕ) → Memᴰ r (map (retype_rule to) p.rules) → Bytes r
+      rules_bytes =
           map_all (retype_rule to) Bytes p.rules
           (λ r m. let t = rule_at p w r m in rule_bytes to r (rule_bytes_at p w r m) (small _ t.source) (small _ t.dest))
 
-      pub constraints-bytes : (r : List ℕ) → Memᴰ r (map (retype_constraint to) p.constraints) → Bytes r
-      constraints-bytes =
+      pub constraints_bytes : (r : List ℕ) → Memᴰ r (map (retype_constraint to) p.constraints) → Bytes r
+      constraints_bytes =
           map_all (retype_constraint to) Bytes p.constraints
           (λ r m. let t = constraint_at p w r m in
           constraint_bytes to r (constraint_bytes_at p w r m)

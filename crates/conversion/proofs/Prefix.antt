@@ -1,12 +1,12 @@
 -- The groups kept of the first k, and the new numbers, group by group, for the code that goes through them. Assumes nothing.
---     first-or-twin        group k is the first with its record, or has a lower one's
+--     first_or_twin        group k is the first with its record, or has a lower one's
 --     distinct_start       of no group none is kept
---     distinct-first, distinct-twin   group k is kept where it is the first with its record, and only there
+--     distinct_first, distinct-twin   group k is kept where it is the first with its record, and only there
 --     distinct_whole       of all groups, what is kept of them
---     bytes-first, bytes-twin         the same for the bytes of the groups kept
+--     bytes_first, bytes-twin         the same for the bytes of the groups kept
 --     distinct_front, distinct-few    what is kept of the first k stands at the front of what is kept, and is no more
---     number-first         a group that is kept gets the next number
---     number-twin          a twin gets the number of the first with its record
+--     number_first         a group that is kept gets the next number
+--     number_twin          a twin gets the number of the first with its record
 use Prim.Native.Nat.{ℕ, ◌+◌, ◌≤◌, ◌<◌}
 use native.Mathlib.Omega.{arith}
 use native.Mathlib.Numerals.{add-one}
@@ -59,8 +59,8 @@ module _ (gs : List (List ℕ)) where
   distinct_few k = let r = front_rest k in omega (arith, ap length r.1, length-append (distinct (take k gs)) r.0)
 
   module _ (k : ℕ) (h : k < length gs) where
-    pub first-or-twin : (number_of (get_or gs k []) gs ≡ k) ⊎ (number_of (get_or gs k []) gs < k)
-    first-or-twin =
+    pub first_or_twin : (number_of (get_or gs k []) gs ≡ k) ⊎ (number_of (get_or gs k []) gs < k)
+    first_or_twin =
         let n : ℕ = number_of (get_or gs k []) gs in
         let m = (number_self gs k h).0 in
         by_test (ltb n k) (λ t. inr (ltb-true n k t)) (λ t. let l = ltb-false n k t in inl (omega arith))
@@ -85,36 +85,36 @@ module _ (gs : List (List ℕ)) where
         let m = number_least gs (get_or gs k []) i (omega arith) (sym (get_or-take k gs i [] l) ∙ q) in
         omega arith)
 
-    pub distinct-first : number_of (get_or gs k []) gs ≡ k → distinct (take (k + 1) gs) ≡ distinct (take k gs) ++ (get_or gs k [] ∷ [])
-    distinct-first e = next false (fresh e)
+    pub distinct_first : number_of (get_or gs k []) gs ≡ k → distinct (take (k + 1) gs) ≡ distinct (take k gs) ++ (get_or gs k [] ∷ [])
+    distinct_first e = next false (fresh e)
 
-    pub distinct-twin : number_of (get_or gs k []) gs < k → distinct (take (k + 1) gs) ≡ distinct (take k gs)
-    distinct-twin l =
+    pub distinct_twin : number_of (get_or gs k []) gs < k → distinct (take (k + 1) gs) ≡ distinct (take k gs)
+    distinct_twin l =
         let n : ℕ = number_of (get_or gs k []) gs in
         let at : get_or (take k gs) n [] ≡ get_or gs k [] = get_or-take k gs n [] l ∙ (number_self gs k h).1 in
         let m = get_or_mem (take k gs) n [] (omega (arith, long)) in
         next true (mem_listed (take k gs) (subst (λ (g : List ℕ). Memᴰ g (take k gs)) at m))
 
-    pub bytes-first : number_of (get_or gs k []) gs ≡ k
+    pub bytes_first : number_of (get_or gs k []) gs ≡ k
         → length (flatten (distinct (take (k + 1) gs))) ≡ length (flatten (distinct (take k gs))) + length (get_or gs k [])
-    bytes-first e =
-        ap (λ (ks : List (List ℕ)). length (flatten ks)) (distinct-first e)
+    bytes_first e =
+        ap (λ (ks : List (List ℕ)). length (flatten ks)) (distinct_first e)
         ∙ ap length (flatten_snoc (distinct (take k gs)) (get_or gs k []))
         ∙ length-append (flatten (distinct (take k gs))) (get_or gs k [])
 
-    pub bytes-twin :
+    pub bytes_twin :
         number_of (get_or gs k []) gs < k → length (flatten (distinct (take (k + 1) gs))) ≡ length (flatten (distinct (take k gs)))
-    bytes-twin l = ap (λ (ks : List (List ℕ)). length (flatten ks)) (distinct-twin l)
+    bytes_twin l = ap (λ (ks : List (List ℕ)). length (flatten ks)) (distinct_twin l)
 
-    pub number-first : number_of (get_or gs k []) gs ≡ k → number_of (get_or gs k []) (distinct gs) ≡ length (distinct (take k gs))
-    number-first e =
+    pub number_first : number_of (get_or gs k []) gs ≡ k → number_of (get_or gs k []) (distinct gs) ≡ length (distinct (take k gs))
+    number_first e =
         let g : List ℕ = get_or gs k [] in
         let ks : List (List ℕ) = distinct (take k gs) in
         let r = front_rest (k + 1) in
-        ap (number_of g) (r.1 ∙ ap (λ (xs : List (List ℕ)). xs ++ r.0) (distinct-first e))
+        ap (number_of g) (r.1 ∙ ap (λ (xs : List (List ℕ)). xs ++ r.0) (distinct_first e))
         ∙ number_front (ks ++ (g ∷ [])) r.0 (Memᴰ.append_right ks (Memᴰ.head refl))
         ∙ number_snoc g ks (distinct_listed g (take k gs) ∙ fresh e)
 
-    pub number-twin :
+    pub number_twin :
         number_of (get_or gs k []) (distinct gs) ≡ number_of (get_or gs (number_of (get_or gs k []) gs) []) (distinct gs)
-    number-twin = ap (λ (g : List ℕ). number_of g (distinct gs)) (sym (number_self gs k h).1)
+    number_twin = ap (λ (g : List ℕ). number_of g (distinct gs)) (sym (number_self gs k h).1)

@@ -23,7 +23,7 @@ use Rattle.conversion.specs.Groups.{distinct, moved}
 use Rattle.conversion.specs.Retype.{retype_rule, retype_constraint}
 use Rattle.conversion.specs.Convert.{follow, converted}
 use Rattle.conversion.specs.Claims.{Follows, RecordsKept, RecordsStay, TypesFollow}
-use Rattle.conversion.proofs.Groups.{distinct_held, moved_basic, moved_group, moved-set, moved-type}
+use Rattle.conversion.proofs.Groups.{distinct_held, moved_basic, moved_group, moved_set, moved_type}
 use Rattle.conversion.proofs.Retype.{map_nth, rule_fields, rule_long, constraint_fields, constraint_length, list_moved}
 use Rattle.conversion.proofs.Moved.{rule_record_at, constraint_record_at}
 
@@ -64,12 +64,12 @@ module _ (p : Policy) where
   follow_group k = moved_group p.groups (distinct p.groups) k
 
   pub follow_type : (t : ℕ) → IsType (length p.groups) t → IsType (length (converted p).groups) (follow p t)
-  follow_type t h = rw follow_is (moved-type p.groups (converted p).groups groups_held t h)
+  follow_type t h = rw follow_is (moved_type p.groups (converted p).groups groups_held t h)
 
 pub types_follow : TypesFollow
 types_follow =
     record {
-      set = λ p t h. rw (follow_is p) (moved-set p.groups (converted p).groups (groups_held p) t h);
+      set = λ p t h. rw (follow_is p) (moved_set p.groups (converted p).groups (groups_held p) t h);
       valid = follow_type;
       basic = λ p t h. follow_basic p t (omega arith);
       group = λ p k h.

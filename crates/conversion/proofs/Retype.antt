@@ -260,8 +260,8 @@ module _ (f : ℕ → ℕ) where
       ∙ (ap (λ (l : List ℕ). get_or l i 0) e ∙ (map_nth f (words (drop 11 r)) i 0 0 h ∙ ap f (words_nth r 11 i h)))
 
   module _ (g g' : ℕ) (valid : (t : ℕ) → IsType g t → IsType g' (f t)) where
-    constraint-moved : (r : List ℕ) (n : ℕ) → IsConstraint g r n → IsConstraint g' (retype_constraint f r) n
-    constraint-moved r n q =
+    constraint_moved : (r : List ℕ) (n : ℕ) → IsConstraint g r n → IsConstraint g' (retype_constraint f r) n
+    constraint_moved r n q =
         let long : 11 ≤ length r = omega (arith, q.size.1) in
         let c = constraint_fields r long in
         let len = length_moved r n q.size.1 in
@@ -281,7 +281,7 @@ module _ (f : ℕ → ℕ) where
 
     pub constraint_formed : (r : List ℕ) → IsRecord Constraints g r → IsRecord Constraints g' (retype_constraint f r)
     constraint_formed r q =
-        let c = record_constraint g r q in constraint_record g' (retype_constraint f r) (c.0, constraint-moved r c.0 c.1)
+        let c = record_constraint g r q in constraint_record g' (retype_constraint f r) (c.0, constraint_moved r c.0 c.1)
 
   map_small : (ts : List ℕ) → ((t : ℕ) → Memᴰ t ts → f t < 65536) → (u : ℕ) → Memᴰ u (map f ts) → u < 65536
   map_small ts h u m = let x = Memᴰ.of_map f ts m in subst (λ (z : ℕ). z < 65536) x.2 (h x.0 x.1)

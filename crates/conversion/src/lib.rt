@@ -4,7 +4,7 @@
 use format::Refusal;
 
 // What converting answers: the length of the new image, or the refusal.
-#[derive(Drop)]
+#[derive(Clone, Copy)]
 pub enum Converted {
     Length(usize),
     Refused(Refusal),

@@ -76,21 +76,21 @@ module _ {i b after : List ℕ} {r : Converted} (a : Converts i b r after) (h : 
       subst Due (output_refused i h.0 f (ap (convert_fault i) h.1 ∙ x)) d
 
   module _ (n : ℕ) (e : r ≡ converted.Length n) where
-    gives-new : (convert_fault i (length b) ≡ none) × (n ≡ length (converted_image i))
-    gives-new = outcome_gives (convert_fault i (length b)) (length (converted_image i)) (ap converted_outcome (sym e) ∙ a.answer)
+    gives_new : (convert_fault i (length b) ≡ none) × (n ≡ length (converted_image i))
+    gives_new = outcome_gives (convert_fault i (length b)) (length (converted_image i)) (ap converted_outcome (sym e) ∙ a.answer)
 
-    new-front : take n after ≡ converted_image i
-    new-front =
-        ap (λ (k : ℕ). take k after) gives-new.1
+    new_front : take n after ≡ converted_image i
+    new_front =
+        ap (λ (k : ℕ). take k after) gives_new.1
         ∙ ap (take (length (converted_image i))) a.buffer
-        ∙ (past_stays i b gives-new.0).0
+        ∙ (past_stays i b gives_new.0).0
 
     pub new_fits : n ≤ length after
     new_fits =
-        let whole = (past_stays i b gives-new.0).2 in
-        omega (arith, gives-new.1, (fault_parts i (length b) gives-new.0).1, ap length a.buffer, whole)
+        let whole = (past_stays i b gives_new.0).2 in
+        omega (arith, gives_new.1, (fault_parts i (length b) gives_new.0).1, ap length a.buffer, whole)
 
-    pub due-image : Due (convert_output i) → DueOutput (take n after)
-    due-image d =
-        subst Due (output_new i h.0 (ap (convert_fault i) h.1 ∙ gives-new.0)
-        ∙ ap (λ (x : List ℕ). record { output = x; errors = [] }) (sym new-front)) d
+    pub due_image : Due (convert_output i) → DueOutput (take n after)
+    due_image d =
+        subst Due (output_new i h.0 (ap (convert_fault i) h.1 ∙ gives_new.0)
+        ∙ ap (λ (x : List ℕ). record { output = x; errors = [] }) (sym new_front)) d

@@ -6,7 +6,7 @@ use libc::STDIN_FILENO;
 use streams::{Got, read_between};
 
 // What was read: so many bytes, or an error ended it.
-#[derive(Drop)]
+#[derive(Clone, Copy)]
 pub(crate) enum Taken {
     Bytes(usize),
     Failed,

@@ -108,11 +108,11 @@ module _ (l : List ℕ) (at : ℕ) (r : List ℕ) (h : ConstraintAt l at r) wher
   -- ---- the marks of its arguments
 
   module _ (c : Accepted l) (ms : List Bool) where
-    pub marks-first : ms ≡ mark_all no_marks (set_at l (at + 6)) → Marks (constraint_of (policy_of l) r).first ms
-    marks-first = marks_small _ (set_at l (at + 6)) ms (rising_small 0 _ (set_rising l _ c h.first)) first_is
+    pub marks_first : ms ≡ mark_all no_marks (set_at l (at + 6)) → Marks (constraint_of (policy_of l) r).first ms
+    marks_first = marks_small _ (set_at l (at + 6)) ms (rising_small 0 _ (set_rising l _ c h.first)) first_is
 
-    pub marks-second : ms ≡ mark_all no_marks (set_at l (at + 8)) → Marks (constraint_of (policy_of l) r).second ms
-    marks-second = marks_small _ (set_at l (at + 8)) ms (rising_small 0 _ (set_rising l _ c h.second)) second_is
+    pub marks_second : ms ≡ mark_all no_marks (set_at l (at + 8)) → Marks (constraint_of (policy_of l) r).second ms
+    marks_second = marks_small _ (set_at l (at + 8)) ms (rising_small 0 _ (set_rising l _ c h.second)) second_is
 
 -- ---- the predicate
 
@@ -154,18 +154,18 @@ module _ (l : List ℕ) (at : ℕ) (r : List ℕ) (h : ConstraintAt l at r) (q :
   fails_class n = fails_is ∙ simp (ne_eqb (word_at l (at + 2)) q.class n)
 
   module _ (c : word_at l (at + 2) ≡ q.class) where
-    pub fails-action : (word_at l (at + 4) ≡ q.action → ⊥) → fails? ≡ false
-    fails-action n = fails_is ∙ simp (eq-eqb (word_at l (at + 2)) q.class c, ne_eqb (word_at l (at + 4)) q.action n)
+    pub fails_action : (word_at l (at + 4) ≡ q.action → ⊥) → fails? ≡ false
+    fails_action n = fails_is ∙ simp (eq-eqb (word_at l (at + 2)) q.class c, ne_eqb (word_at l (at + 4)) q.action n)
 
     module _ (a : word_at l (at + 4) ≡ q.action) where
-      applies-is : fails? ≡ (first? && second?) && broken (rules_in l q.switches) (constraint_of (policy_of l) r)
-      applies-is = fails_is ∙ simp (eq-eqb (word_at l (at + 2)) q.class c, eq-eqb (word_at l (at + 4)) q.action a)
+      applies_is : fails? ≡ (first? && second?) && broken (rules_in l q.switches) (constraint_of (policy_of l) r)
+      applies_is = fails_is ∙ simp (eq-eqb (word_at l (at + 2)) q.class c, eq-eqb (word_at l (at + 4)) q.action a)
 
-      pub fails-first : first? ≡ false → fails? ≡ false
-      fails-first n = applies-is ∙ simp n
+      pub fails_first : first? ≡ false → fails? ≡ false
+      fails_first n = applies_is ∙ simp n
 
-      pub fails-second : first? ≡ true → second? ≡ false → fails? ≡ false
-      fails-second k n = applies-is ∙ simp (k, n)
+      pub fails_second : first? ≡ true → second? ≡ false → fails? ≡ false
+      fails_second k n = applies_is ∙ simp (k, n)
 
-      pub fails-broken : first? ≡ true → second? ≡ true → fails? ≡ broken (rules_in l q.switches) (constraint_of (policy_of l) r)
-      fails-broken k n = applies-is ∙ simp (k, n)
+      pub fails_broken : first? ≡ true → second? ≡ true → fails? ≡ broken (rules_in l q.switches) (constraint_of (policy_of l) r)
+      fails_broken k n = applies_is ∙ simp (k, n)

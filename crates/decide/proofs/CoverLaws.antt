@@ -106,25 +106,25 @@ module _ (l : List ℕ) (at : ℕ) (q : Query) where
   may_transition e = simp e
 
   module _ (k : allow_at l at ≡ true) where
-    pub may-other : (word_at l (at + 6) ≡ q.class → ⊥) → may_at l at q ≡ false
+    pub may_other : (word_at l (at + 6) ≡ q.class → ⊥) → may_at l at q ≡ false
     unfolding may_at
-    may-other h = simp (k, ne_eqb (word_at l (at + 6)) q.class h) (either (is_on q.switches (get_or l (at + 10) 0)))
+    may_other h = simp (k, ne_eqb (word_at l (at + 6)) q.class h) (either (is_on q.switches (get_or l (at + 10) 0)))
       where
         either : (b : Bool) → cond b false false ≡ false
         either true = refl
         either false = refl
 
-    pub may-off : is_on q.switches (get_or l (at + 10) 0) ≡ false → may_at l at q ≡ false
+    pub may_off : is_on q.switches (get_or l (at + 10) 0) ≡ false → may_at l at q ≡ false
     unfolding may_at
-    may-off h = simp (k, h)
+    may_off h = simp (k, h)
 
-    pub may-class : (c : ℕ) → c ≡ word_at l (at + 6) → is_on q.switches (get_or l (at + 10) 0) ≡ true → (c ≡ q.class → ⊥) → may_at l at q ≡ false
+    pub may_class : (c : ℕ) → c ≡ word_at l (at + 6) → is_on q.switches (get_or l (at + 10) 0) ≡ true → (c ≡ q.class → ⊥) → may_at l at q ≡ false
     unfolding may_at
-    may-class c e o h = simp (k, o, ne_eqb (word_at l (at + 6)) q.class (λ d. h (e ∙ d)))
+    may_class c e o h = simp (k, o, ne_eqb (word_at l (at + 6)) q.class (λ d. h (e ∙ d)))
 
-    pub may-action : (c a : ℕ) → c ≡ word_at l (at + 6) → a ≡ word_at l (at + 8) → is_on q.switches (get_or l (at + 10) 0) ≡ true → c ≡ q.class → may_at l at q ≡ eqb a q.action
+    pub may_action : (c a : ℕ) → c ≡ word_at l (at + 6) → a ≡ word_at l (at + 8) → is_on q.switches (get_or l (at + 10) 0) ≡ true → c ≡ q.class → may_at l at q ≡ eqb a q.action
     unfolding may_at
-    may-action c a e f o h = rw f (simp (k, o, eq-eqb (word_at l (at + 6)) q.class (sym e ∙ h)))
+    may_action c a e f o h = rw f (simp (k, o, eq-eqb (word_at l (at + 6)) q.class (sym e ∙ h)))
 
 -- ---- a test that is made only where it is asked
 

@@ -41,25 +41,25 @@ module _ (ms : List Bool) (l : List ℕ) (at n : ℕ) where
   tally_end e = rw (words_at_none l n at e)
 
   module _ (k : ℕ) (more : n ≡ suc k) (t : ℕ) (is : t ≡ word_at l at) where
-    pub mark-next : mark_all ms (words_at l n at) ≡ mark_all (set ms t true) (words_at l k (at + 2))
+    pub mark_next : mark_all ms (words_at l n at) ≡ mark_all (set ms t true) (words_at l k (at + 2))
     unfolding mark_all
-    mark-next = rw (words_at_next l n at k more, is)
+    mark_next = rw (words_at_next l n at k more, is)
 
-    pub is-yes : (v : Bool) → beq (get_or ms t false) v ≡ true → any_is ms v (words_at l n at) ≡ true
+    pub is_yes : (v : Bool) → beq (get_or ms t false) v ≡ true → any_is ms v (words_at l n at) ≡ true
     unfolding any_is any_of
-    is-yes v y = rw (words_at_next l n at k more) (simp (rw is at y))
+    is_yes v y = rw (words_at_next l n at k more) (simp (rw is at y))
 
-    pub is-no : (v : Bool) → beq (get_or ms t false) v ≡ false → any_is ms v (words_at l n at) ≡ any_is ms v (words_at l k (at + 2))
+    pub is_no : (v : Bool) → beq (get_or ms t false) v ≡ false → any_is ms v (words_at l n at) ≡ any_is ms v (words_at l k (at + 2))
     unfolding any_is any_of
-    is-no v y = rw (words_at_next l n at k more) (simp (rw is at y))
+    is_no v y = rw (words_at_next l n at k more) (simp (rw is at y))
 
-    pub tally-yes : get_or ms t false ≡ true → tallied ms (words_at l n at) ≡ 1 + tallied ms (words_at l k (at + 2))
+    pub tally_yes : get_or ms t false ≡ true → tallied ms (words_at l n at) ≡ 1 + tallied ms (words_at l k (at + 2))
     unfolding tallied
-    tally-yes y = rw (words_at_next l n at k more) (simp (rw is at y))
+    tally_yes y = rw (words_at_next l n at k more) (simp (rw is at y))
 
-    pub tally-no : get_or ms t false ≡ false → tallied ms (words_at l n at) ≡ tallied ms (words_at l k (at + 2))
+    pub tally_no : get_or ms t false ≡ false → tallied ms (words_at l n at) ≡ tallied ms (words_at l k (at + 2))
     unfolding tallied
-    tally-no y = rw (words_at_next l n at k more) (simp (rw is at y) (omega arith))
+    tally_no y = rw (words_at_next l n at k more) (simp (rw is at y) (omega arith))
 
 pub hits_on : {total : ℕ} (hits : ℕ) {more : ℕ} (a b : ℕ) → total ≡ hits + a → a ≡ 1 + b → more ≡ hits + 1 → total ≡ more + b
 hits_on hits a b e f g = omega arith
@@ -73,8 +73,8 @@ module _ {total : Bool} (ms : List Bool) (l : List ℕ) (at n : ℕ) (a : Bool) 
   found_end e = sum ∙ ap (λ b. a || b) (is_end ms l at n true e) ∙ or-false a
 
   module _ (k : ℕ) (more : n ≡ suc k) (t : ℕ) (is : t ≡ word_at l at) {b : Bool} where
-    pub found-yes : get_or ms t false ≡ true → b ≡ true → total ≡ b || any_marked ms (words_at l k (at + 2))
-    found-yes y e = sum ∙ ap (λ x. a || x) (is-yes ms l at n k more t is true (ap (λ x. beq x true) y)) ∙ or-true a ∙ ap (λ x. x || any_marked ms (words_at l k (at + 2))) (sym e)
+    pub found_yes : get_or ms t false ≡ true → b ≡ true → total ≡ b || any_marked ms (words_at l k (at + 2))
+    found_yes y e = sum ∙ ap (λ x. a || x) (is_yes ms l at n k more t is true (ap (λ x. beq x true) y)) ∙ or-true a ∙ ap (λ x. x || any_marked ms (words_at l k (at + 2))) (sym e)
 
-    pub found-no : get_or ms t false ≡ false → b ≡ a → total ≡ b || any_marked ms (words_at l k (at + 2))
-    found-no y e = sum ∙ ap (λ x. a || x) (is-no ms l at n k more t is true (ap (λ x. beq x true) y)) ∙ ap (λ x. x || any_marked ms (words_at l k (at + 2))) (sym e)
+    pub found_no : get_or ms t false ≡ false → b ≡ a → total ≡ b || any_marked ms (words_at l k (at + 2))
+    found_no y e = sum ∙ ap (λ x. a || x) (is_no ms l at n k more t is true (ap (λ x. beq x true) y)) ∙ ap (λ x. x || any_marked ms (words_at l k (at + 2))) (sym e)

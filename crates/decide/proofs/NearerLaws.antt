@@ -1,7 +1,7 @@
 -- Laws of the second walk over the rules: what a rule at a place passes, and the nearest so far. Assumes nothing.
---     off-no, off-yes, other-no, other-yes, class-few .., stops-few ..   the tests of a rule at a place, one for each way that
+--     off_no, off-yes, other-no, other-yes, class-few .., stops-few ..   the tests of a rule at a place, one for each way that
 --                                they go
---     steps-source, steps-dest ..   how many steps a rule passes, by the first that fails
+--     steps_source, steps-dest ..   how many steps a rule passes, by the first that fails
 --     class_stops_lem, off-stops, source-stops, dest-stops   a rule that need not be walked passes no more
 --     near_start, near-over, near_next, near-four, near-end   one for each way that a turn of the walk goes
 --     near_empty                    there are no rules
@@ -32,48 +32,48 @@ use Rattle.decision.specs.Reading.{Rule, Request, asks, rule_of, request_of}
 use Rattle.decision.specs.Decide.{tests, covers, passes, steps, nearest, nearest_by, nearest_of, first_at}
 use Rattle.decision.specs.Inner.OnePass.{nearer, nearest_from}
 use Rattle.decision.proofs.Search.{by_test, any_of_none}
-use Rattle.decision.proofs.Nearness.{nearest-same}
+use Rattle.decision.proofs.Nearness.{nearest_same}
 use Rattle.decide.specs.declared.nearest.Best.{Best}
 use Rattle.decide.specs.Inner.Parts.{rules_in, request_in, set_in, set_at}
 use Rattle.decide.specs.Inner.Kept.{outside_in}
 use Rattle.decide.specs.Inner.Rules.{allow_at}
 use Rattle.decide.specs.Inner.Nearer.{Uncovered, off_at, other_class_at, class_stops, stops_at, short_steps, Counts, near_of, AtNearest}
 use Rattle.decide.proofs.RuleLaws.{source_is, dest_is}
-use Rattle.decide.proofs.WalkLaws.{walk_start, walk-next, walk-hit, walk_end, all_rules}
+use Rattle.decide.proofs.WalkLaws.{walk_start, walk_next, walk_hit, walk_end, all_rules}
 
 -- ---- the tests of a rule at a place
 
 module _ (l : List ℕ) (at : ℕ) where
   module _ (e : allow_at l at ≡ false) where
-    pub off-no : (w : ℕ) → off_at l w at ≡ false
+    pub off_no : (w : ℕ) → off_at l w at ≡ false
     unfolding off_at
-    off-no w = simp e
+    off_no w = simp e
 
-    pub other-no : (class : ℕ) → other_class_at l at class ≡ false
+    pub other_no : (class : ℕ) → other_class_at l at class ≡ false
     unfolding other_class_at
-    other-no class = simp e
+    other_no class = simp e
 
   module _ (e : allow_at l at ≡ true) where
-    pub off-yes : (w : ℕ) → off_at l w at ≡ not (is_on w (get_or l (at + 10) 0))
+    pub off_yes : (w : ℕ) → off_at l w at ≡ not (is_on w (get_or l (at + 10) 0))
     unfolding off_at
-    off-yes w = simp e
+    off_yes w = simp e
 
-    pub other-yes : (class : ℕ) → other_class_at l at class ≡ not (eqb (word_at l (at + 6)) class)
+    pub other_yes : (class : ℕ) → other_class_at l at class ≡ not (eqb (word_at l (at + 6)) class)
     unfolding other_class_at
-    other-yes class = simp e
+    other_yes class = simp e
 
   module _ (class most : ℕ) where
-    pub class-few : most < 3 → class_stops l at class most ≡ false
+    pub class_few : most < 3 → class_stops l at class most ≡ false
     unfolding class_stops
-    class-few h = simp (lt-ltb most 3 h)
+    class_few h = simp (lt-ltb most 3 h)
 
-    pub class-known : 3 ≤ most → class_stops l at class most ≡ other_class_at l at class
+    pub class_known : 3 ≤ most → class_stops l at class most ≡ other_class_at l at class
     unfolding class_stops
-    class-known h = simp (le-ltb most 3 h)
+    class_known h = simp (le-ltb most 3 h)
 
-    pub class-says : class_stops l at class most ≡ true → (3 ≤ most) × (other_class_at l at class ≡ true)
+    pub class_says : class_stops l at class most ≡ true → (3 ≤ most) × (other_class_at l at class ≡ true)
     unfolding class_stops
-    class-says e = go (ltb most 3) refl e
+    class_says e = go (ltb most 3) refl e
       where
         go : (b : Bool) → ltb most 3 ≡ b → cond b false (other_class_at l at class) ≡ true → (3 ≤ most) × (other_class_at l at class ≡ true)
         go true h k = false_not_true k
@@ -212,14 +212,14 @@ module _ (l : List ℕ) (at : ℕ) (q : Query) (r : List ℕ) (h : RuleAt l at r
       go false true is = omega arith
 
   module _ (on : off_at l q.switches at ≡ false) where
-    pub steps-source : source? ≡ false → counted ≡ 1
-    steps-source s = counted_is ∙ simp (on, s)
+    pub steps_source : source? ≡ false → counted ≡ 1
+    steps_source s = counted_is ∙ simp (on, s)
 
-    pub steps-dest : source? ≡ true → dest? ≡ false → counted ≡ 2
-    steps-dest s d = counted_is ∙ simp (on, s, d)
+    pub steps_dest : source? ≡ true → dest? ≡ false → counted ≡ 2
+    steps_dest s d = counted_is ∙ simp (on, s, d)
 
-    pub steps-class : source? ≡ true → dest? ≡ true → other_class_at l at q.class ≡ true → counted ≡ 3
-    steps-class s d k = counted_is ∙ simp (on, s, d, k)
+    pub steps_class : source? ≡ true → dest? ≡ true → other_class_at l at q.class ≡ true → counted ≡ 3
+    steps_class s d k = counted_is ∙ simp (on, s, d, k)
 
     pub steps_all : source? ≡ true → dest? ≡ true → other_class_at l at q.class ≡ false → counted ≡ 4
     steps_all s d k = counted_is ∙ simp (on, s, d, k)
@@ -289,7 +289,7 @@ module _ (l : List ℕ) (q : Query) where
   unfolding nearest
   near_start u from count e c z =
       walk_start Rules (rule_of (policy_of l) q.switches) l whole (rest (record { steps = 0; rule = 0 })) from count e c
-      (nearest-same (steps (request_in l q)) (short_steps (request_in l q)) (rules_in l q.switches) (λ r m. short_steps_lem (request_in l q) r (any_of_none (covers (request_in l q)) u m))
+      (nearest_same (steps (request_in l q)) (short_steps (request_in l q)) (rules_in l q.switches) (λ r m. short_steps_lem (request_in l q) r (any_of_none (covers (request_in l q)) u m))
       ∙ some_first count c z
       ∙ ap (rest (record { steps = 0; rule = 0 }) 0) (all_rules l q.switches))
 
@@ -297,9 +297,9 @@ module _ (l : List ℕ) (q : Query) where
     abbrev here : ℕ
     here = short_steps (request_in l q) (rule_of (policy_of l) q.switches (record_at l at))
 
-    pub near-end : (n < count → ⊥) → near_of b ≡ whole
+    pub near_end : (n < count → ⊥) → near_of b ≡ whole
     unfolding nearest_from
-    near-end h = sym (walk_end Rules (rule_of (policy_of l) q.switches) l whole (rest b) count n at w h)
+    near_end h = sym (walk_end Rules (rule_of (policy_of l) q.switches) l whole (rest b) count n at w h)
 
     module _ (more : n < count) where
       turn : (b' : Best) → nearer (near_of b) here n ≡ near_of b' → (rs : List Rule) → rest b n (rule_of (policy_of l) q.switches (record_at l at) ∷ rs) ≡ rest b' (n + 1) rs
@@ -309,17 +309,17 @@ module _ (l : List ℕ) (q : Query) where
           ap (λ (x : Nearest). nearest_from (short_steps (request_in l q)) x (suc n) rs) e ∙ ap (λ (m : ℕ). rest b' m rs) z
 
       -- a rule that comes no nearer is passed over
-      pub near-over : here ≤ b.steps → (to : ℕ) → to ≡ at + get_or l at 0 → AtNearest l q b count (n + 1) to
-      near-over h to = walk-next Rules (rule_of (policy_of l) q.switches) l whole (rest b) count n at w more (rest b) to (turn b (stays_best b here n h))
+      pub near_over : here ≤ b.steps → (to : ℕ) → to ≡ at + get_or l at 0 → AtNearest l q b count (n + 1) to
+      near_over h to = walk_next Rules (rule_of (policy_of l) q.switches) l whole (rest b) count n at w more (rest b) to (turn b (stays_best b here n h))
 
       module _ (s : ℕ) (is : s ≡ here) (h : b.steps < s) where
         taken : nearer (near_of b) here n ≡ Near s n
         taken = ap (λ (k : ℕ). nearer (near_of b) k n) (sym is) ∙ now_best b s n h
 
         pub near_next : (to : ℕ) → to ≡ at + get_or l at 0 → AtNearest l q (record { steps = s; rule = n }) count (n + 1) to
-        near_next to = walk-next Rules (rule_of (policy_of l) q.switches) l whole (rest b) count n at w more (rest (record { steps = s; rule = n })) to (turn (record { steps = s; rule = n }) taken)
+        near_next to = walk_next Rules (rule_of (policy_of l) q.switches) l whole (rest b) count n at w more (rest (record { steps = s; rule = n })) to (turn (record { steps = s; rule = n }) taken)
 
-        pub near-four : s ≡ 4 → Near 4 n ≡ whole
-        near-four e =
-            sym (walk-hit Rules (rule_of (policy_of l) q.switches) l whole (rest b) count n at w more (Near 4 n)
+        pub near_four : s ≡ 4 → Near 4 n ≡ whole
+        near_four e =
+            sym (walk_hit Rules (rule_of (policy_of l) q.switches) l whole (rest b) count n at w more (Near 4 n)
             (λ rs. turn (record { steps = s; rule = n }) taken rs ∙ ap (λ (k : ℕ). nearest_from (short_steps (request_in l q)) (Near k n) (n + 1) rs) e ∙ stays (short_steps (request_in l q)) 4 n (n + 1) rs (short_few (request_in l q))))

@@ -1,8 +1,8 @@
 -- Laws of a run over numbers. Assumes nothing.
 --     fault, codes, out, rows    its refusal, its rows' numbers, what it comes to after i rows, how many are decided
 --     begun_numbers              what it begins with
---     row-slot, row-few, row-numbers   of a row that is decided: its slot, its number, its six numbers
---     row-run, row-code          what the run comes to after it, and its slot
+--     row_slot, row-few, row-numbers   of a row that is decided: its slot, its number, its six numbers
+--     row_run, row-code          what the run comes to after it, and its slot
 use Prim.Native.Nat.{ℕ, ◌+◌, ◌*◌, ◌/◌, ◌<◌}
 use mathlib.Core.Path.{◌≡◌, sym, ap, subst, ◌∙◌}
 use mathlib.Core.Bool.{Bool}
@@ -52,17 +52,17 @@ module _ (l ns ys : List ℕ) where
       subst (λ n. Begins l n fault b) (sym (rows_many ns)) (subst (λ x. Begins l (length ns / 6) x b) f k)
 
   module _ (i r : ℕ) (e : r ≡ rows) (h : i < r) where
-    row-none : fault ≡ none
-    row-none = rows_decided fault (length (rows_of ns)) i (subst (λ n. i < n) e h)
+    row_none : fault ≡ none
+    row_none = rows_decided fault (length (rows_of ns)) i (subst (λ n. i < n) e h)
 
     row_in : i < length (rows_of ns)
     row_in = let k = rows_most fault (length (rows_of ns)) in omega (arith, h, e, k)
 
-    pub row-slot : i < length ys
-    row-slot = omega (arith, same_count l (length ns) (length ys) row-none, rows_many ns, row_in)
+    pub row_slot : i < length ys
+    row_slot = omega (arith, same_count l (length ns) (length ys) row_none, rows_many ns, row_in)
 
-    pub row-few : i < 64
-    row-few = omega (arith, few_numbers l (length ns) (length ys) row-none, rows_many ns, row_in)
+    pub row_few : i < 64
+    row_few = omega (arith, few_numbers l (length ns) (length ys) row_none, rows_many ns, row_in)
 
     pub row_numbers : 6 * i + 5 < length ns
     row_numbers = row_inside ns i row_in
@@ -71,8 +71,8 @@ module _ (l ns ys : List ℕ) where
       asked : q ≡ get_or (rows_of ns) i no_query
       asked = a ∙ sym (row_at_lem ns i no_query row_in)
 
-      pub row-run : s.progress.run ≡ out (i + 1)
-      row-run =
+      pub row_run : s.progress.run ≡ out (i + 1)
+      row_run =
           z.run ∙ ap (λ (x : Query). next_run (out i) i (row_answer l x)) asked ∙ out_next l fault (rows_of ns) i no_query row_in ∙ ap out (sym (add-one i))
 
       pub row_code_lem : (c : ℕ) → c ≡ decision_code (answer_outcome s.answer) → (zs : List ℕ) → zs ≡ fill codes ys i → set zs i c ≡ fill codes ys (i + 1)
@@ -80,5 +80,5 @@ module _ (l ns ys : List ℕ) where
           let v : c ≡ row_code l (get_or (rows_of ns) i no_query) = w ∙ ap (λ (x : Answer). decision_code (answer_outcome x)) z.answer ∙ answer_code l q ∙ ap (row_code l) asked in
           ap (λ (x : List ℕ). set x i c) y
           ∙ ap (set (fill codes ys i) i) (v ∙ sym (get_or-map (row_code l) (rows_of ns) i no_query))
-          ∙ fill_next codes ys i (row_code l no_query) (subst (λ n. i < n) (sym (length-map (rows_of ns) (row_code l))) row_in) row-slot
+          ∙ fill_next codes ys i (row_code l no_query) (subst (λ n. i < n) (sym (length-map (rows_of ns) (row_code l))) row_in) row_slot
           ∙ ap (fill codes ys) (sym (add-one i))

@@ -65,12 +65,12 @@ module _ (l : List ℕ) (at : ℕ) where
 
   module _ (r : List ℕ) (h : RuleAt l at r) where
     -- an allow rule has 11 bytes
-    pub allow-long : allow_at l at ≡ true → get_or l at 0 ≡ 11
-    allow-long e = ⊎_elim (λ w. omega (arith, w.1, h.here.size)) (λ w. false_not_true (sym (allow_not w) ∙ e)) h.kind
+    pub allow_long : allow_at l at ≡ true → get_or l at 0 ≡ 11
+    allow_long e = ⊎_elim (λ w. omega (arith, w.1, h.here.size)) (λ w. false_not_true (sym (allow_not w) ∙ e)) h.kind
 
     -- and so has a live one
-    pub live-length : (w : ℕ) (b : Bool) → b ≡ live_at l w at → b ≡ true → get_or l at 0 ≡ 11
-    live-length w b is e = ⊎_elim (λ k. omega (arith, k.1, h.here.size)) (λ k. false_not_true (sym (live_off w (allow_not k)) ∙ sym is ∙ e)) h.kind
+    pub live_length : (w : ℕ) (b : Bool) → b ≡ live_at l w at → b ≡ true → get_or l at 0 ≡ 11
+    live_length w b is e = ⊎_elim (λ k. omega (arith, k.1, h.here.size)) (λ k. false_not_true (sym (live_off w (allow_not k)) ∙ sym is ∙ e)) h.kind
 
     -- its condition is 0 to 33
     pub allow_condition : allow_at l at ≡ true → get_or l (at + 10) 0 < 34

@@ -28,7 +28,7 @@ use Rattle.decide.specs.Inner.Rules.{live_at, reaching, reaching_at, reaching_fr
 use Rattle.decide.specs.Inner.Sources.{Joined, has, source_has, source_at, Marking, AtSource}
 use Rattle.decide.proofs.ArrayLaws.{blank, by_set}
 use Rattle.decide.proofs.MarkedLaws.{Small, marked_get}
-use Rattle.decide.proofs.WalkLaws.{walk_start, walk-next, walk_end, all_rules}
+use Rattle.decide.proofs.WalkLaws.{walk_start, walk_next, walk_end, all_rules}
 use Rattle.decide.proofs.RuleLaws.{reaching_is, source_is}
 
 -- ---- marks, and what is joined to them
@@ -48,17 +48,17 @@ module _ (ms ns : List Bool) (S : List ℕ) (e : length ms ≡ 1024) (s : Small 
   joins = record { is = λ m. ap (λ x. get_or x m false) is ∙ marked_get ms S m e s }
 
   module _ (l : List ℕ) (done : List Bool) (k : Marking l ms done) where
-    pub marking-more : Marking l ns done
-    marking-more = record { all = ap length is ∙ mark_length ms S ∙ e; marked = λ g d m h. joins.is m ∙ or_left (get_or ms m false) (is_in m S) (k.marked g d m h) }
+    pub marking_more : Marking l ns done
+    marking_more = record { all = ap length is ∙ mark_length ms S ∙ e; marked = λ g d m h. joins.is m ∙ or_left (get_or ms m false) (is_in m S) (k.marked g d m h) }
 
     -- of a group, which is then told by the table
-    pub marking-done : (g : ℕ) → group_set l g ≡ S → Marking l ns (set done g true)
-    marking-done g z =
+    pub marking_done : (g : ℕ) → group_set l g ≡ S → Marking l ns (set done g true)
+    marking_done g z =
         record {
-          all = marking-more.all;
+          all = marking_more.all;
           marked =
               by_set false (λ (h : ℕ) (b : Bool). b ≡ true → (m : ℕ) → is_in m (group_set l h) ≡ true → get_or ns m false ≡ true) done g true
-              marking-more.marked
+              marking_more.marked
               (λ d m h. joins.is m ∙ or_right (get_or ms m false) (is_in m S) (sym (ap (is_in m) z) ∙ h));
         }
 
@@ -79,9 +79,9 @@ module _ (l : List ℕ) (at : ℕ) (ms ns : List Bool) (live : Bool) where
 
   -- the rule as it is read under a word
   module _ (w : ℕ) (r : List ℕ) (h : RuleAt l at r) (is : live ≡ live_at l w at) where
-    pub joined-rule : (os : List Bool) → Joined ns (source_at l ms at live) os → Joined ns (source_has ms (rule_of (policy_of l) w r)) os
+    pub joined_rule : (os : List Bool) → Joined ns (source_at l ms at live) os → Joined ns (source_has ms (rule_of (policy_of l) w r)) os
     unfolding reaching_from
-    joined-rule os j = record { is = λ m. j.is m ∙ ap (λ b. get_or ns m false || b) (sym (rw (reaching_is l w at r h ms live is, source_is l w at r h))) }
+    joined_rule os j = record { is = λ m. j.is m ∙ ap (λ b. get_or ns m false || b) (sym (rw (reaching_is l w at r h ms live is, source_is l w at r h))) }
 
 -- ---- the walk
 
@@ -95,13 +95,13 @@ module _ (l : List ℕ) (w : ℕ) (ms : List Bool) where
     pub sources_next : n < count → (os : List Bool) → Joined ns (source_has ms (rule_in l w at)) os → (to : ℕ) → to ≡ at + get_or l at 0 → AtSource l w ms os count (n + 1) to
     unfolding any_of
     sources_next more os j to e m =
-        walk-next Rules (rule_of (policy_of l) w) l _ _ count n at (k m) more _ to
+        walk_next Rules (rule_of (policy_of l) w) l _ _ count n at (k m) more _ to
         (λ rs. sym (ap (λ b. b || any_of (reaching_from ms (is_in m)) rs) (j.is m) ∙ or_assoc (get_or ns m false) (reaching_from ms (is_in m) (rule_in l w at)) (any_of (reaching_from ms (is_in m)) rs)))
         e
 
-    pub sources-end : (n < count → ⊥) → (m : ℕ) → get_or ns m false ≡ any_of (reaching_from ms (is_in m)) (rules_in l w)
+    pub sources_end : (n < count → ⊥) → (m : ℕ) → get_or ns m false ≡ any_of (reaching_from ms (is_in m)) (rules_in l w)
     unfolding any_of
-    sources-end h m = sym (walk_end Rules (rule_of (policy_of l) w) l _ _ count n at (k m) h ∙ or-false (get_or ns m false))
+    sources_end h m = sym (walk_end Rules (rule_of (policy_of l) w) l _ _ count n at (k m) h ∙ or-false (get_or ns m false))
 
 -- ---- numbers that are marked in both
 

@@ -62,17 +62,17 @@ module _ (l ps : List ℕ) (at t : ℕ) (k : Known l ps) (f : TypeAt l at) (is :
       }
 
   module _ (h : 32768 ≤ t) where
-    pub group-number : t - 32768 < count_of l Groups
-    group-number = type_group (count_of l Groups) t (subst (IsType (count_of l Groups)) (sym is) f.is) h
+    pub group_number : t - 32768 < count_of l Groups
+    group_number = type_group (count_of l Groups) t (subst (IsType (count_of l Groups)) (sym is) f.is) h
 
-    pub group-few : t - 32768 < 256
-    group-few = omega (arith, group-number, few_groups l k.accepted)
+    pub group_few : t - 32768 < 256
+    group_few = omega (arith, group_number, few_groups l k.accepted)
 
     pub group_is : group_set l (t - 32768) ≡ set_at l at
     group_is = group_again l t h ∙ ap (set_in l) is
 
-    pub span-group : {from count : ℕ} → Spans l from count (group_set l (t - 32768)) → Spans l from count (set_at l at)
-    span-group {from} {count} s = subst (Spans l from count) group_is s
+    pub span_group : {from count : ℕ} → Spans l from count (group_set l (t - 32768)) → Spans l from count (set_at l at)
+    span_group {from} {count} s = subst (Spans l from count) group_is s
 
 -- group g, where the table says
 pub group_placed : (l ps : List ℕ) (g : ℕ) → Known l ps → g < count_of l Groups → GroupAt l (get_or ps g 0) (get_or (groups_in l) g [])

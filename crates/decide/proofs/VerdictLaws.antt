@@ -3,7 +3,7 @@
 --     written_same, written_after, left-same   what stands behind stays
 --     Turning, turning-next  the table turned before a number, and one number further
 --     kept_fresh             none is kept at first
---     recalled-first, recalled-plain, recalled-turned, recalled-refused   made right for a word, one for each way that it is
+--     recalled_first, recalled-plain, recalled-turned, recalled-refused   made right for a word, one for each way that it is
 --     tables_for, rows-after   what a query is lent, and what it leaves for the next row
 --     any_named_lem              all rules, by their records from the first on
 --     names_not, names-allow what a rule at a place names
@@ -80,11 +80,11 @@ module _ (l : List ℕ) (w : ℕ) where
 
     -- what is read back, and one more kept
     module _ (n : ℕ) where
-      pub front-says : n < 256 → 0 < get_or vs n 0 % 4 → eqb (get_or vs n 0 % 4) 2 ≡ verdict_of l w n
-      front-says m h = ap (λ x. eqb x 2) (k.is n m h) ∙ bit_two (verdict_of l w n)
+      pub front_says : n < 256 → 0 < get_or vs n 0 % 4 → eqb (get_or vs n 0 % 4) 2 ≡ verdict_of l w n
+      front_says m h = ap (λ x. eqb x 2) (k.is n m h) ∙ bit_two (verdict_of l w n)
 
-      pub front-adds : (b : Bool) → b ≡ verdict_of l w n → get_or vs n 0 % 4 ≡ 0 → Written l w vs (set vs n (get_or vs n 0 + (bit b + 1)))
-      front-adds b e z =
+      pub front_adds : (b : Bool) → b ≡ verdict_of l w n → get_or vs n 0 % 4 ≡ 0 → Written l w vs (set vs n (get_or vs n 0 + (bit b + 1)))
+      front_adds b e z =
           let v : ℕ = get_or vs n 0 + (bit b + 1) in
           let lo : v % 4 ≡ bit b + 1 = omega (arith, z, bit_most b) in
           record {
@@ -177,8 +177,8 @@ module _ (l : List ℕ) (w : ℕ) where
 
   module _ (h : Held) (vs : List ℕ) (k : KeptFor l h vs) where
     -- nothing was kept, so what is kept is right for every word
-    pub recalled-first : h.known ≡ 0 → Recalled l w (holds w 1) vs
-    recalled-first z =
+    pub recalled_first : h.known ≡ 0 → Recalled l w (holds w 1) vs
+    recalled_first z =
         record {
           kept = record {
             front = λ _. record { is = λ n m e. absurd (omega (arith, e, k.nothing z n)) };
@@ -191,8 +191,8 @@ module _ (l : List ℕ) (w : ℕ) where
         }
 
     -- no rule names a switch, so every word gives the same
-    pub recalled-plain : Accepted l → any_named l ≡ false → Recalled l w (holds h.other 2) vs
-    recalled-plain a e =
+    pub recalled_plain : Accepted l → any_named l ≡ false → Recalled l w (holds h.other 2) vs
+    recalled_plain a e =
         record {
           kept = record {
             front = λ _. record {
@@ -208,8 +208,8 @@ module _ (l : List ℕ) (w : ℕ) where
         }
 
     -- what was in front goes behind; what was behind is this word's, or goes
-    pub recalled-turned : Accepted l → any_named l ≡ true → (b : Bool) → b ≡ eqb h.other w → (ws : List ℕ) → Turned b vs ws → Recalled l w (holds h.word 3) ws
-    recalled-turned a e b t ws p =
+    pub recalled_turned : Accepted l → any_named l ≡ true → (b : Bool) → b ≡ eqb h.other w → (ws : List ℕ) → Turned b vs ws → Recalled l w (holds h.word 3) ws
+    recalled_turned a e b t ws p =
         let r = go b t p in
         record {
           kept = record {

@@ -44,13 +44,13 @@ module _ {A R : Type 0} where
         step : whole ≡ rest n (read (record_at l at) ∷ map read (records_at l (at + get_or l at 0) (count - (n + 1))))
         step = w.same ∙ ap (λ rs. rest n (map read rs)) (records_next l at (count - n) (count - (n + 1)) (omega arith))
 
-        pub walk-hit : (x : A) → ((rs : List R) → rest n (read (record_at l at) ∷ rs) ≡ x) → whole ≡ x
-        walk-hit x h = step ∙ h (map read (records_at l (at + get_or l at 0) (count - (n + 1))))
+        pub walk_hit : (x : A) → ((rs : List R) → rest n (read (record_at l at) ∷ rs) ≡ x) → whole ≡ x
+        walk_hit x h = step ∙ h (map read (records_at l (at + get_or l at 0) (count - (n + 1))))
 
-        pub walk-next :
+        pub walk_next :
             (rest' : ℕ → List R → A) (to : ℕ) → ((rs : List R) → rest n (read (record_at l at) ∷ rs) ≡ rest' (n + 1) rs) → to ≡ at + get_or l at 0
             → Walk s read l whole rest' count (n + 1) to
-        walk-next rest' to h e =
+        walk_next rest' to h e =
             record {
               few = omega arith;
               all = w.all;
@@ -81,30 +81,30 @@ module _ {R : Type 0} where
   AnyOf s read l f whole = Walk s read l whole (λ n rs. any_of f rs)
 
   module _ {s : Section} {read : List ℕ → R} {l : List ℕ} (f : R → Bool) {whole : Found} {count n at : ℕ} (w : FirstOf s read l f whole count n at) where
-    pub first-end : (n < count → ⊥) → Nothing ≡ whole
+    pub first_end : (n < count → ⊥) → Nothing ≡ whole
     unfolding found_of first_at
-    first-end h = sym (walk_end s read l whole (λ n rs. found_of (first_at f n rs)) count n at w h)
+    first_end h = sym (walk_end s read l whole (λ n rs. found_of (first_at f n rs)) count n at w h)
 
-    pub first-hit : n < count → f (read (record_at l at)) ≡ true → At n ≡ whole
+    pub first_hit : n < count → f (read (record_at l at)) ≡ true → At n ≡ whole
     unfolding found_of first_at
-    first-hit more y = sym (walk-hit s read l whole (λ n rs. found_of (first_at f n rs)) count n at w more (At n) (λ rs. simp y))
+    first_hit more y = sym (walk_hit s read l whole (λ n rs. found_of (first_at f n rs)) count n at w more (At n) (λ rs. simp y))
 
     pub first_next : n < count → f (read (record_at l at)) ≡ false → (to : ℕ) → to ≡ at + get_or l at 0 → FirstOf s read l f whole count (n + 1) to
     unfolding found_of first_at
-    first_next more y to = walk-next s read l whole (λ n rs. found_of (first_at f n rs)) count n at w more (λ n rs. found_of (first_at f n rs)) to (λ rs. rw add-one (simp y))
+    first_next more y to = walk_next s read l whole (λ n rs. found_of (first_at f n rs)) count n at w more (λ n rs. found_of (first_at f n rs)) to (λ rs. rw add-one (simp y))
 
   module _ {s : Section} {read : List ℕ → R} {l : List ℕ} (f : R → Bool) {whole : Bool} {count n at : ℕ} (w : AnyOf s read l f whole count n at) where
-    pub any-end : (n < count → ⊥) → false ≡ whole
+    pub any_end : (n < count → ⊥) → false ≡ whole
     unfolding any_of
-    any-end h = sym (walk_end s read l whole (λ n rs. any_of f rs) count n at w h)
+    any_end h = sym (walk_end s read l whole (λ n rs. any_of f rs) count n at w h)
 
-    pub any-hit : n < count → f (read (record_at l at)) ≡ true → true ≡ whole
+    pub any_hit : n < count → f (read (record_at l at)) ≡ true → true ≡ whole
     unfolding any_of
-    any-hit more y = sym (walk-hit s read l whole (λ n rs. any_of f rs) count n at w more true (λ rs. simp y))
+    any_hit more y = sym (walk_hit s read l whole (λ n rs. any_of f rs) count n at w more true (λ rs. simp y))
 
     pub any_next : n < count → f (read (record_at l at)) ≡ false → (to : ℕ) → to ≡ at + get_or l at 0 → AnyOf s read l f whole count (n + 1) to
     unfolding any_of
-    any_next more y to = walk-next s read l whole (λ n rs. any_of f rs) count n at w more (λ n rs. any_of f rs) to (λ rs. simp y)
+    any_next more y to = walk_next s read l whole (λ n rs. any_of f rs) count n at w more (λ n rs. any_of f rs) to (λ rs. simp y)
 
 -- ---- all rules, and all constraints
 

@@ -37,8 +37,8 @@ module _ (l : List ℕ) (t : ℕ) (ms : List Bool) (size from count : ℕ) (m : 
         sym (full_within (set_in l t) ms size m W p.rising
         ∙ ap (λ (S : List ℕ). within S W) (sym (s.are ∙ group_again l x g ∙ ap (set_in l) is)) ∙ e)
 
-    pub first-apart : word_at l sf < word_at l from → false ≡ fully_marked ms size W
-    first-apart e = apart (ends_first l sf sc from count s.some p.some p.rising e)
+    pub first_apart : word_at l sf < word_at l from → false ≡ fully_marked ms size W
+    first_apart e = apart (ends_first l sf sc from count s.some p.some p.rising e)
 
     pub last_apart : word_at l (from + 2 * (count - 1)) < word_at l (sf + 2 * (sc - 1)) → false ≡ fully_marked ms size W
     last_apart e = apart (ends_last l sf sc from count s.some p.some p.rising e)

@@ -13,7 +13,7 @@ use crate::word::{wide, wide_word, word_in};
 use decision::Query;
 use format::{Starts, header};
 
-#[derive(Drop)]
+#[derive(Clone, Copy)]
 pub(crate) enum Found {
     At(usize),
     Nothing,

@@ -13,14 +13,14 @@ use decision::{Nearest, Query};
 use format::{Starts, header};
 
 // The nearest rule so far, and how many steps it passes.
-#[derive(Drop)]
+#[derive(Clone, Copy)]
 pub(crate) struct Best {
     pub steps: usize,
     pub rule: usize,
 }
 
 // A rule that comes nearer, where it stands and how many steps it passes; or the number past the last rule.
-#[derive(Drop)]
+#[derive(Clone, Copy)]
 pub(crate) struct Next {
     pub n: usize,
     pub at: usize,

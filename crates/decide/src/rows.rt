@@ -38,7 +38,7 @@ fn query_at(queries: &[u8], at: usize) -> Query
 }
 
 // The number of a row's answer, and the words that the verdicts are right for after it.
-#[derive(Drop)]
+#[derive(Clone, Copy)]
 pub(crate) struct Told {
     pub number: u64,
     pub held: Held,

@@ -15,7 +15,7 @@ use image::survey;
 use runs::Run;
 
 // What a run comes to so far, and the words that the verdicts kept in it are right for.
-#[derive(Drop)]
+#[derive(Clone, Copy)]
 pub(crate) struct Progress {
     pub run: Run,
     pub held: Held,
@@ -32,7 +32,7 @@ pub(crate) struct Begun {
 }
 
 // A row's answer, and what the run comes to after it.
-#[derive(Drop)]
+#[derive(Clone, Copy)]
 pub(crate) struct Step {
     pub answer: Answer,
     pub progress: Progress,

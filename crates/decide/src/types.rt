@@ -7,7 +7,7 @@ ghost use Rattle.decide.specs.Inner.Parts.{Known, TypeAt, Spans, group_set, set_
 use crate::word::{wide, wide_word, word_in};
 
 // A part of the image that holds basic types, so many from a place on.
-#[derive(Drop)]
+#[derive(Clone, Copy)]
 pub(crate) struct Span {
     pub from: usize,
     pub count: usize,

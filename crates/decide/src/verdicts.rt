@@ -14,7 +14,7 @@ use format::{Sections, Starts, header};
 
 // The word that the verdicts in front are right for, and that of those behind; and what is known of the switches: 0 nothing yet,
 // and no verdict is kept; 1 no more than the words; 2 that the rules name no switch; 3 that they do.
-#[derive(Drop)]
+#[derive(Clone, Copy)]
 pub(crate) struct Held {
     pub word: u32,
     pub other: u32,

@@ -1,7 +1,7 @@
 -- What an answer can hold, for the layers above. Assumes nothing.
 --     answer_refused       a refusal is the check's, or 8 or 9 with the place 0
 --     image_refused        and the check's is every query's
---     denied-inside, permitted-inside, unknown-inside   the numbers that a decision names are below the sections' counts, and
+--     denied_inside, permitted-inside, unknown-inside   the numbers that a decision names are below the sections' counts, and
 --                                steps are at most 4
 --     decide_alike         policies and queries that are read the same are decided the same
 --     answer_gives         on an accepted image a query with valid types is answered with the decision
@@ -65,18 +65,18 @@ module _ (l : List ℕ) where
   constraints_are = ap length (sym (records_of_constraints (policy_of l))) ∙ records_count l Constraints
 
   module _ (q : Query) where
-    pub denied-inside : (s n : ℕ) → answer l q ≡ gives (not_permitted (Near s n)) → (s ≤ 4) × (n < count_of l Rules)
-    denied-inside s n e =
+    pub denied_inside : (s n : ℕ) → answer l q ≡ gives (not_permitted (Near s n)) → (s ≤ 4) × (n < count_of l Rules)
+    denied_inside s n e =
         let f = nearest_passes l q s n e in
         (f.2, omega (arith, f.0, rules_are))
 
-    pub permitted-inside : (r : ℕ) → answer l q ≡ gives (permitted r) → r < count_of l Rules
+    pub permitted_inside : (r : ℕ) → answer l q ≡ gives (permitted r) → r < count_of l Rules
     unfolding rules_of
-    permitted-inside r e = inside _ _ (policy_of l).rules r (count_of l Rules) rules_are (lowest_answered l q (permitted r) e).0
+    permitted_inside r e = inside _ _ (policy_of l).rules r (count_of l Rules) rules_are (lowest_answered l q (permitted r) e).0
 
-    pub unknown-inside : (r c : ℕ) → answer l q ≡ gives (unknown r c) → (r < count_of l Rules) × (c < count_of l Constraints)
+    pub unknown_inside : (r c : ℕ) → answer l q ≡ gives (unknown r c) → (r < count_of l Rules) × (c < count_of l Constraints)
     unfolding rules_of constraints_of
-    unknown-inside r c e =
+    unknown_inside r c e =
         let n = lowest_answered l q (unknown r c) e in (
           inside _ _ (policy_of l).rules r (count_of l Rules) rules_are n.0,
           inside _ _ (policy_of l).constraints c (count_of l Constraints) constraints_are n.1,

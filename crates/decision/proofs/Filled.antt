@@ -14,7 +14,7 @@ use Rattle.format.specs.Check.{Accepted}
 use Rattle.format.specs.Claims.{IsGroup}
 use Rattle.format.proofs.Bytes.{length_words}
 use Rattle.format.proofs.Fields.{formed_is, record_group}
-use Rattle.format.proofs.Accepted.{record-formed, group_nth}
+use Rattle.format.proofs.Accepted.{record_formed, group_nth}
 use Rattle.format.proofs.Images.{group_count}
 use Rattle.format.proofs.References.{references_held}
 use Rattle.decision.specs.Sets.{set_of}
@@ -25,7 +25,7 @@ group_filled r n g = omega (arith, g.size.1, g.some, length_words (drop 2 r), le
 
 module _ (l : List ℕ) (e : Accepted l) (k : ℕ) (h : k < count_of l Groups) where
   group_is : (n : ℕ) × IsGroup (record_at l (place_of l Groups k)) n
-  group_is = record_group _ _ (formed_is _ _ Groups (record-formed l e Groups k h))
+  group_is = record_group _ _ (formed_is _ _ Groups (record_formed l e Groups k h))
 
   nth_filled : 0 < length (words (drop 2 (get_or (policy_of l).groups k [])))
   nth_filled = rw (group_nth l k h) (group_filled _ _ group_is.1)

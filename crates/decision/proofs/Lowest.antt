@@ -12,7 +12,7 @@ use Rattle.decision.specs.declared.Nearest.TheVariants.{NoRules, Near}
 use Rattle.decision.specs.Decide.{covers, steps, fails, first_at, nearest_of, nearest_by, nearest, not_permitted, permitted, unknown, decision_of, judge, decide}
 use Rattle.decision.specs.Lowest.{Lowest, Nears, Names, LowestNamed, NamedAlone, LowestAnswered}
 use Rattle.decision.proofs.Search.{first_at_none, first_at_none_intro, first_at_some, first_at_some_intro}
-use Rattle.decision.proofs.Nearness.{Says, nearest_says, most-nearest}
+use Rattle.decision.proofs.Nearness.{Says, nearest_says, most_nearest}
 use Rattle.decision.proofs.Order.{answer_accepted}
 
 module _ {A : Type 0} (f : A → Bool) (xs : List A) (n : ℕ) where
@@ -35,7 +35,7 @@ module _ (a : Request) (rs : List Rule) where
   nearest_alone : (x : Nearest) → Nears a rs x → x ≡ nearest a rs
   unfolding nearest nearest_by nearest_of first_at
   nearest_alone NoRules e = rw e refl
-  nearest_alone (Near s n) h = sym (most-nearest (steps a) rs s n h)
+  nearest_alone (Near s n) h = sym (most_nearest (steps a) rs s n h)
 
 names : (rs : List Rule) (cs : List Constraint) (a : Request) (r c : Option ℕ) → first_at (covers a) 0 rs ≡ r → first_at (fails rs a) 0 cs ≡ c → Names rs cs a (decision_of (nearest a rs) r c)
 unfolding decision_of

@@ -1,9 +1,9 @@
 -- Laws of the nearest: the greatest number that an element has, and the first element that has it. Assumes nothing.
 --     greatest_le, greatest-attained   no element has more, and one has it
 --     nearest_says      what the nearest says of the list
---     most-nearest      and nothing else says it; most-lowest: the element is the lowest with its number
+--     most_nearest      and nothing else says it; most-lowest: the element is the lowest with its number
 --     nearest_from_lem      it is found in one pass
---     nearest-same      two functions that agree on the list
+--     nearest_same      two functions that agree on the list
 use Prim.Native.Nat.{ℕ, zero, suc, ◌+◌, ◌≤◌, ◌<◌, max}
 use native.Mathlib.Omega.{arith}
 use native.Mathlib.Nat.{le-max_left, le-max_right, max-le, max-eq_left, max-eq_right}
@@ -74,16 +74,16 @@ module _ {A : Type 0} (f : A → ℕ) (xs : List A) where
       record {
         here = h.here;
         most = any_of_none_intro (λ x. ltb top (f x)) xs (λ x m. le-ltb top (f x) (greatest_le f xs x m));
-        before = any_of_none_intro (λ x. leb top (f x)) (take n xs) (λ x m. below x (eqb-false (f x) top (any_of_none has h.before m)) (greatest_le f xs x (from-take n xs m)));
+        before = any_of_none_intro (λ x. leb top (f x)) (take n xs) (λ x m. below x (eqb-false (f x) top (any_of_none has h.before m)) (greatest_le f xs x (from_take n xs m)));
       }
     where
       below : (x : A) → (f x ≡ top → ⊥) → f x ≤ top → leb top (f x) ≡ false
       below x ne le = lt-leb top (f x) (omega arith)
 
-      from-take : (k : ℕ) (ys : List A) {x : A} → Memᴰ x (take k ys) → Memᴰ x ys
-      from-take zero ys m = absurd (Memᴰ.not-nil m)
-      from-take (suc k) [] m = absurd (Memᴰ.not-nil m)
-      from-take (suc k) (y ∷ ys) m = ⊎_elim (λ e. Memᴰ.head e) (λ t. Memᴰ.tail (from-take k ys t)) (Memᴰ.cases_cons m)
+      from_take : (k : ℕ) (ys : List A) {x : A} → Memᴰ x (take k ys) → Memᴰ x ys
+      from_take zero ys m = absurd (Memᴰ.not-nil m)
+      from_take (suc k) [] m = absurd (Memᴰ.not-nil m)
+      from_take (suc k) (y ∷ ys) m = ⊎_elim (λ e. Memᴰ.head e) (λ t. Memᴰ.tail (from_take k ys t)) (Memᴰ.cases_cons m)
 
   says : (o : Option ℕ) → first_at has 0 xs ≡ o → Says f xs (nearest_of top o)
   unfolding nearest_of
@@ -98,28 +98,28 @@ module _ {A : Type 0} (f : A → ℕ) (xs : List A) where
   nearest_says = says (first_at has 0 xs) refl
 
   module _ (s n : ℕ) (h : Most f xs s n) where
-    pub most-lowest : Lowest (λ x. eqb (f x) s) xs n
-    most-lowest =
+    pub most_lowest : Lowest (λ x. eqb (f x) s) xs n
+    most_lowest =
         record {
           here = h.here;
           before = any_of_none_intro (λ x. eqb (f x) s) (take n xs) (λ x m. let k = leb-false s (f x) (any_of_none (λ y. leb s (f y)) h.before m) in ne_eqb (f x) s (λ e. absurd (omega arith)));
         }
 
     first_is : first_at (λ x. eqb (f x) s) 0 xs ≡ some n
-    first_is = let z : 0 + n ≡ n = omega arith in first_at_some_intro (λ x. eqb (f x) s) 0 n xs most-lowest ∙ ap some z
+    first_is = let z : 0 + n ≡ n = omega arith in first_at_some_intro (λ x. eqb (f x) s) 0 n xs most_lowest ∙ ap some z
 
-    top-is : top ≡ s
+    top_is : top ≡ s
     unfolding is_found
-    top-is =
+    top_is =
         let r = any_of_elim (λ x. eqb (f x) s) xs (sym (first_at_any (λ x. eqb (f x) s) 0 xs) ∙ ap is_found first_is) in
         let a = greatest_le f xs r.0 r.1 in
         let b = eqb-true (f r.0) s r.2 in
         let c = greatest_least f s xs (λ x m. ltb-false s (f x) (any_of_none (λ y. ltb s (f y)) h.most m)) in
         omega arith
 
-    pub most-nearest : nearest_by f xs ≡ Near s n
+    pub most_nearest : nearest_by f xs ≡ Near s n
     unfolding nearest_by nearest_of
-    most-nearest = ap (λ t. nearest_of t (first_at (λ x. eqb (f x) t) 0 xs)) top-is ∙ ap (nearest_of s) first_is
+    most_nearest = ap (λ t. nearest_of t (first_at (λ x. eqb (f x) t) 0 xs)) top_is ∙ ap (nearest_of s) first_is
 
 -- ---- in one pass
 
@@ -148,8 +148,9 @@ module _ {A : Type 0} (f : A → ℕ) where
       (λ h. let e = max-eq_left (leb-true (greatest f xs) (f x) h) in simp (h, e, eq-eqb (f x) (f x) refl))
       (λ h. let k = leb-false (greatest f xs) (f x) h in
       let low : f x ≤ greatest f xs = omega arith in
-      let e = max-eq_right low in
-      simp (h, e, ne_eqb (f x) (greatest f xs) (λ z. omega arith)))
+      let e : max (f x) (greatest f xs) ≡ greatest f xs = max-eq_right low in
+      ap (λ (m : ℕ). nearest_of m (cond (eqb (f x) m) (some n) (first_at (λ y. eqb (f y) m) (suc n) xs))) e
+      ∙ simp (h, ne_eqb (f x) (greatest f xs) (λ z. omega arith)))
 
   -- after a nearest so far, the elements left count where they have more
   from_near : (t m n : ℕ) (xs : List A) → nearest_from f (Near t m) n xs ≡ cond (leb (greatest f xs) t) (Near t m) (those n xs)
@@ -168,11 +169,11 @@ module _ {A : Type 0} (f : A → ℕ) where
   nearest_from_lem (x ∷ xs) = from_near (f x) 0 1 xs ∙ sym (those_next 0 x xs)
 
   module _ (g : A → ℕ) where
-    from-same : (x : Nearest) (n : ℕ) (xs : List A) → ((y : A) → Memᴰ y xs → f y ≡ g y) → nearest_from f x n xs ≡ nearest_from g x n xs
+    from_same : (x : Nearest) (n : ℕ) (xs : List A) → ((y : A) → Memᴰ y xs → f y ≡ g y) → nearest_from f x n xs ≡ nearest_from g x n xs
     unfolding nearest_from
-    from-same x n [] h = refl
-    from-same x n (y ∷ xs) h =
-        from-same (nearer x (f y) n) (suc n) xs (λ z m. h z (Memᴰ.tail m)) ∙ ap (λ s. nearest_from g (nearer x s n) (suc n) xs) (h y (Memᴰ.head refl))
+    from_same x n [] h = refl
+    from_same x n (y ∷ xs) h =
+        from_same (nearer x (f y) n) (suc n) xs (λ z m. h z (Memᴰ.tail m)) ∙ ap (λ s. nearest_from g (nearer x s n) (suc n) xs) (h y (Memᴰ.head refl))
 
-    pub nearest-same : (xs : List A) → ((y : A) → Memᴰ y xs → f y ≡ g y) → nearest_by f xs ≡ nearest_from g NoRules 0 xs
-    nearest-same xs h = sym (nearest_from_lem xs) ∙ from-same NoRules 0 xs h
+    pub nearest_same : (xs : List A) → ((y : A) → Memᴰ y xs → f y ≡ g y) → nearest_by f xs ≡ nearest_from g NoRules 0 xs
+    nearest_same xs h = sym (nearest_from_lem xs) ∙ from_same NoRules 0 xs h

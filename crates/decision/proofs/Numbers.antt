@@ -27,7 +27,7 @@ use Rattle.decision.specs.declared.Nearest.TheVariants.{NoRules, Near}
 use Rattle.decision.specs.Decide.{Decision, not_permitted, permitted, unknown, answer}
 use Rattle.decision.specs.Numbers.{parts_of, refusal_code, decision_code, kind_part, third_part, fourth_part, host_refusal, host_nearest, host_decision, RefusalFits, OutcomeFits, DecisionFits, DecideWhole, PartsWhole, PartsRead, DecideRead}
 use Rattle.decision.proofs.Order.{answer_accepted}
-use Rattle.decision.proofs.Answers.{answer_refused, denied-inside, permitted-inside, unknown-inside}
+use Rattle.decision.proofs.Answers.{answer_refused, denied_inside, permitted_inside, unknown_inside}
 
 -- ---- the parts
 
@@ -76,12 +76,12 @@ decide_fits l q fits = go (answer l q) refl
         (answer_refused l q f e)
     go (gives (not_permitted NoRules)) e = tt
     go (gives (not_permitted (Near s n))) e =
-        let h = denied-inside l q s n e in
+        let h = denied_inside l q s n e in
         (h.0, omega (arith, h.1, few_rules l (answer_accepted l q (not_permitted (Near s n)) e).0))
-    go (gives (permitted r)) e = omega (arith, permitted-inside l q r e, few_rules l (answer_accepted l q (permitted r) e).0)
+    go (gives (permitted r)) e = omega (arith, permitted_inside l q r e, few_rules l (answer_accepted l q (permitted r) e).0)
     go (gives (unknown r c)) e =
         let a = (answer_accepted l q (unknown r c) e).0 in
-        let h = unknown-inside l q r c e in
+        let h = unknown_inside l q r c e in
         (omega (arith, h.0, few_rules l a), omega (arith, h.1, few_constraints l a))
 
 pub decide_whole : DecideWhole

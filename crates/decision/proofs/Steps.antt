@@ -20,7 +20,7 @@ use Rattle.decision.specs.Decide.{tests, covers, passes, steps, first_at, neares
 use Rattle.decision.specs.Lowest.{Most}
 use Rattle.decision.specs.Steps.{steps_of, StepsInOrder, CoversAll, steps_at, source_in, dest_in, StepsOfRecord, FewSteps, DeniedSteps, NearestPasses, NearestOfAll, NoRulesExactly}
 use Rattle.decision.proofs.Search.{member_at, any_of_map, any_of_none, none_at, lowest_inside, lowest_at}
-use Rattle.decision.proofs.Nearness.{most-lowest}
+use Rattle.decision.proofs.Nearness.{most_lowest}
 use Rattle.decision.proofs.Order.{answer_accepted, decided}
 use Rattle.decision.proofs.Lowest.{lowest_answered}
 
@@ -102,7 +102,7 @@ pub nearest_passes : NearestPasses
 nearest_passes l q s n e =
     let p = policy_of l in
     let a = request_of p q in
-    let low = most-lowest (steps a) (map (rule_of p q.switches) p.rules) s n (most_steps l q s n e) in
+    let low = most_lowest (steps a) (map (rule_of p q.switches) p.rules) s n (most_steps l q s n e) in
     let inside = lowest_inside (λ r. eqb (steps a r) s) (map (rule_of p q.switches) p.rules) n low in
     let at = lowest_at (λ r. eqb (steps a r) s) (map (rule_of p q.switches) p.rules) n (rule_of p q.switches []) low in
     let here : n < length p.rules = omega (arith, inside, length-map p.rules (rule_of p q.switches)) in

@@ -24,7 +24,7 @@ use Rattle.format.specs.Answers.{gives, outcome, starts}
 use Rattle.format.proofs.Chain.{or_else_split, or_else_next, or_else_first, need_none, need_some}
 use Rattle.format.proofs.Shapes.{Formed, record_part, length_least, length_cases, shape_length, shape_kind, first_whole, read_whole, read_bad_field, read_malformed}
 use Rattle.format.proofs.ByCase.{limit_most, count_place_most}
-use Rattle.format.proofs.Accepted.{accepted_header, accepted_body, start_inside, start_least, record-stands, group_nth, place_first, place_next, start_groups}
+use Rattle.format.proofs.Accepted.{accepted_header, accepted_body, start_inside, start_least, record_stands, group_nth, place_first, place_next, start_groups}
 use Rattle.format.proofs.Twins.{listed_nil, listed_cons}
 use Rattle.format.proofs.Images.{group_count}
 use Rattle.format.proofs.Front.{front_accepted, front_length}
@@ -76,33 +76,33 @@ module _ (b r : List ℕ) (s : Section) (size : get_or r 0 0 ≡ length r) (kind
       or_else_next _ (need_none _ q.0) ∙ or_else_first _ (rw q.1)
 
   module _ (n : ℕ) (e : read_of s (count_of b Groups) r ≡ Whole n) where
-    whole-formed : Formed s (count_of b Groups) r
-    whole-formed = rw whole_first at (read_whole s (count_of b Groups) n r e).0
+    whole_formed : Formed s (count_of b Groups) r
+    whole_formed = rw whole_first at (read_whole s (count_of b Groups) n r e).0
 
-    pub own-twin : added_twin s (policy_of (image_in b)) r ≡ true → own_fault b r ≡ some (refusal 20 0)
+    pub own_twin : added_twin s (policy_of (image_in b)) r ≡ true → own_fault b r ≡ some (refusal 20 0)
     unfolding own_fault field_fault
-    own-twin h =
-        or_else_next _ (need_none _ whole-formed.shape) ∙ or_else_next _ (rw whole-formed.fields)
+    own_twin h =
+        or_else_next _ (need_none _ whole_formed.shape) ∙ or_else_next _ (rw whole_formed.fields)
         ∙ or_else_first _ (need_some _ (rw (is_section, h)))
 
-    pub own-full : added_twin s (policy_of (image_in b)) r ≡ false → limit_of s ≤ count_of b s → own_fault b r ≡ some (refusal 12 0)
+    pub own_full : added_twin s (policy_of (image_in b)) r ≡ false → limit_of s ≤ count_of b s → own_fault b r ≡ some (refusal 12 0)
     unfolding own_fault field_fault new_number
-    own-full t h =
-        or_else_next _ (need_none _ whole-formed.shape) ∙ or_else_next _ (rw whole-formed.fields)
+    own_full t h =
+        or_else_next _ (need_none _ whole_formed.shape) ∙ or_else_next _ (rw whole_formed.fields)
         ∙ or_else_next _ (need_none _ (rw (is_section, t)))
         ∙ or_else_first _ (need_some _ (rw is_section (le-ltb (count_of b s) (limit_of s) h)))
 
     module _ (fresh : added_twin s (policy_of (image_in b)) r ≡ false) (few : count_of b s < limit_of s) where
-      pub own-short : length b < word_at b 1 + length r → own_fault b r ≡ some (refusal 13 0)
+      pub own_short : length b < word_at b 1 + length r → own_fault b r ≡ some (refusal 13 0)
       unfolding own_fault field_fault new_number
-      own-short h =
-          or_else_next _ (need_none _ whole-formed.shape) ∙ or_else_next _ (rw whole-formed.fields)
+      own_short h =
+          or_else_next _ (need_none _ whole_formed.shape) ∙ or_else_next _ (rw whole_formed.fields)
           ∙ or_else_next _ (need_none _ (rw (is_section, fresh)))
           ∙ or_else_next _ (need_none _ (rw is_section (lt-ltb (count_of b s) (limit_of s) few)))
           ∙ need_some _ (lt-leb (word_at b 1 + length r) (length b) h)
 
       pub own_none : word_at b 1 + length r ≤ length b → own_fault b r ≡ none
-      own_none h = passes_own b r (record { formed = rw is_section whole-formed; fresh = rw is_section fresh; few = rw is_section few; room = h })
+      own_none h = passes_own b r (record { formed = rw is_section whole_formed; fresh = rw is_section fresh; few = rw is_section few; room = h })
 
   -- the slot at the end of the section is the record's
   pub slot_is : (at : ℕ) → at ≡ end_of_section (image_in b) s → slot_at b s at ≡ slot_of b r
@@ -169,26 +169,26 @@ module _ (l part : List ℕ) (e : Accepted l) where
 
   -- the record at a group's place
   module _ (k : ℕ) (h : k < count_of l Groups) where
-    group-stands : Stands l (place_of l Groups k) (record_at l (place_of l Groups k))
-    group-stands = record-stands l e Groups k h
+    group_stands : Stands l (place_of l Groups k) (record_at l (place_of l Groups k))
+    group_stands = record_stands l e Groups k h
 
-    pub group-byte : place_of l Groups k < length l
-    group-byte = let s = group-stands in omega (arith, s.some, s.inside)
+    pub group_byte : place_of l Groups k < length l
+    group_byte = let s = group_stands in omega (arith, s.some, s.inside)
 
-    pub group-end : place_of l Groups k + get_or l (place_of l Groups k) 0 ≤ length l
-    group-end = let s = group-stands in omega (arith, s.size, s.inside)
+    pub group_end : place_of l Groups k + get_or l (place_of l Groups k) 0 ≤ length l
+    group_end = let s = group_stands in omega (arith, s.size, s.inside)
 
-    pub group-part :
+    pub group_part :
         take (place_of l Groups k + get_or l (place_of l Groups k) 0 - place_of l Groups k) (drop (place_of l Groups k) l) ≡ get_or (policy_of l).groups k []
-    group-part =
-        let s = group-stands in
+    group_part =
+        let s = group_stands in
         rw add-sub_cancel_left
         (ap (λ (n : ℕ). take n (drop (place_of l Groups k) l)) (sym s.size) ∙ sym (record_part l _ s) ∙ sym (group_nth l k h))
 
     -- as the code has them: the place, and the length byte there
-    pub group-part-at :
+    pub group_part_at :
         (at n : ℕ) → at ≡ place_of l Groups k → n ≡ get_or l (place_of l Groups k) 0 → take (at + n - at) (drop at l) ≡ get_or (policy_of l).groups k []
-    group-part-at at n a b = rw (a, b) group-part
+    group_part_at at n a b = rw (a, b) group_part
 
     rest_is : drop k gs ≡ get_or gs k [] ∷ drop (suc k) gs
     rest_is = drop-cons gs k [] (omega (arith, group_count l))
@@ -196,8 +196,8 @@ module _ (l part : List ℕ) (e : Accepted l) where
     pub listed_here : same_bytes part (get_or (policy_of l).groups k []) ≡ true → listed part (drop k (policy_of l).groups) ≡ true
     listed_here t = ap (listed part) rest_is ∙ listed_cons part _ _ ∙ rw t
 
-    pub listed-on : same_bytes part (get_or (policy_of l).groups k []) ≡ false → listed part (drop k (policy_of l).groups) ≡ listed part (drop (suc k) (policy_of l).groups)
-    listed-on t = ap (listed part) rest_is ∙ listed_cons part _ _ ∙ rw t
+    pub listed_on : same_bytes part (get_or (policy_of l).groups k []) ≡ false → listed part (drop k (policy_of l).groups) ≡ listed part (drop (suc k) (policy_of l).groups)
+    listed_on t = ap (listed part) rest_is ∙ listed_cons part _ _ ∙ rw t
 
   pub listed_end : (k : ℕ) → count_of l Groups ≤ k → listed part (drop k (policy_of l).groups) ≡ false
   listed_end k h = ap (listed part) (drop_of_length-le gs {i = k} (omega (arith, group_count l))) ∙ listed_nil part

@@ -152,9 +152,9 @@ module _ (F : Option (List ℕ)) (k i : ℕ) (p l : List ℕ) (h : F ≡ joined 
   fill_past n = let q = words_first l in h ∙ rw (q.1, fields_past k i (word_of l) q.0 n)
 
   module _ (few : i < length (fields_in (form_of k))) (f : Field) (e : f ≡ get_or (fields_in (form_of k)) i Member) where
-    pub fill-outside : value_of f (word_of l) ≡ none → F ≡ none
+    pub fill_outside : value_of f (word_of l) ≡ none → F ≡ none
     unfolding joined as_bytes
-    fill-outside n = let q = words_first l in h ∙ rw (q.1, fields_next k i (word_of l) q.0 few, ← e, n)
+    fill_outside n = let q = words_first l in h ∙ rw (q.1, fields_next k i (word_of l) q.0 few, ← e, n)
 
     module _ (n : ℕ) (v : value_of f (word_of l) ≡ some n) where
       word_put : (ws : List (List ℕ)) → split 32 (row_of l) ≡ word_of l ∷ ws → F ≡ joined (some (p ++ field_bytes f n)) (fields_from k (suc i) ws)
@@ -166,10 +166,10 @@ module _ (F : Option (List ℕ)) (k i : ℕ) (p l : List ℕ) (h : F ≡ joined 
           → F ≡ joined (some (p ++ field_bytes f n)) (fields_from k (suc i) (split 32 (row_of (drop (suc (word_size l)) l))))
       fill_more s c = word_put (split 32 (row_of (drop (suc (word_size l)) l))) (words_more l s c).0
 
-      pub fill-last :
+      pub fill_last :
           (word_size l < length l → get_or l (word_size l) 0 ≡ 10)
           → F ≡ joined (some (p ++ field_bytes f n)) (cond (ltb (suc i) (length (form_of k).fields)) none (some []))
-      fill-last c = word_put [] (words_last l c).0 ∙ ap (joined (some (p ++ field_bytes f n))) (fields_end k (suc i))
+      fill_last c = word_put [] (words_last l c).0 ∙ ap (joined (some (p ++ field_bytes f n))) (fields_end k (suc i))
 
 -- ---- the word at a place of the text
 
@@ -212,10 +212,10 @@ module _ (f : Field) (text : List ℕ) (start : ℕ) (w : Word) (s : Says (value
     nothing (some n) e =
         let m = value_most_lem f (word_of (drop start text)) n e in
         let k : said (some n) ≡ 65536 = sym (ap said e) ∙ sym s.number ∙ h in
-        absurd (said-is n k m)
+        absurd (said_is n k m)
       where
-        said-is : (n : ℕ) → said (some n) ≡ 65536 → n ≤ value_most f → ⊥
-        said-is n k m = omega (arith, value_small f)
+        said_is : (n : ℕ) → said (some n) ≡ 65536 → n ≤ value_most f → ⊥
+        said_is n k m = omega (arith, value_small f)
 
 -- ---- one word more
 
@@ -257,9 +257,9 @@ module _ (F : Option (List ℕ)) (k i : ℕ) (text part part' : List ℕ) (start
     space : get_or left (word_size left) 0 ≡ 32
     space = word_stop left room (λ x. no_feed (sym byte_is ∙ x))
 
-    pub filling-on : Filling F k (i + 1) text (w.end + 1) (drop 2 (take next part'))
+    pub filling_on : Filling F k (i + 1) text (w.end + 1) (drop 2 (take next part'))
     unfolding left
-    filling-on =
+    filling_on =
         let n : suc i ≡ i + 1 = omega arith in
         fill_more F k i (drop 2 (take at part)) left h few f e w.number s.value room space
         ∙ ap (λ (x : List ℕ). joined (some x) (fields_from k (suc i) (split 32 (row_of (drop (suc (word_size left)) left))))) bytes_are
@@ -286,7 +286,7 @@ module _ (F : Option (List ℕ)) (k i : ℕ) (text part part' : List ℕ) (start
     unfolding left
     put_all =
         let n : suc i ≡ i + 1 = omega arith in
-        fill-last F k i (drop 2 (take at part)) left h few f e w.number s.value ended
+        fill_last F k i (drop 2 (take at part)) left h few f e w.number s.value ended
         ∙ ap (λ (x : List ℕ). joined (some x) (cond (ltb (suc i) (length (form_of k).fields)) none (some []))) bytes_are
         ∙ ap (λ (x : ℕ). joined (some (drop 2 (take next part'))) (cond (ltb x (length (form_of k).fields)) none (some []))) n
 
@@ -401,11 +401,11 @@ module _ (text : List ℕ) (at end : ℕ) (inside : at ≤ length text) (e : end
 
   module _ (known : kind_of word ≡ 0 → ⊥) (more : end < length text) (no_feed : get_or text end 0 ≡ 10 → ⊥) (r : Row) (part : List ℕ)
       (fills : Fills (kind_of word) text (end + 1) r part) where
-    room-behind : word_size line < length line
-    room-behind = omega (arith, length-drop at text)
+    room_behind : word_size line < length line
+    room_behind = omega (arith, length-drop at text)
 
-    space-at : get_or line (word_size line) 0 ≡ 32
-    space-at = word_stop line room-behind (λ x. no_feed (sym byte_at ∙ x))
+    space_at : get_or line (word_size line) 0 ≡ 32
+    space_at = word_stop line room_behind (λ x. no_feed (sym byte_at ∙ x))
 
     rest_is : drop (suc (word_size line)) line ≡ drop (end + 1) text
     rest_is =
@@ -415,26 +415,26 @@ module _ (text : List ℕ) (at end : ℕ) (inside : at ≤ length text) (e : end
     record_is : record_of_row (row_of line) ≡ headed (kind_of word) (fields_of_part r.length part)
     unfolding record_of_row record_of_words
     record_is =
-        let q = (words_more line room-behind space-at).0 in
+        let q = (words_more line room_behind space_at).0 in
         rw (q, rest_is, ← word_is text at end e) (kind_some word (split 32 (row_of (drop (end + 1) text))) known ∙ ap (headed (kind_of word)) fills.fields)
 
     row_is : at + run_of 10 (drop at text) ≡ end + 1 + run_of 10 (drop (end + 1) text)
     row_is =
-        let q = (words_more line room-behind space-at).1 in
+        let q = (words_more line room_behind space_at).1 in
         omega (arith, q, ap (run_of 10) rest_is)
 
-    pub record-outside : r.length < 2 → Records text at r part
+    pub record_outside : r.length < 2 → Records text at r part
     unfolding fields_of_part record_of_part headed
-    record-outside h =
+    record_outside h =
         record {
           bytes = record_is ∙ rw (lt-ltb r.length 2 h);
           few = fills.few;
           end = λ x. absurd (omega arith);
         }
 
-    pub record-made : (b : ℕ) → b ≡ r.length % 256 → 2 ≤ r.length → 130 ≤ length part → Records text at r (set (set part 0 b) 1 (kind_of word))
+    pub record_made : (b : ℕ) → b ≡ r.length % 256 → 2 ≤ r.length → 130 ≤ length part → Records text at r (set (set part 0 b) 1 (kind_of word))
     unfolding fields_of_part record_of_part
-    record-made b is h long =
+    record_made b is h long =
         record {
           bytes = record_is ∙ rw (le-ltb r.length 2 h) (made r.length (kind_of word) b part h (omega (arith, fills.few)) (omega (arith, fills.few)));
           few = fills.few;

@@ -1,7 +1,7 @@
 -- Laws of the walk over rows. Assumes nothing.
 --     rows_past            nothing is left
 --     rows_feed            a line feed is an empty row
---     rows-outside, rows-refused, rows-added   a row, by what comes of it
+--     rows_outside, rows-refused, rows-added   a row, by what comes of it
 use Prim.Native.Nat.{ℕ, suc, ◌+◌, ◌≤◌, ◌<◌}
 use mathlib.Core.Path.{◌≡◌, refl, sym, ap, ap₂, ◌∙◌}
 use mathlib.Core.Bool.{Bool, true, false}
@@ -71,23 +71,23 @@ module _ (text : List ℕ) (at : ℕ) (b : List ℕ) where
     unfolding row_of
     rows_are = split_run 10 (drop at text)
 
-    is-record : (o : Option (List ℕ)) → record_of_part r.length part ≡ o → (row_fault at row b ≡ record_fault at o b) × (after_row row b ≡ after_record o b)
-    is-record o e = row_record at row b o (omega (arith, size, some_bytes)) (s.bytes ∙ e)
+    is_record : (o : Option (List ℕ)) → record_of_part r.length part ≡ o → (row_fault at row b ≡ record_fault at o b) × (after_row row b ≡ after_record o b)
+    is_record o e = row_record at row b o (omega (arith, size, some_bytes)) (s.bytes ∙ e)
 
-    pub rows-outside : r.length < 2 → From text at b ≡ record { answer = refused (refusal 18 at); buffer = b }
+    pub rows_outside : r.length < 2 → From text at b ≡ record { answer = refused (refusal 18 at); buffer = b }
     unfolding record_of_part record_fault
-    rows-outside k =
-        rw rows_are (rows_first_refused at row (rest 10 (drop at text)) b (is-record none (rw (lt-ltb r.length 2 k))).0)
+    rows_outside k =
+        rw rows_are (rows_first_refused at row (rest 10 (drop at text)) b (is_record none (rw (lt-ltb r.length 2 k))).0)
 
     module _ (k : 2 ≤ r.length) where
       whole : (row_fault at row b ≡ moved_to at (add_fault b (take r.length part))) × (after_row row b ≡ buffer_after b (take r.length part))
       unfolding record_of_part record_fault after_record
-      whole = is-record (some (take r.length part)) (rw (le-ltb r.length 2 k))
+      whole = is_record (some (take r.length part)) (rw (le-ltb r.length 2 k))
 
-      pub rows-refused :
+      pub rows_refused :
           {f : Refusal} {g : Sections} {after : List ℕ} → g ≡ Refused f → Grows at b (take r.length part) g after
           → From text at b ≡ record { answer = refused f; buffer = after }
-      rows-refused {f} {g} {after} e q =
+      rows_refused {f} {g} {after} e q =
           let x = outcome_refused (moved_to at (add_fault b (take r.length part))) _ (sym (ap sections_outcome e) ∙ q.answer) in
           let y : row_fault at row b ≡ some f = whole.0 ∙ x in
           let z : after ≡ b = q.buffer ∙ sym whole.1 ∙ rows_kept at row b f y in
@@ -97,11 +97,11 @@ module _ (text : List ℕ) (at : ℕ) (b : List ℕ) where
         passed : (moved_to at (add_fault b (take r.length part)) ≡ none) × (y ≡ starts (image_in after))
         passed = outcome_gives (moved_to at (add_fault b (take r.length part))) _ (sym (ap sections_outcome e) ∙ q.answer)
 
-        pub rows-starts : y ≡ starts (image_in after)
-        rows-starts = passed.1
+        pub rows_starts : y ≡ starts (image_in after)
+        rows_starts = passed.1
 
-        pub rows-ahead : (at < r.end) × (r.end ≤ length text)
-        rows-ahead = (omega (arith, s.end k, some_bytes), omega (arith, s.end k, run_most 10 (drop at text), length-drop at text))
+        pub rows_ahead : (at < r.end) × (r.end ≤ length text)
+        rows_ahead = (omega (arith, s.end k, some_bytes), omega (arith, s.end k, run_most 10 (drop at text), length-drop at text))
 
         one_row : From text at b ≡ rows_from (r.end + 1) (rest 10 (drop at text)) after
         one_row =
@@ -111,14 +111,14 @@ module _ (text : List ℕ) (at : ℕ) (b : List ℕ) where
             ∙ ap (λ (x : ℕ). rows_from x (rest 10 (drop at text)) (after_row row b)) n
             ∙ ap (rows_from (r.end + 1) (rest 10 (drop at text))) (whole.1 ∙ sym q.buffer))
 
-        at-end : length text ≤ r.end → From text at b ≡ From text r.end after
+        at_end : length text ≤ r.end → From text at b ≡ From text r.end after
         unfolding rows_from
-        at-end m =
+        at_end m =
             let x : rest 10 (drop at text) ≡ [] = rest_end 10 (drop at text) (omega (arith, s.end k, length-drop at text)) in
             one_row ∙ ap (λ (rows : List (List ℕ)). rows_from (r.end + 1) rows after) x ∙ sym (rows_past text r.end after m)
 
-        at-feed : r.end < length text → From text at b ≡ From text r.end after
-        at-feed m =
+        at_feed : r.end < length text → From text at b ≡ From text r.end after
+        at_feed m =
             let room : run_of 10 (drop at text) < length (drop at text) = omega (arith, s.end k, length-drop at text) in
             let place : at + suc (run_of 10 (drop at text)) ≡ r.end + 1 = omega (arith, s.end k) in
             let behind : drop (suc (run_of 10 (drop at text))) (drop at text) ≡ drop (r.end + 1) text =
@@ -131,8 +131,8 @@ module _ (text : List ℕ) (at : ℕ) (b : List ℕ) where
         pub rows_added_lem : From text at b ≡ From text r.end after
         rows_added_lem = step (ltb r.end (length text)) refl where
           step : (t : Bool) → ltb r.end (length text) ≡ t → From text at b ≡ From text r.end after
-          step true m = at-feed (ltb-true r.end (length text) m)
-          step false m = at-end (ltb-false r.end (length text) m)
+          step true m = at_feed (ltb-true r.end (length text) m)
+          step false m = at_end (ltb-false r.end (length text) m)
 
 -- ---- the empty policy
 

@@ -202,14 +202,14 @@ module _ (text : List ℕ) (from most : ℕ) (inside : from ≤ length text) (sm
       says_nothing w s e (decimal_over most (word_of (drop from text)) (said_none (digits_from 0 (word_of (drop from text))) most small (sym s.number ∙ e)))
 
   module _ (in-range : w.number ≡ 65536 → ⊥) where
-    pub number-empty : w.end ≡ from → Says (number_to most (word_of (drop from text))) text from (record { number = 65536; end = from })
+    pub number_empty : w.end ≡ from → Says (number_to most (word_of (drop from text))) text from (record { number = 65536; end = from })
     unfolding number_to
-    number-empty e =
+    number_empty e =
         says_outside text from from (upto_none most (decimal_empty (word_of (drop from text)) (omega (arith, ends in-range))))
 
-    pub number-one : w.end ≡ from + 1 → Says (number_to most (word_of (drop from text))) text from w
+    pub number_one : w.end ≡ from + 1 → Says (number_to most (word_of (drop from text))) text from w
     unfolding number_to
-    number-one e = says_same w s (ap (up_to most) (decimal_one (word_of (drop from text)) (omega (arith, ends in-range))))
+    number_one e = says_same w s (ap (up_to most) (decimal_one (word_of (drop from text)) (omega (arith, ends in-range))))
 
     module _ (some_bytes : w.end ≡ from → ⊥) (more_bytes : w.end ≡ from + 1 → ⊥) where
       long : 1 < length (word_of (drop from text))
@@ -219,8 +219,8 @@ module _ (text : List ℕ) (from most : ℕ) (inside : from ≤ length text) (sm
         go (suc zero) e = absurd (more_bytes e)
         go (suc (suc n)) e = omega arith
 
-      pub number-inside : from < length text
-      number-inside = omega (arith, long, size, end_inside text from inside)
+      pub number_inside : from < length text
+      number_inside = omega (arith, long, size, end_inside text from inside)
 
       first : get_or (word_of (drop from text)) 0 0 ≡ get_or text from 0
       unfolding word_of
@@ -228,9 +228,9 @@ module _ (text : List ℕ) (from most : ℕ) (inside : from ≤ length text) (sm
           get_or-take (word_size (drop from text)) (drop from text) 0 0 (omega (arith, long, size))
           ∙ get_or-drop from text 0 0 ∙ ap (λ (k : ℕ). get_or text k 0) (omega arith)
 
-      pub number-zero : get_or text from 0 ≡ 48 → Says (number_to most (word_of (drop from text))) text from (record { number = 65536; end = from })
+      pub number_zero : get_or text from 0 ≡ 48 → Says (number_to most (word_of (drop from text))) text from (record { number = 65536; end = from })
       unfolding number_to
-      number-zero e = says_outside text from from (upto_none most (decimal_zero (word_of (drop from text)) long (first ∙ e)))
+      number_zero e = says_outside text from from (upto_none most (decimal_zero (word_of (drop from text)) long (first ∙ e)))
 
       pub number_more : (get_or text from 0 ≡ 48 → ⊥) → Says (number_to most (word_of (drop from text))) text from w
       unfolding number_to
@@ -272,20 +272,20 @@ module _ (letter : ℕ) (text : List ℕ) (from : ℕ) where
       (λ x. e (ap (λ (k : ℕ). get_or text k 0) (omega arith) ∙ sym (get_or-drop from text 0 0) ∙ first_byte letter (drop from text) h x))
 
   module _ (h : from < length text) (high : 32 < letter) (e : get_or text from 0 ≡ letter) where
-    no-space : get_or text from 0 ≡ 32 → ⊥
-    no-space x = absurd (omega arith)
+    no_space : get_or text from 0 ≡ 32 → ⊥
+    no_space x = absurd (omega arith)
 
     no_feed : get_or text from 0 ≡ 10 → ⊥
     no_feed x = absurd (omega arith)
 
-    letter-first : word_of (drop from text) ≡ letter ∷ word_of (drop (from + 1) text)
-    letter-first = let q : suc from ≡ from + 1 = omega arith in word_byte text from h no-space no_feed ∙ rw (e, q)
+    letter_first : word_of (drop from text) ≡ letter ∷ word_of (drop (from + 1) text)
+    letter_first = let q : suc from ≡ from + 1 = omega arith in word_byte text from h no_space no_feed ∙ rw (e, q)
 
     -- what is said behind the letter is said with it
-    says-behind : {o : Option ℕ} (o' : Option ℕ) (w : Word) → Says o text (from + 1) w → o' ≡ o → Says o' text from w
-    says-behind o' w s i =
+    says_behind : {o : Option ℕ} (o' : Option ℕ) (w : Word) → Says o text (from + 1) w → o' ≡ o → Says o' text from w
+    says_behind o' w s i =
         let q : suc from ≡ from + 1 = omega arith in
-        let n : word_size (drop from text) ≡ suc (word_size (drop (from + 1) text)) = word_next text from h no-space no_feed ∙ rw q in
+        let n : word_size (drop from text) ≡ suc (word_size (drop (from + 1) text)) = word_next text from h no_space no_feed ∙ rw q in
         record { number = rw i s.number; few = s.few; end = λ k. s.end k ∙ omega (arith, n) }
 
 -- ---- types
@@ -306,8 +306,8 @@ module _ (text : List ℕ) (from : ℕ) where
       → Says (value_of AnyType (word_of (drop from text))) text from w
   unfolding value_of lettered
   type_group w h e s =
-      says-behind 103 text from h (omega arith) e (value_of AnyType (word_of (drop from text))) w s
-      (rw (letter-first 103 text from h (omega arith) e) (or_else_next _ (letter_none 32767 (word_of (drop (from + 1) text)))))
+      says_behind 103 text from h (omega arith) e (value_of AnyType (word_of (drop from text))) w s
+      (rw (letter_first 103 text from h (omega arith) e) (or_else_next _ (letter_none 32767 (word_of (drop (from + 1) text)))))
 
   pub type_basic :
       (w : Word) → (get_or text from 0 ≡ 103 → ⊥) → Says (number_to 32767 (word_of (drop from text))) text from w
@@ -337,11 +337,11 @@ module _ (text : List ℕ) (from end : ℕ) (e : end ≡ from + word_size (drop 
     says_on h =
         says_number text from end 1 (or_else_next _ (rw (rw word_is at f)) ∙ or_else_first _ (rw (rw word_is at h))) (omega arith) e
 
-    pub says-neither :
+    pub says_neither :
         same (take (end - from) (drop from text)) (ascii "on") ≡ false → (get_or text from 0 ≡ 115 → ⊥)
         → Says (value_of Condition (word_of (drop from text))) text from (record { number = 65536; end = end })
     unfolding value_of named
-    says-neither h s =
+    says_neither h s =
         says_outside text from end
         (or_else_none (rw (rw word_is at f)) (or_else_none (rw (rw word_is at h)) (other_none 115 text from 2 31 (omega arith) s)))
 
@@ -356,5 +356,5 @@ module _ (text : List ℕ) (from : ℕ) where
       → Says (value_of Condition (word_of (drop from text))) text from w
   unfolding ascii same value_of named lettered
   condition_switch w h e s =
-      says-behind 115 text from h (omega arith) e (value_of Condition (word_of (drop from text))) w s
-      (rw (letter-first 115 text from h (omega arith) e) (or_else_next _ refl ∙ or_else_next _ refl))
+      says_behind 115 text from h (omega arith) e (value_of Condition (word_of (drop from text))) w s
+      (rw (letter_first 115 text from h (omega arith) e) (or_else_next _ refl ∙ or_else_next _ refl))

@@ -15,7 +15,7 @@ use format::{Read, Refusal, Section, Sections, Starts, header};
 use image::{same_record, word_at};
 
 // The place that a record goes to, the image's size, and the place and the value of its section's count.
-#[derive(Drop)]
+#[derive(Clone, Copy)]
 pub(crate) struct Slot {
     pub at: usize,
     pub size: usize,
@@ -23,7 +23,7 @@ pub(crate) struct Slot {
     pub count: usize,
 }
 
-#[derive(Drop)]
+#[derive(Clone, Copy)]
 pub(crate) enum Plan {
     Put(Slot),
     Refused(Refusal),

@@ -9,7 +9,7 @@ use crate::word::low;
 use text::Field;
 
 // The length of a row's record, or 0 where the row is outside the form; and the place past the row, where it is not.
-#[derive(Drop)]
+#[derive(Clone, Copy)]
 pub(crate) struct Row {
     pub length: usize,
     pub end: usize,

@@ -13,7 +13,7 @@ use text::Field;
 pub(crate) const OUTSIDE: usize = 65536;
 
 // What a word says, and the place past it; that place counts only where it says something.
-#[derive(Drop)]
+#[derive(Clone, Copy)]
 pub(crate) struct Word {
     pub number: usize,
     pub end: usize,

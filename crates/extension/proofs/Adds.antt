@@ -380,37 +380,37 @@ module _ (b r : List ℕ) (by : Bytes b) (e : add_fault b r ≡ none) where
     sound_with : Sound (with_record s p r)
     sound_with = with_sound p r s sound formed bytes fresh few
 
-    with-accepted : Accepted (image_of (with_record s p r))
-    with-accepted = image_accepted (with_record s p r) sound_with
+    with_accepted : Accepted (image_of (with_record s p r))
+    with_accepted = image_accepted (with_record s p r) sound_with
 
-    after-accepted : check_front (buffer_after b r) ≡ none
-    after-accepted = rw buffer_image (front_of (image_of (with_record s p r)) (drop (length r) t) with-accepted)
+    after_accepted : check_front (buffer_after b r) ≡ none
+    after_accepted = rw buffer_image (front_of (image_of (with_record s p r)) (drop (length r) t) with_accepted)
 
-    after-bytes : Bytes (buffer_after b r)
+    after_bytes : Bytes (buffer_after b r)
     unfolding t
-    after-bytes =
+    after_bytes =
         let i : Bytes (image_of (with_record s p r)) = image_bytes (with_record s p r) sound_with.regular in
         subst Bytes (sym buffer_image)
         (bytes_append (image_of (with_record s p r)) (drop (length r) t) i (bytes_drop (length r) t (bytes_drop (word_at b 1) b by)))
 
-    after-policy : policy_of (image_in (buffer_after b r)) ≡ with_record s p r
-    after-policy =
+    after_policy : policy_of (image_in (buffer_after b r)) ≡ with_record s p r
+    after_policy =
         rw buffer_image
-        (ap policy_of (image_in_of (image_of (with_record s p r)) (drop (length r) t) with-accepted)
+        (ap policy_of (image_in_of (image_of (with_record s p r)) (drop (length r) t) with_accepted)
         ∙ policy_of_image (with_record s p r) sound_with.regular)
 
-    after-number : get_or (records_of (policy_of (image_in (buffer_after b r))) s) (new_number b r) [] ≡ r
+    after_number : get_or (records_of (policy_of (image_in (buffer_after b r))) s) (new_number b r) [] ≡ r
     unfolding new_number s
-    after-number =
+    after_number =
         let k : count_of b s ≡ length (records_of p s) + 0 = omega (arith, counts s) in
-        ap (λ (q : Policy). get_or (records_of q s) (count_of b s) []) after-policy
+        ap (λ (q : Policy). get_or (records_of q s) (count_of b s) []) after_policy
         ∙ ap (λ (xs : List (List ℕ)). get_or xs (count_of b s) []) (with_records p r s)
         ∙ ap (λ (n : ℕ). get_or (records_of p s ++ (r ∷ [])) n []) k
         ∙ get_or-append-add (records_of p s) (r ∷ []) 0 []
 
 pub number_named : NumberNamed
 unfolding s
-number_named b r by bytes e = after-number b r by e bytes
+number_named b r by bytes e = after_number b r by e bytes
 
 pub rest_stays : RestStays
 rest_stays b r by e = after_rest b r by e
@@ -420,7 +420,7 @@ refused_unchanged b r f e = buffer_refused b r f e
 
 pub added_accepted : AddedAccepted
 unfolding p s
-added_accepted b r by bytes e = (after-accepted b r by e bytes, after-policy b r by e bytes, after-bytes b r by e bytes)
+added_accepted b r by bytes e = (after_accepted b r by e bytes, after_policy b r by e bytes, after_bytes b r by e bytes)
 
 groups_first : (s : Section) (p : Policy) (r : List ℕ) (n : ℕ) → n < length p.groups → get_or (with_record s p r).groups n [] ≡ get_or p.groups n []
 unfolding with_record
@@ -431,4 +431,4 @@ groups_first Constraints p r n h = refl
 pub groups_kept : GroupsKept
 unfolding p s
 groups_kept b r by bytes e n h =
-    ap (λ (q : Policy). get_or q.groups n []) (after-policy b r by e bytes) ∙ groups_first (s b r by e) (p b r by e) r n h
+    ap (λ (q : Policy). get_or q.groups n []) (after_policy b r by e bytes) ∙ groups_first (s b r by e) (p b r by e) r n h

@@ -4,7 +4,7 @@
 use format::Refusal;
 
 // What adding a record answers: the new record's number in its section, or the refusal.
-#[derive(Drop)]
+#[derive(Clone, Copy)]
 pub enum Added {
     Number(usize),
     Refused(Refusal),

@@ -201,23 +201,23 @@ module _ (l : List ℕ) (e : LaidOut l) where
   laid_end = body_ends l (laid_body l e) (laid_header l e).long
 
   module _ (s : Section) (n : ℕ) (h : n < count_of l s) where
-    pub laid-formed : Formed s (count_of l Groups) (record_at l (place_of l s n))
+    pub laid_formed : Formed s (count_of l Groups) (record_at l (place_of l s n))
     unfolding place_of
-    laid-formed = section_formed l s (start_of l s) (count_of l s) n h (body_sections l (laid_body l e) s)
+    laid_formed = section_formed l s (start_of l s) (count_of l s) n h (body_sections l (laid_body l e) s)
 
-    pub laid-stands : Stands l (place_of l s n) (record_at l (place_of l s n))
-    laid-stands = stands l (place_of l s n) laid-formed.shape
+    pub laid_stands : Stands l (place_of l s n) (record_at l (place_of l s n))
+    laid_stands = stands l (place_of l s n) laid_formed.shape
 
 module _ (l : List ℕ) (e : Accepted l) where
   pub accepted_end : end_of l ≡ length l
   accepted_end = laid_end l (accepted_laid l e)
 
   module _ (s : Section) (n : ℕ) (h : n < count_of l s) where
-    pub record-formed : Formed s (count_of l Groups) (record_at l (place_of l s n))
-    record-formed = laid-formed l (accepted_laid l e) s n h
+    pub record_formed : Formed s (count_of l Groups) (record_at l (place_of l s n))
+    record_formed = laid_formed l (accepted_laid l e) s n h
 
-    pub record-stands : Stands l (place_of l s n) (record_at l (place_of l s n))
-    record-stands = laid-stands l (accepted_laid l e) s n h
+    pub record_stands : Stands l (place_of l s n) (record_at l (place_of l s n))
+    record_stands = laid_stands l (accepted_laid l e) s n h
 
 pub start_least : (l : List ℕ) (s : Section) → 9 ≤ start_of l s
 unfolding start_of
@@ -279,7 +279,7 @@ pub records_given : RecordsGiven
 records_given l e s n k =
     let h : n < count_of l s = omega (arith, k, records_count l s) in
     let is = record_is l e s n h in
-    let st = record-stands l e s n h in
+    let st = record_stands l e s n h in
     record {
       given = give_none l e s n h;
       nth = is ∙ sym (record_nth l s n h);

@@ -48,11 +48,11 @@ header_refused fits l =
     (need_refuses (Near 7) (known_version (get_or l 0 0)) (refusal 2 0) (omega arith, omega arith))
     (λ _. or_else_refuses (Near 7) (need (leb 9 (word_at l 1) && fits (word_at l 1) (length l)) (refusal 3 0)) _
     (need_refuses (Near 7) (leb 9 (word_at l 1) && fits (word_at l 1) (length l)) (refusal 3 0) (omega arith, omega arith))
-    (λ _. or_else_refuses (Near 7) (count_fault l Groups) _ (count-refused Groups)
-    (λ _. or_else_refuses (Near 7) (count_fault l Rules) (count_fault l Constraints) (count-refused Rules) (λ _. count-refused Constraints)))))
+    (λ _. or_else_refuses (Near 7) (count_fault l Groups) _ (count_refused Groups)
+    (λ _. or_else_refuses (Near 7) (count_fault l Rules) (count_fault l Constraints) (count_refused Rules) (λ _. count_refused Constraints)))))
   where
-    count-refused : (s : Section) (f : Refusal) → count_fault l s ≡ some f → Near 7 f
-    count-refused s =
+    count_refused : (s : Section) (f : Refusal) → count_fault l s ≡ some f → Near 7 f
+    count_refused s =
         need_refuses (Near 7) (leb (count_of l s) (limit_of s)) (refusal 4 (count_place s)) (omega arith, count_place_most s)
 
 -- ---- the records

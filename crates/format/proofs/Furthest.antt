@@ -13,7 +13,7 @@ use Rattle.format.specs.Check.{Accepted}
 use Rattle.format.specs.Longest.{long_groups, long_rule, long_constraint, longest}
 use Rattle.format.specs.Reach.{most_place, BoundReached}
 use Rattle.format.proofs.Records.{place_snoc}
-use Rattle.format.proofs.Accepted.{holds_header, accepted_header, accepted_end, record-stands, record_nth}
+use Rattle.format.proofs.Accepted.{holds_header, accepted_header, accepted_end, record_stands, record_nth}
 use Rattle.format.proofs.Reach.{longest_of, most_further, accepted_reaches}
 use Rattle.format.proofs.Images.{image_count}
 use Rattle.format.proofs.Longest.{group_length, rule_length, constraint_length, longest_full, longest_reached}
@@ -51,7 +51,7 @@ full s = image_count longest s ∙ longest_full s
 length_byte : (s : Section) (k : ℕ) → k < limit_of s → get_or l (place_of l s k) 0 ≡ longest_of s
 length_byte s k h =
     let j : k < count_of l s = omega (arith, full s) in
-    sym (record-stands l ok s k j).size
+    sym (record_stands l ok s k j).size
     ∙ ap length (sym (record_nth l s k j) ∙ ap (λ (p : Policy). get_or (records_of p s) k []) longest_reached.policy)
     ∙ nth_length s k h
 

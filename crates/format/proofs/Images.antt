@@ -30,7 +30,7 @@ use Rattle.format.proofs.Shapes.{Formed}
 use Rattle.format.proofs.Records.{records_mem, records_flatten, Runs, runs_records, runs_place, runs_fault, runs_flatten, Shaped}
 use Rattle.format.proofs.Fields.{formed_is, is_formed}
 use Rattle.format.proofs.Reach.{laid_longest}
-use Rattle.format.proofs.Accepted.{holds_header, laid_header, laid_length, laid_end, laid-formed, accepted_laid, accepted_twins, laid_accepted, records_count, policy_records}
+use Rattle.format.proofs.Accepted.{holds_header, laid_header, laid_length, laid_end, laid_formed, accepted_laid, accepted_twins, laid_accepted, records_count, policy_records}
 
 -- a policy that passes 1 to 7
 pub record Regular (p : Policy) : Type 0 where
@@ -146,7 +146,7 @@ record_bytes l at b = bytes_take (get_or (drop at l) 0 0) (drop at l) (bytes_dro
 pub laid_records : (l : List ℕ) → LaidOut l → (s : Section) (r : List ℕ) → Memᴰ r (records_of (policy_of l) s) → Formed s (count_of l Groups) r
 laid_records l e s r m =
     let q = policy_record l s r m in
-    subst (Formed s (count_of l Groups)) (sym q.2) (laid-formed l e s q.0 q.1)
+    subst (Formed s (count_of l Groups)) (sym q.2) (laid_formed l e s q.0 q.1)
 
 pub group_count : (l : List ℕ) → length (policy_of l).groups ≡ count_of l Groups
 unfolding records_of

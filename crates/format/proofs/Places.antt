@@ -19,7 +19,7 @@ use Rattle.format.proofs.Bytes.{length_words, words_nth}
 use Rattle.format.specs.Inner.Places.{Stands, words_at, GroupAt, RuleAt, ConstraintAt}
 use Rattle.format.proofs.Shapes.{stands_word}
 use Rattle.format.proofs.Fields.{steps_rising, formed_is}
-use Rattle.format.proofs.Accepted.{record-formed, record-stands}
+use Rattle.format.proofs.Accepted.{record_formed, record_stands}
 
 module _ (l : List ℕ) (n at : ℕ) where
   pub words_at_none : n ≡ 0 → words_at l n at ≡ []
@@ -59,8 +59,8 @@ module _ (l : List ℕ) (e : Accepted l) (n : ℕ) where
   group_at h =
       let at : ℕ = place_of l Groups n in
       let r : List ℕ = record_at l at in
-      let s = record-stands l e Groups n h in
-      let q = formed_is (count_of l Groups) r Groups (record-formed l e Groups n h) in
+      let s = record_stands l e Groups n h in
+      let q = formed_is (count_of l Groups) r Groups (record_formed l e Groups n h) in
       let f = q.1 in
       let len = f.size.1 in
       let z = s.size in
@@ -102,15 +102,15 @@ module _ (l : List ℕ) (e : Accepted l) (n : ℕ) where
   pub rule_at : n < count_of l Rules → RuleAt l (place_of l Rules n) (record_at l (place_of l Rules n))
   unfolding IsRecord
   rule_at h =
-      rule_by (record_at l (place_of l Rules n)) (record-stands l e Rules n h) (formed_is (count_of l Groups) (record_at l (place_of l Rules n)) Rules (record-formed l e Rules n h))
+      rule_by (record_at l (place_of l Rules n)) (record_stands l e Rules n h) (formed_is (count_of l Groups) (record_at l (place_of l Rules n)) Rules (record_formed l e Rules n h))
 
   pub constraint_at : n < count_of l Constraints → ConstraintAt l (place_of l Constraints n) (record_at l (place_of l Constraints n))
   unfolding IsRecord
   constraint_at h =
       let at : ℕ = place_of l Constraints n in
       let r : List ℕ = record_at l at in
-      let s = record-stands l e Constraints n h in
-      let q = formed_is (count_of l Groups) r Constraints (record-formed l e Constraints n h) in
+      let s = record_stands l e Constraints n h in
+      let q = formed_is (count_of l Groups) r Constraints (record_formed l e Constraints n h) in
       let f = q.1 in
       let len = f.size.1 in
       let z = s.size in

@@ -5,7 +5,7 @@
 pub mod header; // header.rt: the header's places and the limits
 
 // One of the three sections of an image.
-#[derive(Drop)]
+#[derive(Clone, Copy)]
 pub enum Section {
     Groups,
     Rules,
@@ -13,42 +13,42 @@ pub enum Section {
 }
 
 // A refusal: its number in the table, and the place returned with it.
-#[derive(Drop)]
+#[derive(Clone, Copy)]
 pub struct Refusal {
     pub number: u8,
     pub place: usize,
 }
 
 // What the check of an image answers.
-#[derive(Drop)]
+#[derive(Clone, Copy)]
 pub enum Checked {
     Accepted,
     Refused(Refusal),
 }
 
 // Where the rules and the constraints start. The groups start at 9, and the constraints end with the image.
-#[derive(Drop)]
+#[derive(Clone, Copy)]
 pub struct Starts {
     pub rules: usize,
     pub constraints: usize,
 }
 
 // The check's answer, with the places that it came to.
-#[derive(Drop)]
+#[derive(Clone, Copy)]
 pub enum Sections {
     At(Starts),
     Refused(Refusal),
 }
 
 // The bytes of a record within an image.
-#[derive(Drop)]
+#[derive(Clone, Copy)]
 pub struct Extent {
     pub place: usize,
     pub length: usize,
 }
 
 // Where record n of a section stands, or why there is none.
-#[derive(Drop)]
+#[derive(Clone, Copy)]
 pub enum Found {
     At(Extent),
     Refused(Refusal),
@@ -56,7 +56,7 @@ pub enum Found {
 
 // What the record reader finds at the front of a part of an image: a whole record of a length, no record of the
 // section, or a record with a field that breaks its rule, at a place counted from the record's start.
-#[derive(Drop)]
+#[derive(Clone, Copy)]
 pub enum Read {
     Whole(usize),
     Malformed,

@@ -27,7 +27,7 @@ use Rattle.format.specs.Inner.Places.{Stands}
 use Rattle.format.proofs.Tests.{false_not_true}
 use Rattle.format.proofs.Shapes.{record_part, shape_most}
 use Rattle.format.proofs.Twins.{same_bytes_lem, bytes_same, differ_bytes, number_least, number_self, apart_none, none_apart, first_twin_lem}
-use Rattle.format.proofs.Accepted.{laid_header, laid-formed, laid-stands, group_nth, none_twins, twin_fault_some}
+use Rattle.format.proofs.Accepted.{laid_header, laid_formed, laid_stands, group_nth, none_twins, twin_fault_some}
 use Rattle.format.proofs.ByCase.{limit_groups}
 use Rattle.format.proofs.Images.{group_count}
 use Rattle.image.specs.Inner.Alike.{key_of, key_at, Placed, Filed, Looks, Found, settled_slot, Fills, FirstOff}
@@ -71,7 +71,7 @@ module _ (l places : List ℕ) (n : ℕ) (p : Placed l places n) (g : ℕ) (h : 
   placed_own = let c = p.count in omega arith
 
   placed_stands : Stands l (place_of l Groups g) (record_at l (place_of l Groups g))
-  placed_stands = laid-stands l p.laid Groups g placed_own
+  placed_stands = laid_stands l p.laid Groups g placed_own
 
   pub placed_record : get_or (policy_of l).groups g [] ≡ record_at l (place_of l Groups g)
   placed_record = group_nth l g placed_own
@@ -95,7 +95,7 @@ module _ (l places : List ℕ) (n : ℕ) (p : Placed l places n) (g : ℕ) (h : 
   placed_least = rw placed_record placed_stands.some
 
   pub placed_most : length (get_or (policy_of l).groups g []) < 256
-  placed_most = rw placed_record (let k = shape_most _ (laid-formed l p.laid Groups g placed_own).shape in omega arith)
+  placed_most = rw placed_record (let k = shape_most _ (laid_formed l p.laid Groups g placed_own).shape in omega arith)
 
 pub placed_few : (l places : List ℕ) (n : ℕ) → Placed l places n → n ≤ 256
 placed_few l places n p = omega (arith, p.count, (laid_header l p.laid).few Groups, limit_groups)

@@ -22,7 +22,7 @@ use Rattle.format.specs.Answers.{gives, outcome, starts, extent}
 use Rattle.format.specs.Reach.{fault_before, Reaches}
 use Rattle.format.proofs.Chain.{or_else_next, or_else_first, need_some}
 use Rattle.format.proofs.Reach.{before_groups, before_rules, before_constraints, places_bounded, accepted_bounded}
-use Rattle.format.proofs.Accepted.{section_inside, place_first, record-stands, record_is, give_none, given_at}
+use Rattle.format.proofs.Accepted.{section_inside, place_first, record_stands, record_is, give_none, given_at}
 use Rattle.image.specs.declared.checker.Walked.{Walked}
 use Rattle.image.specs.declared.checker.Walked.TheVariants.{To, Stop}
 use Rattle.image.specs.Inner.Walk.{walked_to, walk_of, Fits, ends_of, start_in, Hops}
@@ -81,57 +81,57 @@ module _ (l : List ℕ) where
   groups_stop f e = or_else_first _ (walk_stops l Groups 9 (count_of l Groups) f e)
 
   module _ (a : ℕ) (e₁ : groups_walk ≡ To a) where
-    pub rules-at : start_of l Rules ≡ a
+    pub rules_at : start_of l Rules ≡ a
     unfolding start_of
-    rules-at = (walk_passes l Groups 9 (count_of l Groups) a e₁).1
+    rules_at = (walk_passes l Groups 9 (count_of l Groups) a e₁).1
 
     groups_none : section_fault l Groups 9 (count_of l Groups) ≡ none
     groups_none = (walk_passes l Groups 9 (count_of l Groups) a e₁).0
 
-    pub rules-fit : header_fault eqb l ≡ none → (n : ℕ) → n ≡ count_of l Rules → Fits l Rules a n
+    pub rules_fit : header_fault eqb l ≡ none → (n : ℕ) → n ≡ count_of l Rules → Fits l Rules a n
     unfolding start_of
-    rules-fit h n c = section_fits l Rules a n h (before_rules l groups_none) (sym rules-at) c
+    rules_fit h n c = section_fits l Rules a n h (before_rules l groups_none) (sym rules_at) c
 
-    pub rules-stop : (f : Refusal) → rules_walk a ≡ Stop f → body_fault l ≡ some f
+    pub rules_stop : (f : Refusal) → rules_walk a ≡ Stop f → body_fault l ≡ some f
     unfolding body_fault start_of
-    rules-stop f e = or_else_next _ groups_none ∙ or_else_first _ (walk_stops l Rules (start_of l Rules) (count_of l Rules) f (rw rules-at e))
+    rules_stop f e = or_else_next _ groups_none ∙ or_else_first _ (walk_stops l Rules (start_of l Rules) (count_of l Rules) f (rw rules_at e))
 
     module _ (b : ℕ) (e₂ : rules_walk a ≡ To b) where
-      rules-pass : (section_fault l Rules (start_of l Rules) (count_of l Rules) ≡ none) × (place_after l (start_of l Rules) (count_of l Rules) ≡ b)
-      rules-pass = walk_passes l Rules (start_of l Rules) (count_of l Rules) b (rw rules-at e₂)
+      rules_pass : (section_fault l Rules (start_of l Rules) (count_of l Rules) ≡ none) × (place_after l (start_of l Rules) (count_of l Rules) ≡ b)
+      rules_pass = walk_passes l Rules (start_of l Rules) (count_of l Rules) b (rw rules_at e₂)
 
-      pub constraints-at : start_of l Constraints ≡ b
+      pub constraints_at : start_of l Constraints ≡ b
       unfolding start_of
-      constraints-at = rules-pass.1
+      constraints_at = rules_pass.1
 
-      pub constraints-fit : header_fault eqb l ≡ none → (n : ℕ) → n ≡ count_of l Constraints → Fits l Constraints b n
+      pub constraints_fit : header_fault eqb l ≡ none → (n : ℕ) → n ≡ count_of l Constraints → Fits l Constraints b n
       unfolding start_of
-      constraints-fit h n c =
-          section_fits l Constraints b n h (before_constraints l groups_none rules-pass.0) (sym constraints-at) c
+      constraints_fit h n c =
+          section_fits l Constraints b n h (before_constraints l groups_none rules_pass.0) (sym constraints_at) c
 
-      pub constraints-stop : (f : Refusal) → constraints_walk b ≡ Stop f → body_fault l ≡ some f
+      pub constraints_stop : (f : Refusal) → constraints_walk b ≡ Stop f → body_fault l ≡ some f
       unfolding body_fault start_of
-      constraints-stop f e =
-          or_else_next _ groups_none ∙ or_else_next _ rules-pass.0
-          ∙ or_else_first _ (walk_stops l Constraints (start_of l Constraints) (count_of l Constraints) f (rw constraints-at e))
+      constraints_stop f e =
+          or_else_next _ groups_none ∙ or_else_next _ rules_pass.0
+          ∙ or_else_first _ (walk_stops l Constraints (start_of l Constraints) (count_of l Constraints) f (rw constraints_at e))
 
-      starts-are : starts l ≡ record { rules = a; constraints = b }
-      starts-are = λ i. record { rules = rules-at i; constraints = constraints-at i }
+      starts_are : starts l ≡ record { rules = a; constraints = b }
+      starts_are = λ i. record { rules = rules_at i; constraints = constraints_at i }
 
       module _ (e : ℕ) (q : constraints_walk b ≡ To e) where
-        constraints-pass : (section_fault l Constraints (start_of l Constraints) (count_of l Constraints) ≡ none) × (end_of l ≡ e)
+        constraints_pass : (section_fault l Constraints (start_of l Constraints) (count_of l Constraints) ≡ none) × (end_of l ≡ e)
         unfolding end_of place_of
-        constraints-pass = walk_passes l Constraints (start_of l Constraints) (count_of l Constraints) e (rw constraints-at q)
+        constraints_pass = walk_passes l Constraints (start_of l Constraints) (count_of l Constraints) e (rw constraints_at q)
 
         body_end : body_fault l ≡ need (leb (length l) e) (refusal 7 e)
         unfolding body_fault start_of
         body_end =
-            or_else_next _ groups_none ∙ or_else_next _ rules-pass.0 ∙ or_else_next _ constraints-pass.0
-            ∙ ap (λ (x : ℕ). need (leb (length l) x) (refusal 7 x)) constraints-pass.1
+            or_else_next _ groups_none ∙ or_else_next _ rules_pass.0 ∙ or_else_next _ constraints_pass.0
+            ∙ ap (λ (x : ℕ). need (leb (length l) x) (refusal 7 x)) constraints_pass.1
 
         pub body_ends : ends_of l a b e ≡ outcome (body_fault l) (starts l)
         unfolding ends_of
-        body_ends = sym (ap₂ outcome body_end starts-are)
+        body_ends = sym (ap₂ outcome body_end starts_are)
 
   pub header_stops : (f : Refusal) → header_fault eqb l ≡ some f → layout_fault l ≡ some f
   unfolding layout_fault
@@ -156,17 +156,17 @@ module _ (l : List ℕ) where
     give_refused f e = or_else_first _ e
 
     module _ (e : Accepted l) where
-      pub give-past : count_of l s ≤ n → give_fault l s n ≡ some (refusal 14 0)
+      pub give_past : count_of l s ≤ n → give_fault l s n ≡ some (refusal 14 0)
       unfolding give_fault
-      give-past h = or_else_next _ e ∙ need_some _ (le-ltb n (count_of l s) h)
+      give_past h = or_else_next _ e ∙ need_some _ (le-ltb n (count_of l s) h)
 
       module _ (h : n < count_of l s) where
         pub place_byte : place_of l s n < length l
-        place_byte = let f = record-stands l e s n h in omega (arith, f.some, f.inside)
+        place_byte = let f = record_stands l e s n h in omega (arith, f.some, f.inside)
 
-        pub extent-is : (p k : ℕ) → p ≡ place_of l s n → k ≡ get_or l p 0 → gives (record { place = p; length = k }) ≡ outcome (give_fault l s n) (extent l s n)
-        extent-is p k a b =
-            let size : k ≡ length (record_at l (place_of l s n)) = b ∙ ap (λ (i : ℕ). get_or l i 0) a ∙ sym (record-stands l e s n h).size in
+        pub extent_is : (p k : ℕ) → p ≡ place_of l s n → k ≡ get_or l p 0 → gives (record { place = p; length = k }) ≡ outcome (give_fault l s n) (extent l s n)
+        extent_is p k a b =
+            let size : k ≡ length (record_at l (place_of l s n)) = b ∙ ap (λ (i : ℕ). get_or l i 0) a ∙ sym (record_stands l e s n h).size in
             rw (give_none l e s n h, record_is l e s n h, a, size)
 
 pub hops : (l : List ℕ) (s : Section) (n : ℕ) → Accepted l → n < count_of l s → Hops l (start_of l s) n

@@ -36,17 +36,17 @@ module _ (p : List ℕ) (at low : ℕ) where
   members_end h = rw (words_end p at h)
 
   module _ (m : ℕ) (is : m ≡ word_at p at) (h : at + 1 < length p) where
-    pub members-low : m < low → bad_member at low (words (drop at p)) ≡ some at
+    pub members_low : m < low → bad_member at low (words (drop at p)) ≡ some at
     unfolding bad_member need ◌or_else◌
-    members-low k = rw (words_next p at h) (simp (lt-leb low (word_at p at) (omega arith)))
+    members_low k = rw (words_next p at h) (simp (lt-leb low (word_at p at) (omega arith)))
 
-    pub members-high : low ≤ m → 1024 ≤ m → bad_member at low (words (drop at p)) ≡ some at
+    pub members_high : low ≤ m → 1024 ≤ m → bad_member at low (words (drop at p)) ≡ some at
     unfolding bad_member need ◌or_else◌
-    members-high k j = rw (words_next p at h) (simp (le-leb low (word_at p at) (omega arith), le-ltb (word_at p at) 1024 (omega arith)))
+    members_high k j = rw (words_next p at h) (simp (le-leb low (word_at p at) (omega arith), le-ltb (word_at p at) 1024 (omega arith)))
 
-    pub members-next : low ≤ m → m < 1024 → bad_member at low (words (drop at p)) ≡ bad_member (at + 2) (m + 1) (words (drop (at + 2) p))
+    pub members_next : low ≤ m → m < 1024 → bad_member at low (words (drop at p)) ≡ bad_member (at + 2) (m + 1) (words (drop (at + 2) p))
     unfolding bad_member need ◌or_else◌
-    members-next k j =
+    members_next k j =
         rw (words_next p at h, is, add-one) (simp (le-leb low (word_at p at) (omega arith), lt-ltb (word_at p at) 1024 (omega arith)))
 
 -- the member m at a place is a basic type, and those behind it rise
@@ -63,26 +63,26 @@ module _ (p : List ℕ) (at m : ℕ) where
         is = is;
         room = omega arith;
         basic = h;
-        rest = members-next p at m m is (omega arith) (omega arith) h ∙ members_end p (at + 2) (m + 1) (omega arith);
+        rest = members_next p at m m is (omega arith) (omega arith) h ∙ members_end p (at + 2) (m + 1) (omega arith);
       }
 
   module _ (g : Good p at m) where
     lower : (k : ℕ) → k ≤ m → bad_member at k (words (drop at p)) ≡ none
     lower k h =
-        members-next p at k m g.is g.room h g.basic ∙ sym (members-next p at m m g.is g.room (omega arith) g.basic) ∙ g.rest
+        members_next p at k m g.is g.room h g.basic ∙ sym (members_next p at m m g.is g.room (omega arith) g.basic) ∙ g.rest
 
-    pub good-before : (a k : ℕ) → a + 2 ≡ at → k ≡ word_at p a → k < m → Good p a k
-    good-before a k e is h =
+    pub good_before : (a k : ℕ) → a + 2 ≡ at → k ≡ word_at p a → k < m → Good p a k
+    good_before a k e is h =
         record {
           is = is;
           room = omega (arith, g.room);
           basic = omega (arith, g.basic);
-          rest = members-next p a k k is (omega (arith, g.room)) (omega arith) (omega (arith, g.basic)) ∙ rw e (lower (k + 1) (omega arith));
+          rest = members_next p a k k is (omega (arith, g.room)) (omega arith) (omega (arith, g.basic)) ∙ rw e (lower (k + 1) (omega arith));
         }
 
-    pub good-group : at ≡ 2 → bad_group p ≡ none
+    pub good_group : at ≡ 2 → bad_group p ≡ none
     unfolding bad_group
-    good-group e = rw e at (lower 0 (omega arith))
+    good_group e = rw e at (lower 0 (omega arith))
 
 module _ (p : List ℕ) (g at : ℕ) where
   pub types_end : length p ≤ at + 1 → bad_type g at (words (drop at p)) ≡ none

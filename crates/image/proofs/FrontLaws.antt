@@ -26,13 +26,13 @@ module _ (b : List ℕ) where
     unfolding leading
     leading_low h = simp (le-leb 9 (length b) long, lt-leb 9 (word_at b 1) (omega arith))
 
-    pub leading-past : 9 ≤ w → length b < w → leading b ≡ b
+    pub leading_past : 9 ≤ w → length b < w → leading b ≡ b
     unfolding leading
-    leading-past h k = simp (le-leb 9 (length b) long, le-leb 9 (word_at b 1) (omega arith), lt-leb (word_at b 1) (length b) (omega arith))
+    leading_past h k = simp (le-leb 9 (length b) long, le-leb 9 (word_at b 1) (omega arith), lt-leb (word_at b 1) (length b) (omega arith))
 
-    pub leading-part : 9 ≤ w → w ≤ length b → leading b ≡ take w b
+    pub leading_part : 9 ≤ w → w ≤ length b → leading b ≡ take w b
     unfolding leading image_in
-    leading-part h k =
+    leading_part h k =
         rw is (simp (le-leb 9 (length b) long, le-leb 9 (word_at b 1) (omega arith), le-leb (word_at b 1) (length b) (omega arith)))
 
 -- a buffer is a part of itself

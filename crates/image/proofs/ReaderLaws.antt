@@ -63,44 +63,44 @@ module _ (s : Section) (g : ℕ) (p : List ℕ) (n : ℕ) (is : n ≡ get_or p 0
     pub whole_size : length (take n p) ≡ n
     whole_size = length-take-le n p fits
 
-    pub whole-kind : get_or (take n p) 1 0 ≡ get_or p 1 0
-    whole-kind = get_or-take n p 1 0 (omega (arith, length_least (get_or p 1 0) n ok))
+    pub whole_kind : get_or (take n p) 1 0 ≡ get_or p 1 0
+    whole_kind = get_or-take n p 1 0 (omega (arith, length_least (get_or p 1 0) n ok))
 
     whole_first : get_or (take n p) 0 0 ≡ n
     whole_first = get_or-take n p 0 0 (omega (arith, length_least (get_or p 1 0) n ok)) ∙ sym is
 
-    whole-shape : shape_ok (take n p) ≡ true
+    whole_shape : shape_ok (take n p) ≡ true
     unfolding shape_ok
-    whole-shape = and_true (eq-eqb (length (take n p)) (get_or (take n p) 0 0) (whole_size ∙ sym whole_first)) (rw (whole-kind, whole_size) ok)
+    whole_shape = and_true (eq-eqb (length (take n p)) (get_or (take n p) 0 0) (whole_size ∙ sym whole_first)) (rw (whole_kind, whole_size) ok)
 
     first_is : first_record p ≡ take n p
     unfolding first_record
     first_is = ap (λ (k : ℕ). take k p) (sym is)
 
-    pub read-fields : (f : Option ℕ) → bad_field g (take n p) ≡ f → read_of s g p ≡ read_fields f (length (take n p))
+    pub read_fields_lem : (f : Option ℕ) → bad_field g (take n p) ≡ f → read_of s g p ≡ read_fields f (length (take n p))
     unfolding read_of
-    read-fields f e = rw first_is (simp (whole-shape, ap (kind_in s) whole-kind ∙ kind, e))
+    read_fields_lem f e = rw first_is (simp (whole_shape, ap (kind_in s) whole_kind ∙ kind, e))
 
     -- the lengths that each kind has at least
-    pub least-group : get_or p 1 0 ≡ 1 → (4 ≤ length (take n p)) × (length (take n p) % 2 ≡ 0)
-    least-group k =
+    pub least_group : get_or p 1 0 ≡ 1 → (4 ≤ length (take n p)) × (length (take n p) % 2 ≡ 0)
+    least_group k =
         rw whole_size
         (length_cases (get_or p 1 0) n ok (λ _ h _ even. (h, even)) (λ j _. absurd (omega arith)) (λ j _. absurd (omega arith)) (λ j _ _ _. absurd (omega arith)))
 
-    pub least-allow : get_or p 1 0 ≡ 2 → 11 ≤ length (take n p)
-    least-allow k =
+    pub least_allow : get_or p 1 0 ≡ 2 → 11 ≤ length (take n p)
+    least_allow k =
         rw whole_size
         (length_cases (get_or p 1 0) n ok (λ j _ _ _. absurd (omega arith)) (λ _ h. omega arith) (λ j _. absurd (omega arith)) (λ _ h _ _. h))
 
-    pub least-transition : get_or p 1 0 ≡ 3 → 8 ≤ length (take n p)
-    least-transition k =
+    pub least_transition : get_or p 1 0 ≡ 3 → 8 ≤ length (take n p)
+    least_transition k =
         rw whole_size
         (length_cases (get_or p 1 0) n ok (λ j _ _ _. absurd (omega arith)) (λ j _. absurd (omega arith)) (λ _ h. omega arith) (λ j _ _ _. absurd (omega arith)))
 
-    pub rest-constraint : (get_or p 1 0 ≡ 1 → ⊥) → (get_or p 1 0 ≡ 2 → ⊥) → (get_or p 1 0 ≡ 3 → ⊥) → get_or p 1 0 ≡ 4
-    rest-constraint a b c = length_cases (get_or p 1 0) n ok (λ j _ _ _. absurd (a j)) (λ j _. absurd (b j)) (λ j _. absurd (c j)) (λ j _ _ _. j)
+    pub rest_constraint : (get_or p 1 0 ≡ 1 → ⊥) → (get_or p 1 0 ≡ 2 → ⊥) → (get_or p 1 0 ≡ 3 → ⊥) → get_or p 1 0 ≡ 4
+    rest_constraint a b c = length_cases (get_or p 1 0) n ok (λ j _ _ _. absurd (a j)) (λ j _. absurd (b j)) (λ j _. absurd (c j)) (λ j _ _ _. j)
 
-    pub least-constraint : get_or p 1 0 ≡ 4 → 11 ≤ length (take n p)
-    least-constraint k =
+    pub least_constraint : get_or p 1 0 ≡ 4 → 11 ≤ length (take n p)
+    least_constraint k =
         rw whole_size
         (length_cases (get_or p 1 0) n ok (λ j _ _ _. absurd (omega arith)) (λ j _. absurd (omega arith)) (λ j _. absurd (omega arith)) (λ _ h _ _. h))

@@ -120,12 +120,12 @@ module _ (l before after : List ℕ) (r : Sections) (c : Checks l before r after
 
   -- and the table
   module _ (n : length before ≡ 256) where
-    pub checks-groups : (g : ℕ) → get_or after g 0 ≡ group_slot l g (get_or before g 0)
-    checks-groups = tabled l before after n c.table
+    pub checks_groups : (g : ℕ) → get_or after g 0 ≡ group_slot l g (get_or before g 0)
+    checks_groups = tabled l before after n c.table
 
-    pub checks-placed : LaidOut l → Placed l after (count_of l Groups)
-    checks-placed e =
-        record { laid = e; count = refl; place = λ g h. checks-groups g ∙ slot_placed l e g (get_or before g 0) h }
+    pub checks_placed : LaidOut l → Placed l after (count_of l Groups)
+    checks_placed e =
+        record { laid = e; count = refl; place = λ g h. checks_groups g ∙ slot_placed l e g (get_or before g 0) h }
 
 -- the twins behind 1 to 7
 pub check_refused : (l : List ℕ) (f : Refusal) → layout_fault l ≡ some f → refused f ≡ outcome (check l) (starts l)

@@ -59,22 +59,22 @@ module _ (l : List ℕ) (s : Section) (at : ℕ) where
     unfolding walk_of section_fault place_after
     walk_end e = rw e
 
-    pub walk-whole : (m len : ℕ) → n ≡ suc m → read_of s (count_of l Groups) (drop at l) ≡ Whole len → walk_of l s at n ≡ walk_of l s (at + len) m
+    pub walk_whole : (m len : ℕ) → n ≡ suc m → read_of s (count_of l Groups) (drop at l) ≡ Whole len → walk_of l s at n ≡ walk_of l s (at + len) m
     unfolding walk_of section_fault place_after read_fault ◌or_else◌
-    walk-whole m len e r = rw (e, whole_size len r) (simp r)
+    walk_whole m len e r = rw (e, whole_size len r) (simp r)
 
-    pub walk-malformed : 0 < n → read_of s (count_of l Groups) (drop at l) ≡ Malformed → walk_of l s at n ≡ Stop (refusal 5 at)
+    pub walk_malformed : 0 < n → read_of s (count_of l Groups) (drop at l) ≡ Malformed → walk_of l s at n ≡ Stop (refusal 5 at)
     unfolding walk_of section_fault read_fault ◌or_else◌
-    walk-malformed h r = let e : n ≡ suc (n - 1) = omega arith in rw e (simp r)
+    walk_malformed h r = let e : n ≡ suc (n - 1) = omega arith in rw e (simp r)
 
     pub walk_field : (i : ℕ) → 0 < n → read_of s (count_of l Groups) (drop at l) ≡ BadField i → walk_of l s at n ≡ Stop (refusal 6 (at + i))
     unfolding walk_of section_fault read_fault ◌or_else◌
     walk_field i h r = let e : n ≡ suc (n - 1) = omega arith in rw e (simp r)
 
     -- the bound, in the same turns
-    pub fits-here : Fits l s at n → at ≤ 55561
+    pub fits_here : Fits l s at n → at ≤ 55561
     unfolding section_fault place_after
-    fits-here f = f.place 0 (omega arith) refl
+    fits_here f = f.place 0 (omega arith) refl
 
     pub fits_whole :
         (m len : ℕ) → n ≡ suc m → read_of s (count_of l Groups) (drop at l) ≡ Whole len → Fits l s at n → Fits l s (at + len) m
@@ -83,19 +83,19 @@ module _ (l : List ℕ) (s : Section) (at : ℕ) where
 
     -- the table, in the same turns
     module _ (k : ℕ) (ps : List ℕ) where
-      pub note-end : n ≡ 0 → noted_from l s at k n ps ≡ ps
+      pub note_end : n ≡ 0 → noted_from l s at k n ps ≡ ps
       unfolding noted_from
-      note-end e = rw e
+      note_end e = rw e
 
-      pub note-whole :
+      pub note_whole :
           (m len : ℕ) → n ≡ suc m → read_of s (count_of l Groups) (drop at l) ≡ Whole len → noted_from l s at k n ps ≡ noted_from l s (at + len) (k + 1) m (set ps k at)
       unfolding noted_from read_fault unless_refused
-      note-whole m len e r = rw (e, whole_size len r, add-one) (simp r)
+      note_whole m len e r = rw (e, whole_size len r, add-one) (simp r)
 
-      pub note-malformed : 0 < n → read_of s (count_of l Groups) (drop at l) ≡ Malformed → noted_from l s at k n ps ≡ set ps k at
+      pub note_malformed : 0 < n → read_of s (count_of l Groups) (drop at l) ≡ Malformed → noted_from l s at k n ps ≡ set ps k at
       unfolding noted_from read_fault unless_refused
-      note-malformed h r = let e : n ≡ suc (n - 1) = omega arith in rw e (simp r)
+      note_malformed h r = let e : n ≡ suc (n - 1) = omega arith in rw e (simp r)
 
-      pub note-field : (i : ℕ) → 0 < n → read_of s (count_of l Groups) (drop at l) ≡ BadField i → noted_from l s at k n ps ≡ set ps k at
+      pub note_field : (i : ℕ) → 0 < n → read_of s (count_of l Groups) (drop at l) ≡ BadField i → noted_from l s at k n ps ≡ set ps k at
       unfolding noted_from read_fault unless_refused
-      note-field i h r = let e : n ≡ suc (n - 1) = omega arith in rw e (simp r)
+      note_field i h r = let e : n ≡ suc (n - 1) = omega arith in rw e (simp r)

@@ -16,7 +16,7 @@ use format::{Checked, Read, Refusal, Section, Sections, Starts, header};
 const FIRST: u16 = header::SIZE as u16;
 
 // Where a walk over records ends: past the last, or at the first refusal. A walk carries its place in 16 bits.
-#[derive(Drop)]
+#[derive(Clone, Copy)]
 pub(crate) enum Walked {
     To(u16),
     Stop(Refusal),

@@ -3,7 +3,7 @@
 --     said_refused       where it is refused
 --     said_moved         where the whole rows of its first bytes are not: what is written for the text behind them
 --     turn_faulty, turn-full, turn-goes   what a turn refuses: a row, one that fills the space, or none
---     read-on            a turn, and then what is written for the rest
+--     read_on            a turn, and then what is written for the rest
 --     begun_is, turned-is, reads_on, reads-stop, reads-refused, reads-image   what the program does, read by read
 --     reads_all          all turns
 use Prim.Native.Nat.{ℕ, ◌+◌, ◌≤◌, ◌<◌}
@@ -119,16 +119,16 @@ module _ (s : Reading) (l : List ℕ) where
   turn_faulty f h = or_else_first _ (fault_some s.at s.row l (rows_added (take (cut l) l) s.buffer).answer f h)
 
   module _ (m : ℕ) (h : (rows_added (take (cut l) l) s.buffer).answer ≡ gives m) where
-    pub turn-full :
+    pub turn_full :
         row_space ≤ length (drop (cut l) l) → turn_fault s l ≡ some (record { number = 18; place = s.at + cut l; row = s.row + feeds l })
     unfolding turn_fault
-    turn-full e =
+    turn_full e =
         or_else_next _ (fault_none s.at s.row l (rows_added (take (cut l) l) s.buffer).answer m h)
         ∙ need_some _ (le-ltb (length (drop (cut l) l)) row_space e)
 
-    pub turn-goes : length (drop (cut l) l) < row_space → turn_fault s l ≡ none
+    pub turn_goes : length (drop (cut l) l) < row_space → turn_fault s l ≡ none
     unfolding turn_fault
-    turn-goes e =
+    turn_goes e =
         or_else_next _ (fault_none s.at s.row l (rows_added (take (cut l) l) s.buffer).answer m h)
         ∙ need_none _ (lt-ltb (length (drop (cut l) l)) row_space e)
 
@@ -181,28 +181,28 @@ module _ (b₀ : List ℕ) (s : Reading) (k : Imaged b₀ s.buffer) (l : List �
       ∙ ap (λ x. written (some (record { number = 18; place = s.at + cut l; row = x })) []) count
 
   module _ (t : List ℕ) (w : Written) where
-    on-fault : (f : RowRefusal) → turn_fault s l ≡ some f → unless_turned (turn_fault s l) w ≡ written (some f) []
+    on_fault : (f : RowRefusal) → turn_fault s l ≡ some f → unless_turned (turn_fault s l) w ≡ written (some f) []
     unfolding unless_turned
-    on-fault f e = rw e refl
+    on_fault f e = rw e refl
 
-    on-turned : turn_fault s l ≡ none → unless_turned (turn_fault s l) w ≡ w
+    on_turned : turn_fault s l ≡ none → unless_turned (turn_fault s l) w ≡ w
     unfolding unless_turned
-    on-turned e = rw e refl
+    on_turned e = rw e refl
 
-    pub read-on :
+    pub read_on :
         w ≡ said (s.at + cut l) (s.row + feeds l) (drop (cut l) l ++ t) (turned s l).buffer
         → unless_turned (turn_fault s l) w ≡ said s.at s.row (l ++ t) s.buffer
-    read-on q = step (rows_added (take (cut l) l) s.buffer).answer refl where
+    read_on q = step (rows_added (take (cut l) l) s.buffer).answer refl where
       short :
           (m : ℕ) → (rows_added (take (cut l) l) s.buffer).answer ≡ gives m → (x : Bool) → ltb (length (drop (cut l) l)) row_space ≡ x
           → unless_turned (turn_fault s l) w ≡ said s.at s.row (l ++ t) s.buffer
-      short m h true e = on-turned (turn-goes s l m h (ltb-true _ _ e)) ∙ q ∙ sym (turn_on t m h)
-      short m h false e = let long = ltb-false _ _ e in on-fault _ (turn-full s l m h long) ∙ sym (turn_long t m h long)
+      short m h true e = on_turned (turn_goes s l m h (ltb-true _ _ e)) ∙ q ∙ sym (turn_on t m h)
+      short m h false e = let long = ltb-false _ _ e in on_fault _ (turn_full s l m h long) ∙ sym (turn_long t m h long)
 
       step :
           (o : Outcome ℕ) → (rows_added (take (cut l) l) s.buffer).answer ≡ o
           → unless_turned (turn_fault s l) w ≡ said s.at s.row (l ++ t) s.buffer
-      step (refused f) h = on-fault _ (turn_faulty s l f h) ∙ sym (turn_refused t f h)
+      step (refused f) h = on_fault _ (turn_faulty s l f h) ∙ sym (turn_refused t f h)
       step (gives m) h = short m h (ltb (length (drop (cut l) l)) row_space) refl
 
 -- ---- what the program does, read by read
@@ -252,7 +252,7 @@ unfolding reads flatten turned
 reads_all b₀ [] s k = ap (λ x. said s.at s.row x s.buffer) (sym (append-nil s.kept))
 reads_all b₀ (c ∷ cs) s k =
     let l = s.kept ++ c in
-    read-on b₀ s k l (flatten cs) (reads (turned s l) cs) (reads_all b₀ cs (turned s l) (turn_imaged b₀ s k l))
+    read_on b₀ s k l (flatten cs) (reads (turned s l) cs) (reads_all b₀ cs (turned s l) (turn_imaged b₀ s k l))
     ∙ ap (λ x. said s.at s.row x s.buffer) (append_assoc s.kept c (flatten cs))
 
 pub any_compiled : AnyCompiled

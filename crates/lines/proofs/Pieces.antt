@@ -28,7 +28,7 @@ use Rattle.text.proofs.Parts.{run_most, split_run, run_next}
 use Rattle.text.proofs.Rows.{answer_of, gives_not_refused, row_long, rows_first_refused, rows_complete, rows_moved}
 use Rattle.text.proofs.Follow.{rows_none}
 use Rattle.text.proofs.Buffers.{Imaged, imaged_accepted, imaged_rows}
-use Rattle.text.proofs.Chunks.{added_front, added-behind, added_next, added_stops}
+use Rattle.text.proofs.Chunks.{added_front, added_behind, added_next, added_stops}
 use Rattle.lines.specs.Compiled.{feeds}
 use Rattle.lines.proofs.Feeds.{Whole, bare, fed}
 
@@ -43,7 +43,7 @@ module _ (b : List ℕ) (e : check_front b ≡ none) where
     step (refused f) h = added_stops b e q [] f h
     step (gives n) h =
         let front = added_front q b e in
-        added-behind b e q [] n h
+        added_behind b e q [] n h
         ∙ rows_none (0 + suc (length q)) (rows_added q b).buffer
         ∙ ap (λ (m : Made). complete m.buffer) front
         ∙ sym (rows_complete 0 (split 10 q) b n (sym (ap answer_of front) ∙ h))

@@ -45,15 +45,15 @@ extent_back (gives e) h =
 pub record_read : RecordRead
 unfolding record_in
 record_read l b = (
-  λ s n. ap host_found (in-section s n) ∙ extent_back (outcome (give_fault l s n) (extent l s n)) ((record_whole l b).0 s n),
+  λ s n. ap host_found (in_section s n) ∙ extent_back (outcome (give_fault l s n) (extent l s n)) ((record_whole l b).0 s n),
   λ s n h. ap host_checked (record_nowhere l s n (λ e. absurd (omega arith)) (λ e. absurd (omega arith)) (λ e. absurd (omega arith)))
       ∙ fault_back (check l or_else some (refusal 14 0)) (record_whole l b).1,
 )
   where
-    in-section : (s : Section) (n : ℕ) → record_code l (section_number s) n ≡ record_in l s n
-    in-section Groups n = record_groups l 0 n refl
-    in-section Rules n = record_rules l 1 n refl
-    in-section Constraints n = record_constraints l 2 n refl
+    in_section : (s : Section) (n : ℕ) → record_code l (section_number s) n ≡ record_in l s n
+    in_section Groups n = record_groups l 0 n refl
+    in_section Rules n = record_rules l 1 n refl
+    in_section Constraints n = record_constraints l 2 n refl
 
 number_back : (P : ℕ → Type 0) → ((n : ℕ) → P n → n < 65536) → (o : Outcome ℕ) → OutcomeFits P o → host_added (code_of (parts_of 1 0) o) ≡ o
 unfolding host_added

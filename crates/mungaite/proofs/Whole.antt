@@ -18,7 +18,7 @@ use Rattle.format.specs.Give.{give_fault}
 use Rattle.format.proofs.Chain.{or_else_refuses}
 use Rattle.format.proofs.ByCase.{limit_most}
 use Rattle.format.proofs.Shapes.{shape_most}
-use Rattle.format.proofs.Accepted.{accepted_header, record-formed, record_is, give_split, given_at}
+use Rattle.format.proofs.Accepted.{accepted_header, record_formed, record_is, give_split, given_at}
 use Rattle.format.proofs.Reach.{longest_image}
 use Rattle.format.proofs.Bounds.{layout_small, front_small, give_refused}
 use Rattle.extension.specs.Add.{section_of, new_number, add_fault}
@@ -57,7 +57,7 @@ extent_fits l s n e =
     let q = give_split l s n e in
     let g = (given_at l s n e).inside in
     let m = longest_image l q.0 in
-    let k = shape_most (record_at l (place_of l s n)) (record-formed l q.0 s n q.1).shape in
+    let k = shape_most (record_at l (place_of l s n)) (record_formed l q.0 s n q.1).shape in
     (omega arith, rw (record_is l q.0 s n q.1) k)
 
 pub record_whole : RecordWhole

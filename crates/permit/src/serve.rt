@@ -11,7 +11,7 @@ use libc::STDIN_FILENO;
 use streams::{Got, keep_rest, read_between};
 
 // What a turn leaves: how many bytes of the input are kept, and how many of the output are to be written.
-#[derive(Drop)]
+#[derive(Clone, Copy)]
 pub(crate) struct Turn {
     pub kept: usize,
     pub end: usize,

@@ -8,7 +8,7 @@ use libc::STDIN_FILENO;
 use streams::{Got, read_between};
 
 // Why the reading of an image stopped.
-#[derive(Drop)]
+#[derive(Clone, Copy)]
 pub(crate) enum Stop {
     Whole,
     Ended,
@@ -16,7 +16,7 @@ pub(crate) enum Stop {
 }
 
 // How many bytes of an image were read, and why no more.
-#[derive(Drop)]
+#[derive(Clone, Copy)]
 pub(crate) struct Taken {
     pub have: usize,
     pub why: Stop,

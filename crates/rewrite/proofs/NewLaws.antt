@@ -1,10 +1,10 @@
 -- Laws of the new image, by the parts that are written. Assumes nothing.
---     field-follows       a type field that is looked up goes where references go
---     rules-as, constraints-as   so the records with their fields changed are the new policy's
+--     field_follows       a type field that is looked up goes where references go
+--     rules_as, constraints-as   so the records with their fields changed are the new policy's
 --     each_rule, each-constraint   each record becomes the new one where it stands
 --     nine, image-split   an image: the nine bytes of its header, and its records
 --     Planned, planned    what the code relies on before it writes, at its counts and places
---     rules-step, constraints-step, whole-step   the buffer after the copy, and after each of the two loops over records
+--     rules_step, constraints-step, whole-step   the buffer after the copy, and after each of the two loops over records
 use Prim.Native.Nat.{ℕ, ◌+◌, ◌-◌, ◌*◌, ◌/◌, ◌%◌, ◌≤◌, ◌<◌}
 use native.Mathlib.Omega.{arith}
 use mathlib.Core.Path.{◌≡◌, refl, sym, ap, ap₂, ◌∙◌}
@@ -68,9 +68,9 @@ constraint_fields f g r a b e = rw (a, b, e) refl
 module _ (p : Policy) (w : WellFormed p) (to : List ℕ) (small : Bytes to)
     (numbers : (i : ℕ) → i < length p.groups → get_or to i 0 ≡ number_of (get_or p.groups i []) (distinct p.groups))
   where
-    field-follows : (t : ℕ) → IsType (length p.groups) t → renumbered to t ≡ follow p t
-    field-follows t (inl h) = renumbered_basic to small t (omega arith) ∙ sym (follow_basic p t (omega arith))
-    field-follows t (inr q) =
+    field_follows : (t : ℕ) → IsType (length p.groups) t → renumbered to t ≡ follow p t
+    field_follows t (inl h) = renumbered_basic to small t (omega arith) ∙ sym (follow_basic p t (omega arith))
+    field_follows t (inr q) =
         let k : ℕ = q.0 in
         let e : t ≡ 32768 + k = q.2 in
         let n = w.few_groups in
@@ -79,19 +79,19 @@ module _ (p : Policy) (w : WellFormed p) (to : List ℕ) (small : Bytes to)
         renumbered_group to small t (omega arith) ∙ ap₂ (λ (i j : ℕ). i + get_or to j 0) x y
         ∙ ap (λ (i : ℕ). 32768 + i) (numbers k q.1) ∙ sym (ap (follow p) e ∙ follow_group p k)
 
-    pub rules-as : map (retype_rule (renumbered to)) p.rules ≡ (converted p).rules
-    rules-as =
+    pub rules_as : map (retype_rule (renumbered to)) p.rules ≡ (converted p).rules
+    rules_as =
         map_same (retype_rule (renumbered to)) (retype_rule (follow p)) p.rules
         (λ r m. let t = rule_at p w r m in
-        rule_fields (renumbered to) (follow p) r (field-follows _ t.source) (field-follows _ t.dest))
+        rule_fields (renumbered to) (follow p) r (field_follows _ t.source) (field_follows _ t.dest))
         ∙ sym (rules_are p)
 
-    pub constraints-as : map (retype_constraint (renumbered to)) p.constraints ≡ (converted p).constraints
-    constraints-as =
+    pub constraints_as : map (retype_constraint (renumbered to)) p.constraints ≡ (converted p).constraints
+    constraints_as =
         map_same (retype_constraint (renumbered to)) (retype_constraint (follow p)) p.constraints
         (λ r m. let t = constraint_at p w r m in
-        constraint_fields (renumbered to) (follow p) r (field-follows _ t.first) (field-follows _ t.second)
-        (map_same (renumbered to) (follow p) (words (drop 11 r)) (λ x k. field-follows x (t.list x k))))
+        constraint_fields (renumbered to) (follow p) r (field_follows _ t.first) (field_follows _ t.second)
+        (map_same (renumbered to) (follow p) (words (drop 11 r)) (λ x k. field_follows x (t.list x k))))
         ∙ sym (constraints_are p)
 
 module _ (p : Policy) (w : WellFormed p) (to : List ℕ) (small : Bytes to) where
@@ -330,48 +330,48 @@ module _ (l : List ℕ) (s : Starts) (to : List ℕ) (keep : List Bool) (kept : 
           length-append (nine (converted (policy_of l))) (flatten (converted (policy_of l)).groups)
           ∙ ap₂ ◌+◌ (nine_length (converted (policy_of l))) (ap length (sym eg)) ∙ sym ea
 
-      pub rules-step :
+      pub rules_step :
           Lie 2 to b₃ at m
           × (records_from 2 to b₃ at m
           ≡ front ++ (flatten (converted (policy_of l)).rules ++ (flatten (policy_of l).constraints ++ past b)))
-      rules-step =
+      rules_step =
           let f = formed l by w.laid in
           let q = records_put 2 to (retype_rule (renumbered to)) (policy_of l).rules front
           (flatten (policy_of l).constraints ++ past b) at front_length (each_rule (policy_of l) f to w.settled.small) in
-          rw (copied, em ∙ rules_count l, ← rules-as (policy_of l) f to w.settled.small w.settled.numbers) q
+          rw (copied, em ∙ rules_count l, ← rules_as (policy_of l) f to w.settled.small w.settled.numbers) q
 
       module _ (b₄ : List ℕ) (at₂ : ℕ) (e₄ : b₄ ≡ records_from 2 to b₃ at m) (e₂ : at₂ ≡ at + (s.constraints - s.rules)) where
         pub more : List ℕ
         more = front ++ flatten (converted (policy_of l)).rules
 
-        more-length : length more ≡ at₂
+        more_length : length more ≡ at₂
         unfolding more
-        more-length =
+        more_length =
             let p : Policy = policy_of l in
             let d : length (flatten (converted p).rules) ≡ length (flatten p.rules)
             = ap (λ (x : List (List ℕ)). length (flatten x)) (rules_are p) ∙ rules_as_long p (formed l by w.laid) (follow p) in
             let q = (planned l s to keep kept (word_at l 3) w by refl).between in
             omega (arith, length-append front (flatten (converted p).rules), front_length)
 
-        pub constraints-step :
+        pub constraints_step :
             Lie 6 to b₄ at₂ k
             × (records_from 6 to b₄ at₂ k ≡ more ++ (flatten (converted (policy_of l)).constraints ++ past b))
         unfolding more
-        constraints-step =
+        constraints_step =
             let f = formed l by w.laid in
             let p : Policy = policy_of l in
             let small : Bytes to = w.settled.small in
             let e : b₄ ≡ more ++ (flatten p.constraints ++ past b)
-            = e₄ ∙ rules-step.1 ∙ sym (append_assoc front (flatten (converted p).rules) (flatten p.constraints ++ past b)) in
-            let q = records_put 6 to (retype_constraint (renumbered to)) p.constraints more (past b) at₂ more-length
+            = e₄ ∙ rules_step.1 ∙ sym (append_assoc front (flatten (converted p).rules) (flatten p.constraints ++ past b)) in
+            let q = records_put 6 to (retype_constraint (renumbered to)) p.constraints more (past b) at₂ more_length
             (each_constraint p f to small) in
-            rw (e, ek ∙ constraints_count l, ← constraints-as p f to small w.settled.numbers) q
+            rw (e, ek ∙ constraints_count l, ← constraints_as p f to small w.settled.numbers) q
 
-        pub whole-step :
+        pub whole_step :
             (b₅ : List ℕ) → b₅ ≡ records_from 6 to b₄ at₂ k → length (converted_image l) ≤ length b
             → Wrote b b₅ 0 n (converted_image l)
         unfolding more front past put_at
-        whole-step b₅ e₅ room =
+        whole_step b₅ e₅ room =
             let p : Policy = policy_of l in
             let R : List ℕ = flatten (converted p).rules in
             let C : List ℕ = flatten (converted p).constraints in
@@ -382,6 +382,6 @@ module _ (l : List ℕ) (s : Starts) (to : List ℕ) (keep : List Bool) (kept : 
             let z : 0 + length (converted_image l) ≡ length (converted_image l) = omega arith in
             let x : ((N ++ G) ++ R) ++ (C ++ D) ≡ (N ++ (G ++ (R ++ C))) ++ D = simp append_assoc in
             let y : b₅ ≡ put_at b 0 (converted_image l)
-            = e₅ ∙ constraints-step.1 ∙ x ∙ ap (λ (u : List ℕ). u ++ D) (sym i)
+            = e₅ ∙ constraints_step.1 ∙ x ∙ ap (λ (u : List ℕ). u ++ D) (sym i)
             ∙ sym (ap (λ (j : ℕ). converted_image l ++ drop j b) z) in
             record { bytes = y; next = omega arith; size = ap length y ∙ put_length b 0 (converted_image l) (omega arith) }

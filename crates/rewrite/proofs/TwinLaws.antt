@@ -1,7 +1,7 @@
 -- Laws of the groups that stay and of their new numbers, by the turns of the walk that settles them. Assumes nothing.
 --     pick_all        where as many are kept as there are, all are
 --     settled_none    nothing is settled yet
---     settled-more    one group more
+--     settled_more    one group more
 use Prim.Native.Nat.{ℕ, suc, ◌+◌, ◌≤◌, ◌<◌}
 use native.Mathlib.Omega.{arith}
 use native.Mathlib.Numerals.{add-one}
@@ -17,7 +17,7 @@ use Rattle.format.specs.Bytes.{Bytes}
 use Rattle.format.specs.Twins.{number_of}
 use Rattle.decision.proofs.Search.{by_test}
 use Rattle.conversion.specs.Groups.{distinct}
-use Rattle.conversion.proofs.Prefix.{distinct_start, first-or-twin, distinct-first, distinct-twin, number-first, number-twin}
+use Rattle.conversion.proofs.Prefix.{distinct_start, first_or_twin, distinct_first, distinct_twin, number_first, number_twin}
 use Rattle.rewrite.specs.Inner.Kept.{pick, keep_if}
 use Rattle.rewrite.specs.Inner.Settle.{Settled}
 
@@ -115,9 +115,9 @@ module _ (gs : List (List ℕ)) (g : ℕ) (less : g < length gs) where
           (ap (λ (i : ℕ). get_or ks i false) e ∙ get_or-set_same keep g b false long)
           ∙ sym all
 
-      count-more : next + cond b 1 0 ≡ length (distinct (take (g + 1) gs))
+      count_more : next + cond b 1 0 ≡ length (distinct (take (g + 1) gs))
       unfolding keep_if
-      count-more =
+      count_more =
           ap (λ (n : ℕ). n + cond b 1 0) w.count
           ∙ sym (ap length all ∙ length-append (distinct (take g gs)) _ ∙ ap (λ (n : ℕ). length (distinct (take g gs)) + n) (go b))
         where
@@ -125,11 +125,11 @@ module _ (gs : List (List ℕ)) (g : ℕ) (less : g < length gs) where
           go true = refl
           go false = refl
 
-      settled-as : Settled gs (g + 1) (set to g v) (set keep g b) (next + cond b 1 0)
-      settled-as = record {
+      settled_as : Settled gs (g + 1) (set to g v) (set keep g b) (next + cond b 1 0)
+      settled_as = record {
         numbers = number_at;
         kept = kept_more;
-        count = count-more;
+        count = count_more;
         small
             = bytes_set to g v wide low w.small;
       }
@@ -143,22 +143,22 @@ module _ (gs : List (List ℕ)) (g : ℕ) (less : g < length gs) where
       twin : h < g → result false (get_or to h 0)
       unfolding result keep_if
       twin l =
-          settled-as to keep next w wide long false (get_or to h 0) (w.small h)
-          (w.numbers h l ∙ ap (λ (i : ℕ). number_of (get_or gs i []) (distinct gs)) first ∙ sym (number-twin gs g less))
-          (distinct-twin gs g less (omega arith) ∙ sym (append-nil (distinct (take g gs))))
+          settled_as to keep next w wide long false (get_or to h 0) (w.small h)
+          (w.numbers h l ∙ ap (λ (i : ℕ). number_of (get_or gs i []) (distinct gs)) first ∙ sym (number_twin gs g less))
+          (distinct_twin gs g less (omega arith) ∙ sym (append-nil (distinct (take g gs))))
 
       stays : h ≡ g → result true next
       unfolding result keep_if
       stays e =
-          settled-as to keep next w wide long true next few
-          (w.count ∙ sym (number-first gs g less (sym first ∙ e)))
-          (distinct-first gs g less (sym first ∙ e))
+          settled_as to keep next w wide long true next few
+          (w.count ∙ sym (number_first gs g less (sym first ∙ e)))
+          (distinct_first gs g less (sym first ∙ e))
 
-      pub settled-more :
+      pub settled_more :
           Settled gs (g + 1) (set to g (cond (ltb h g) (get_or to h 0) next)) (set keep g (leb g h)) (next + cond (leb g h) 1 0)
       unfolding result
-      settled-more =
+      settled_more =
           ⊎_elim
           (λ e. let k : h ≡ g = first ∙ e in rw (le-ltb h g (omega arith), le-leb g h (omega arith)) (stays k))
           (λ l. let k : h < g = omega arith in rw (lt-ltb h g k, lt-leb g h k) (twin k))
-          (first-or-twin gs g less)
+          (first_or_twin gs g less)

@@ -41,9 +41,9 @@ module _ (n : ℕ) (fits : Bool) where
   rows_many h = or_else_first _ (need_some _ (and_right_false (leb 1 n) (leb n 64) (le-leb 1 n (omega arith)) (lt-leb n 64 h)))
 
   module _ (h : 1 ≤ n) (k : n ≤ 64) where
-    pub rows-slots : fits ≡ false → rows_fault n fits ≡ some (refusal 17 0)
+    pub rows_slots : fits ≡ false → rows_fault n fits ≡ some (refusal 17 0)
     unfolding rows_fault
-    rows-slots d = or_else_next _ (need_none _ (and_true (le-leb 1 n h) (le-leb n 64 k))) ∙ need_some _ d
+    rows_slots d = or_else_next _ (need_none _ (and_true (le-leb 1 n h) (le-leb n 64 k))) ∙ need_some _ d
 
     pub rows_none : fits ≡ true → rows_fault n fits ≡ none
     unfolding rows_fault
@@ -110,7 +110,7 @@ run_faults l = (
   λ e. (
     λ m. fault_own l 0 (eqb m 0) e ∙ rows_few 0 (eqb m 0) (omega arith),
     λ n m h. fault_own l n (eqb m n) e ∙ rows_many n (eqb m n) (omega arith),
-    λ n m h k d. fault_own l n (eqb m n) e ∙ rows-slots n (eqb m n) h k (ne_eqb m n d),
+    λ n m h k d. fault_own l n (eqb m n) e ∙ rows_slots n (eqb m n) h k (ne_eqb m n d),
     λ n h k. fault_own l n (eqb n n) e ∙ rows_none n (eqb n n) h k (eq-eqb n n refl),
   ),
 )
@@ -122,7 +122,7 @@ numbers_faults l = (
   λ e. (
     λ n m h. fault_own l (n / 6) (eqb n (6 * m)) e ∙ rows_few (n / 6) (eqb n (6 * m)) (omega arith),
     λ n m h. fault_own l (n / 6) (eqb n (6 * m)) e ∙ rows_many (n / 6) (eqb n (6 * m)) (omega arith),
-    λ n m h k d. fault_own l (n / 6) (eqb n (6 * m)) e ∙ rows-slots (n / 6) (eqb n (6 * m)) (omega arith) (omega arith) (ne_eqb n (6 * m) d),
+    λ n m h k d. fault_own l (n / 6) (eqb n (6 * m)) e ∙ rows_slots (n / 6) (eqb n (6 * m)) (omega arith) (omega arith) (ne_eqb n (6 * m) d),
     λ m h k. fault_own l (6 * m / 6) (eqb (6 * m) (6 * m)) e ∙ rows_none (6 * m / 6) (eqb (6 * m) (6 * m)) (omega arith) (omega arith) (eq-eqb (6 * m) (6 * m) refl),
   ),
 )

@@ -4,7 +4,7 @@
 use format::Refusal;
 
 // What a run of queries comes to: every row is Permitted, or the number of the first that is not, or the call is refused.
-#[derive(Drop)]
+#[derive(Clone, Copy)]
 pub enum Run {
     Fit,
     Unfit(usize),

@@ -14,7 +14,7 @@ pub use sink::write_all;
 pub use source::{read_between, read_some};
 
 // What a read brought: some bytes, the end of the input, or an error.
-#[derive(Drop)]
+#[derive(Clone, Copy)]
 pub enum Got {
     Bytes(usize),
     Ended,

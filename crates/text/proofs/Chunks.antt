@@ -3,7 +3,7 @@
 --     added_front             the rows are added to what the buffer starts with
 --     built_added             a text is built by adding its rows to the empty policy
 --     added_accepted          what is left is accepted, of bytes, and as long as it was
---     added-behind, added_next   a piece behind another and a line feed: what it does to what the first left, its places further
+--     added_behind, added_next   a piece behind another and a line feed: what it does to what the first left, its places further
 --     added_stops             behind a refused piece nothing is read
 --     added_place             a refusal's place lies within the text
 use Prim.Native.Nat.{ℕ, suc, ◌+◌, ◌≤◌, ◌<◌}
@@ -46,8 +46,8 @@ module _ (b : List ℕ) (e : check_front b ≡ none) where
       (sym (added_front text b e)) (rows_accepted b e by 0 (split 10 text))
 
   module _ (text more : List ℕ) (n : ℕ) (h : (rows_added text b).answer ≡ gives n) where
-    pub added-behind : rows_added (text ++ (10 ∷ more)) b ≡ rows_from (0 + suc (length text)) (split 10 more) (rows_added text b).buffer
-    added-behind =
+    pub added_behind : rows_added (text ++ (10 ∷ more)) b ≡ rows_from (0 + suc (length text)) (split 10 more) (rows_added text b).buffer
+    added_behind =
         let q = added_front text b e in
         added_front (text ++ (10 ∷ more)) b e
         ∙ rows_chain_gives 0 text more b n (sym (ap answer_of q) ∙ h)
@@ -59,7 +59,7 @@ module _ (b : List ℕ) (e : check_front b ≡ none) where
     added_next a =
         let after : List ℕ = (rows_added text b).buffer in
         let place : 0 + suc (length text) ≡ suc (length text) + 0 = omega arith in
-        added-behind
+        added_behind
         ∙ ap (λ (k : ℕ). rows_from k (split 10 more) after) place
         ∙ rows_moved (suc (length text)) 0 (split 10 more) after
         ∙ ap (made_by (suc (length text))) (sym (added_front more after a))

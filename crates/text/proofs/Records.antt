@@ -65,13 +65,13 @@ value_says AnyType w n e =
 value_says Number w n e = record { most = number_most 65535 w n e; short = omega (arith, number_short 65535 w n e (omega arith)) }
 value_says Predicate w n e = record { most = number_most 255 w n e; short = omega (arith, number_short 255 w n e (omega arith)) }
 value_says Condition w n e =
-    or_else_refuses (Says 33 w) _ _ (λ x h. says-named (named_is _ _ w x h) off_short (omega arith))
-    (λ _. or_else_refuses (Says 33 w) _ _ (λ x h. says-named (named_is _ _ w x h) on_short (omega arith))
+    or_else_refuses (Says 33 w) _ _ (λ x h. says_named (named_is _ _ w x h) off_short (omega arith))
+    (λ _. or_else_refuses (Says 33 w) _ _ (λ x h. says_named (named_is _ _ w x h) on_short (omega arith))
     (λ _ x h. record { most = omega (arith, lettered_most _ _ _ w x h); short = lettered_short _ _ _ w x (omega arith) h }))
     n e
   where
-    says-named : {word : List ℕ} {v x : ℕ} → (w ≡ word) × (x ≡ v) → length word ≤ 6 → v ≤ 33 → Says 33 w x
-    says-named q k m = record { most = omega (arith, q.1); short = omega (arith, ap length q.0) }
+    says_named : {word : List ℕ} {v x : ℕ} → (w ≡ word) × (x ≡ v) → length word ≤ 6 → v ≤ 33 → Says 33 w x
+    says_named q k m = record { most = omega (arith, q.1); short = omega (arith, ap length q.0) }
 
 pub value_most_lem : (f : Field) (w : List ℕ) (n : ℕ) → value_of f w ≡ some n → n ≤ value_most f
 value_most_lem f w n e = (value_says f w n e).most

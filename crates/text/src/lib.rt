@@ -5,7 +5,7 @@ use format::Refusal;
 
 // What a word of a row stands for: a member of a group, a type (a basic one or a group), a class or an action, a
 // predicate, a condition.
-#[derive(Drop)]
+#[derive(Clone, Copy)]
 pub enum Field {
     Member,
     AnyType,
@@ -15,7 +15,7 @@ pub enum Field {
 }
 
 // What building from a text answers: the length of the image, or the refusal.
-#[derive(Drop)]
+#[derive(Clone, Copy)]
 pub enum Built {
     Length(usize),
     Refused(Refusal),

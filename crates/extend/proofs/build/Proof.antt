@@ -21,5 +21,5 @@ returns-2 c = let a = c.before.before.before.before.before.before.before.before.
     let m = built_long a.text.now a.buffer.now (omega arith) ∙ ap (rows_from 0 (split 10 a.text.now)) (sym e) in
     record { answer = d.answer ∙ ap (λ (x : Made). x.answer) (sym m); buffer = d.buffer ∙ ap (λ (x : Made). x.buffer) (sym m) }
 
-pub build-spec : {M : Type 1} → statement M
-build-spec = tie.close (tie.spec returns (λ c κs. search rules) add-each-requires (λ c. search rules) returns-2)
+pub build_spec : {M : Type 1} → statement M
+build_spec = tie.close (tie.spec returns (λ c κs. search rules) add-each-requires (λ c. search rules) returns-2)

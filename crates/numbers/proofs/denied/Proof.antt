@@ -11,7 +11,7 @@ returns c = c.parts.ensures ∙ ap nearest_code (sym c.before.enum_told.given.1)
 returns-2 : tie.Need-returns-2
 returns-2 c = c.parts2.ensures ∙ ap nearest_code (sym c.before.before.nearest.given.1)
 
-pub denied-spec : {M : Type 1} → statement M
-denied-spec =
+pub denied_spec : {M : Type 1} → statement M
+denied_spec =
     tie.close
     (tie.spec (λ c. search rules) (λ c κs. search rules) (λ c. search rules) (λ c κs. search rules) returns returns-2)

@@ -18,8 +18,8 @@ returns-3 c = c.parts2.ensures ∙ ap (λ a. decision_code (answer_outcome a)) (
 returns-4 : tie.Need-returns-4
 returns-4 c = c.refused.ensures ∙ ap (λ a. decision_code (answer_outcome a)) (sym c.before.before.answer4.given.1)
 
-pub number-spec : {M : Type 1} → statement M
-number-spec =
+pub number_spec : {M : Type 1} → statement M
+number_spec =
     tie.close
     (tie.spec
     (λ c. search rules)

@@ -21,5 +21,5 @@ returns : tie.Need-returns
 unfolding parts_of
 returns c = omega arith
 
-pub parts-spec : {M : Type 1} → statement M
-parts-spec = tie.close (tie.spec mul-result mul-result-2 add-result add-result-2 returns)
+pub parts_spec : {M : Type 1} → statement M
+parts_spec = tie.close (tie.spec mul-result mul-result-2 add-result add-result-2 returns)

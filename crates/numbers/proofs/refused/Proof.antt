@@ -14,5 +14,5 @@ returns : tie.Need-returns
 unfolding refusal_code
 returns c = c.parts.ensures
 
-pub refused-spec : {M : Type 1} → statement M
-refused-spec = tie.close (tie.spec cast-parts parts-requires returns)
+pub refused_spec : {M : Type 1} → statement M
+refused_spec = tie.close (tie.spec cast-parts parts-requires returns)

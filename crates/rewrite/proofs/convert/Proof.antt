@@ -21,8 +21,8 @@ returns c = converts_refused _ _ _
     (outcome_refused _ _ (sym (ap sections_outcome c.before.f.given.1)
     ∙ c.before.before.before.survey-old.ensures.sections))
 
-pub convert-spec : {M : Type 1} → statement M
-convert-spec =
+pub convert_spec : {M : Type 1} → statement M
+convert_spec =
     tie.close
     (tie.spec
     (λ c κs. search rules)

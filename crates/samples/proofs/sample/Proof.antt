@@ -8,5 +8,5 @@ returns : tie.Need-returns
 unfolding sample
 returns c = refl
 
-pub sample-spec : {M : Type 1} → statement M
-sample-spec = tie.close (tie.spec returns)
+pub sample_spec : {M : Type 1} → statement M
+sample_spec = tie.close (tie.spec returns)

@@ -26,8 +26,8 @@ slice-aggregate-write-image c = sym (length-take-le c.before.before.n.given.0.0 
 write-image-requires : tie.Need-write-image-requires
 write-image-requires c κs = due_ended _ c.before.before.before.before.before.before.before.before.before.before.requires.0 _ (image-at c.before).is
 
-pub conclude-spec : {M : Type 1} → statement M
-conclude-spec =
+pub conclude_spec : {M : Type 1} → statement M
+conclude_spec =
     tie.close
     (tie.spec
     (λ c κs. search rules)

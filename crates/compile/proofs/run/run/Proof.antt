@@ -12,7 +12,7 @@ use Rattle.streams.proofs.Inputs.{bytes_brought}
 use Rattle.compile.specs.Inner.Turn.{reading_of}
 use Rattle.compile.specs.Inner.Due.{Reached}
 use Rattle.compile.proofs.Turns.{turns_fault, turns_on}
-use Rattle.compile.proofs.Reached.{starts_accepted, reached_first, reached_read, read_bytes, reached-next, due_fault, goes_most}
+use Rattle.compile.proofs.Reached.{starts_accepted, reached_first, reached_read, read_bytes, reached_next, due_fault, goes_most}
 use Rattle.compile.proofs.run.run.Statement.{statement}
 use Rattle.compile.proofs.run.run.Tie as tie
 
@@ -67,7 +67,7 @@ loop-again c =
     let long = length-take-le (loop.p.kept + turn.before.before.before.before.n.given.0.0) turn.before.before.before.before.before.before.before.read_between.new.1.1.0 (omega (arith, some)) in
     let goes = turns_on _ _ _ _ _ _ c.before.next.given.1 turn.take-turn.ensures in
     let most = goes_most _ _ _ _ _ goes in
-    (goes.accepted, omega arith, goes.few, omega (arith, most, long, some), omega (arith, most, long, some), omega arith, reached-next _ (reached turn) _ _ (came turn) _ _ _ goes)
+    (goes.accepted, omega arith, goes.few, omega (arith, most, long, some), omega (arith, most, long, some), omega arith, reached_next _ (reached turn) _ _ (came turn) _ _ _ goes)
 
 pub run_spec : {M : Type 1} → statement M
 run_spec =

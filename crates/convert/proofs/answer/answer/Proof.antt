@@ -5,7 +5,7 @@ use mathlib.Core.Path.{sym}
 use Prim.Native.Nat.{◌≤◌}
 use lib.ListN.{length}
 use lib.Seq.{length-take-le}
-use Rattle.convert.proofs.Laws.{due_line, new_fits, due-image}
+use Rattle.convert.proofs.Laws.{due_line, new_fits, due_image}
 use Rattle.convert.proofs.answer.answer.Statement.{statement}
 use Rattle.convert.proofs.answer.answer.Tie as tie
 
@@ -34,10 +34,10 @@ write-image-requires : tie.Need-write-image-requires
 write-image-requires c κs =
     let start = c.before.before.before.before.before.before.before.before.before in
     let made = c.before.before.before.before.before.convert in
-    due-image made.ensures (start.requires.0, omega arith) _ c.before.before.n.given.1 start.requires.1
+    due_image made.ensures (start.requires.0, omega arith) _ c.before.before.n.given.1 start.requires.1
 
-pub answer-spec : {M : Type 1} → statement M
-answer-spec =
+pub answer_spec : {M : Type 1} → statement M
+answer_spec =
     tie.close
     (tie.spec
     (λ c κs. search rules)

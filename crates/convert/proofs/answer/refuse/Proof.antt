@@ -16,8 +16,8 @@ write-line-requires : tie.Need-write-line-requires
 write-line-requires c κs =
     subst DueErrors (sym c.before.before.put-line.ensures.bytes) c.before.before.before.before.requires
 
-pub refuse-spec : {M : Type 1} → statement M
-refuse-spec =
+pub refuse_spec : {M : Type 1} → statement M
+refuse_spec =
     tie.close
     (tie.spec
     (λ c. search rules)

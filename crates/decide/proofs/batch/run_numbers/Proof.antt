@@ -17,7 +17,7 @@ use Rattle.decide.specs.declared.steps.Progress.{Progress}
 use Rattle.decide.specs.Inner.Verdicts.{RowTables}
 use Rattle.decide.specs.Inner.Steps.{Begins, Stepped}
 use Rattle.decide.proofs.VerdictLaws.{kept_fresh}
-use Rattle.decide.proofs.NumberLaws.{fault, codes, out, rows, begun_numbers, row-slot, row-few, row_numbers, row-run, row_code_lem}
+use Rattle.decide.proofs.NumberLaws.{fault, codes, out, rows, begun_numbers, row_slot, row_few, row_numbers, row_run, row_code_lem}
 use Rattle.decide.proofs.batch.run_numbers.Statement.{statement}
 use Rattle.decide.proofs.batch.run_numbers.Tie as tie
 
@@ -63,7 +63,7 @@ decide-row-requires c κs = ((begins c.before.before.before.before.before.before
 mul-answers : tie.Need-overflow-mul-answers invariant-loop decreases-loop
 mul-answers c =
     let a = c.before.before.before.before.before.before.before.before.before in
-    let h = row-few (l a) (ns a) (ys a) c.before.before.before.before.before.before.before.before.loop.i (begun a).rows (begins a).rows c.before.before.before.before.before.before.before.loop-test.true in
+    let h = row_few (l a) (ns a) (ys a) c.before.before.before.before.before.before.before.before.loop.i (begun a).rows (begins a).rows c.before.before.before.before.before.before.before.loop-test.true in
     omega (arith, h)
 
 slice-write-answers : tie.Need-slice-write-answers invariant-loop decreases-loop
@@ -71,7 +71,7 @@ slice-write-answers c =
     let a = c.before.before.before.before.before.before.before.before.before in
     let L = c.before.before.before.before.before.before.before.before.loop in
     let e : length L.answers ≡ length (ys a) = ap length L.invariant.are ∙ length_fill (codes (l a) (ns a) (ys a)) (ys a) L.i in
-    let h = row-slot (l a) (ns a) (ys a) L.i (begun a).rows (begins a).rows c.before.before.before.before.before.before.before.loop-test.true in
+    let h = row_slot (l a) (ns a) (ys a) L.i (begun a).rows (begins a).rows c.before.before.before.before.before.before.before.loop-test.true in
     omega (arith, e, h)
 
 add-i : tie.Need-overflow-add-i invariant-loop decreases-loop
@@ -79,7 +79,7 @@ add-i c =
     let a = c.before.before.before.before.before.before.before.before.before.before in
     let L = c.before.before.before.before.before.before.before.before.before.loop in
     let t = c.before.before.before.before.before.before.before.before.loop-test.true in
-    let h = row-few (l a) (ns a) (ys a) L.i (begun a).rows (begins a).rows t in
+    let h = row_few (l a) (ns a) (ys a) L.i (begun a).rows (begins a).rows t in
     omega (arith, h)
 
 loop-again : tie.Need-loop-preserved invariant-loop decreases-loop
@@ -94,7 +94,7 @@ loop-again c =
     let asked = c.before.before.before.before.before.before.before.row_at_lem.ensures in
     record {
       few = omega (arith, t);
-      ran = row-run (l a) (ns a) (ys a) L.i (begun a).rows (begins a).rows t q s asked z;
+      ran = row_run (l a) (ns a) (ys a) L.i (begun a).rows (begins a).rows t q s asked z;
       are = row_code_lem (l a) (ns a) (ys a) L.i (begun a).rows (begins a).rows t q s asked z c.before.number.result c.before.number.ensures L.answers L.invariant.are;
       kept = r.1;
     }

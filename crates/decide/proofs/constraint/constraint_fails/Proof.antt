@@ -10,8 +10,8 @@ use Rattle.decide.specs.Inner.Parts.{rules_in, constraint_in, request_in, set_in
 use Rattle.decide.specs.Inner.Verdicts.{verdict_of}
 use Rattle.decide.proofs.PartLaws.{constraint_first, constraint_second}
 use Rattle.decide.proofs.KeptLaws.{with_source, with_dest, side_within}
-use Rattle.decide.proofs.VerdictLaws.{front-says, front-adds, written_same}
-use Rattle.decide.proofs.ConstraintLaws.{fails_class, fails-action, fails-first, fails-second, fails-broken}
+use Rattle.decide.proofs.VerdictLaws.{front_says, front_adds, written_same}
+use Rattle.decide.proofs.ConstraintLaws.{fails_class, fails_action, fails_first, fails_second, fails_broken}
 use borrow.Author.Rules.{rules}
 use Rattle.decide.proofs.constraint.constraint_fails.Statement.{statement}
 use Rattle.decide.proofs.constraint.constraint_fails.Tie as tie
@@ -33,7 +33,7 @@ returns : tie.Need-returns
 returns c = let p = c.before.before.before.before.requires in record { is = sym (fails_class _ _ _ p.2.here _ (λ e. c.if1.true (c.before.before.word_in.ensures.0 ∙ e ∙ sym c.before.wide_word.ensures))); kept = (p.1, written_same _ _ _ p.3) }
 
 returns-2 : tie.Need-returns-2
-returns-2 c = let p = c.before.before.before.before.before.before.before.requires in record { is = sym (fails-action _ _ _ p.2.here _ (same_class c.before.before.before) (λ e. c.if2.true (c.before.before.word-in2.ensures.0 ∙ e ∙ sym c.before.wide-word2.ensures))); kept = (p.1, written_same _ _ _ p.3) }
+returns-2 c = let p = c.before.before.before.before.before.before.before.requires in record { is = sym (fails_action _ _ _ p.2.here _ (same_class c.before.before.before) (λ e. c.if2.true (c.before.before.word-in2.ensures.0 ∙ e ∙ sym c.before.wide-word2.ensures))); kept = (p.1, written_same _ _ _ p.3) }
 
 inside-requires : tie.Need-inside-requires
 inside-requires c κs = let p = c.before.before.before.before.before.before.before.before.requires in (p.0.known, constraint_first _ _ _ p.2.here, p.1.source)
@@ -41,7 +41,7 @@ inside-requires c κs = let p = c.before.before.before.before.before.before.befo
 returns-3 : tie.Need-returns-3
 returns-3 c = let p = c.before.before.before.before.before.before.before.before.before.before.requires in
     record {
-      is = sym (fails-first _ _ _ p.2.here _ (same_class c.before.before.before.before.before.before) (same-action c.before.before.before) (first-told c.before ∙ not-true _ c.if3.true));
+      is = sym (fails_first _ _ _ p.2.here _ (same_class c.before.before.before.before.before.before) (same-action c.before.before.before) (first-told c.before ∙ not-true _ c.if3.true));
       kept = (with_source p.1 c.before.inside.ensures.kept, written_same _ _ _ p.3);
     }
 
@@ -53,7 +53,7 @@ returns-4 c = let p = c.before.before.before.before.before.before.before.before.
     record {
       is =
           sym
-          (fails-second _ _ _ p.2.here _ (same_class c.before.before.before.before.before.before.before.before.before) (same-action c.before.before.before.before.before.before) (first-told c.before.before.before.before ∙ not-false _ c.before.before.before.if3.false) (second-told c.before ∙ not-true _ c.if4.true));
+          (fails_second _ _ _ p.2.here _ (same_class c.before.before.before.before.before.before.before.before.before) (same-action c.before.before.before.before.before.before) (first-told c.before.before.before.before ∙ not-false _ c.before.before.before.if3.false) (second-told c.before ∙ not-true _ c.if4.true));
       kept = (with_dest (with_source p.1 c.before.before.before.before.inside.ensures.kept) c.before.inside2.ensures.kept, written_same _ _ _ p.3);
     }
 
@@ -64,13 +64,13 @@ by_place d = let a = d.before.before.before.before.before.before.before.before.b
 -- what is left to the predicate
 by-rules : (d : tie.Else4) → fails (rules_in d.before.before.before.before.before.before.before.before.before.before.before.before.before.args.image.now d.before.before.before.before.before.before.before.before.before.before.before.before.before.args.q.switches) (request_in d.before.before.before.before.before.before.before.before.before.before.before.before.before.args.image.now d.before.before.before.before.before.before.before.before.before.before.before.before.before.args.q) (constraint_in d.before.before.before.before.before.before.before.before.before.before.before.before.before.args.image.now d.before.before.before.before.before.before.before.before.before.before.before.before.before.args.at) ≡ verdict_of d.before.before.before.before.before.before.before.before.before.before.before.before.before.args.image.now d.before.before.before.before.before.before.before.before.before.before.before.before.before.args.q.switches d.before.before.before.before.before.before.before.before.before.before.before.before.before.args.n
 by-rules d =
-    fails-broken _ _ _ d.before.before.before.before.before.before.before.before.before.before.before.before.before.requires.2.here _ (same_class d.before.before.before.before.before.before.before.before.before) (same-action d.before.before.before.before.before.before) (first-told d.before.before.before.before ∙ not-false _ d.before.before.before.if3.false) (second-told d.before ∙ not-false _ d.if4.false)
+    fails_broken _ _ _ d.before.before.before.before.before.before.before.before.before.before.before.before.before.requires.2.here _ (same_class d.before.before.before.before.before.before.before.before.before) (same-action d.before.before.before.before.before.before) (first-told d.before.before.before.before ∙ not-false _ d.before.before.before.if3.false) (second-told d.before ∙ not-false _ d.if4.false)
     ∙ by_place d
 
 returns-5 : tie.Need-returns-5
 returns-5 c = let a = c.before.before.before.before.before.before.before.before.before.before.before.before.before.before.before in
     let d = c.before.before in
-    record { is = front-says _ _ _ a.requires.3 _ a.requires.2.few c.if5.true ∙ sym (by-rules d); kept = (with_dest (with_source a.requires.1 d.before.before.before.before.inside.ensures.kept) d.before.inside2.ensures.kept, written_same _ _ _ a.requires.3) }
+    record { is = front_says _ _ _ a.requires.3 _ a.requires.2.few c.if5.true ∙ sym (by-rules d); kept = (with_dest (with_source a.requires.1 d.before.before.before.before.inside.ensures.kept) d.before.inside2.ensures.kept, written_same _ _ _ a.requires.3) }
 
 returns-6 : tie.Need-returns-6
 returns-6 c = let a = c.before.before.before.before.before.before.before.before.before.before.before.before.before.before.before.before.before.before in
@@ -78,7 +78,7 @@ returns-6 c = let a = c.before.before.before.before.before.before.before.before.
     let e = c.before.before.predicate-broken.ensures ∙ by_place d in
     record {
       is = e ∙ sym (by-rules d);
-      kept = (with_dest (with_source a.requires.1 d.before.before.before.before.inside.ensures.kept) d.before.inside2.ensures.kept, rw c.keep-verdict.ensures (front-adds _ _ _ a.requires.3 _ _ e (omega (arith, c.before.before.before.if5.false))));
+      kept = (with_dest (with_source a.requires.1 d.before.before.before.before.inside.ensures.kept) d.before.inside2.ensures.kept, rw c.keep-verdict.ensures (front_adds _ _ _ a.requires.3 _ _ e (omega (arith, c.before.before.before.if5.false))));
     }
 
 pub constraint-fails-spec : {M : Type 1} → statement M

@@ -15,7 +15,7 @@ use Rattle.decide.specs.Inner.Verdicts.{Written}
 use Rattle.decide.specs.Inner.Rules.{found_of, first_constraint}
 use Rattle.decide.proofs.PartLaws.{ready_constraints}
 use Rattle.decide.proofs.VerdictLaws.{written_same, written_after}
-use Rattle.decide.proofs.WalkLaws.{Turn, FirstOf, walk_start, walk_constraint, first-end, first-hit, first_next, all_constraints}
+use Rattle.decide.proofs.WalkLaws.{Turn, FirstOf, walk_start, walk_constraint, first_end, first_hit, first_next, all_constraints}
 use Rattle.decide.proofs.constraint.first_constraint.Statement.{statement}
 use Rattle.decide.proofs.constraint.first_constraint.Tie as tie
 
@@ -52,7 +52,7 @@ constraint-fails-requires c κs = let d = c.before.before.before in
 returns : tie.Need-returns invariant-loop decreases-loop
 returns c = let d = c.before.before.before.before.before in
     let k = c.before.constraint_fails.ensures in
-    record { is = first-hit _ d.before.loop.invariant.walk (omega arith) (sym k.is ∙ c.if1.true); kept = written_after _ _ _ _ _ d.before.loop.invariant.kept.1 k.kept.1 }
+    record { is = first_hit _ d.before.loop.invariant.walk (omega arith) (sym k.is ∙ c.if1.true); kept = written_after _ _ _ _ _ d.before.loop.invariant.kept.1 k.kept.1 }
 
 shared-slice-read-wide : tie.Need-shared-slice-read-wide invariant-loop decreases-loop
 shared-slice-read-wide c = let h = (here c.before.before.before.before.before.before).here in omega (arith, h.long, h.here.inside)
@@ -66,7 +66,7 @@ loop-again c = let L = c.before.before.before.before.before.before.before.before
     record { walk = first_next _ L.invariant.walk (omega arith) (sym k.is ∙ c.before.before.if1.false) _ (ap (λ x. L.at + x) c.wide.ensures.0); kept = (k.kept.0, written_after _ _ _ _ _ L.invariant.kept.1 k.kept.1) }
 
 returns-2 : tie.Need-returns-2 invariant-loop decreases-loop
-returns-2 c = let I = c.before.loop.invariant in record { is = first-end _ I.walk (λ z. absurd (omega arith)); kept = I.kept.1 }
+returns-2 c = let I = c.before.loop.invariant in record { is = first_end _ I.walk (λ z. absurd (omega arith)); kept = I.kept.1 }
 
 pub first-constraint-spec : {M : Type 1} → statement M
 first-constraint-spec =

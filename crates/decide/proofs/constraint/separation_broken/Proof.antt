@@ -2,7 +2,7 @@
 use borrow.Author.Rules.{rules}
 use mathlib.Core.Path.{◌∙◌}
 use Rattle.decide.specs.Inner.Parts.{constraint_in}
-use Rattle.decide.proofs.ConstraintLaws.{marks-first, marks-second, separation_is}
+use Rattle.decide.proofs.ConstraintLaws.{marks_first, marks_second, separation_is}
 use Rattle.decide.proofs.constraint.separation_broken.Statement.{statement}
 use Rattle.decide.proofs.constraint.separation_broken.Tie as tie
 
@@ -10,8 +10,8 @@ returns : tie.Need-returns
 returns c = let a = c.before.before.before.before.before.before.before.before in
     c.any-shared.ensures
     ∙ separation_is _ (constraint_in a.args.image.now a.args.at) _ _
-    (marks-first _ _ _ a.requires.1 a.requires.0.known.accepted _ c.before.before.before.before.before.mark-at.ensures)
-    (marks-second _ _ _ a.requires.1 a.requires.0.known.accepted _ c.before.before.before.mark-at2.ensures)
+    (marks_first _ _ _ a.requires.1 a.requires.0.known.accepted _ c.before.before.before.before.before.mark-at.ensures)
+    (marks_second _ _ _ a.requires.1 a.requires.0.known.accepted _ c.before.before.before.mark-at2.ensures)
 
 pub separation-broken-spec : {M : Type 1} → statement M
 separation-broken-spec =

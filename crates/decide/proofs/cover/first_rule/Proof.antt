@@ -21,14 +21,14 @@ use Rattle.decide.specs.Inner.Parts.{RuleHere, request_in, rule_in, set_in, set_
 use Rattle.decide.specs.Inner.Marks.{tallied, fully_marked}
 use Rattle.decide.specs.Inner.Kept.{KeptTest, Sides}
 use Rattle.decide.specs.Inner.Rules.{found_of, first_rule}
-use Rattle.decide.proofs.MarkLaws.{walk_small, walk_rest, tally_end, tally-yes, tally-no, hits_on, hits_off}
+use Rattle.decide.proofs.MarkLaws.{walk_small, walk_rest, tally_end, tally_yes, tally_no, hits_on, hits_off}
 use Rattle.decide.proofs.TypeLaws.{span_rising, span_told, type_basic, type_small, set_rising}
 use Rattle.decide.proofs.SetLaws.{hits_full, hits_short, full_within}
 use Rattle.decide.proofs.PartLaws.{ready_rules, rule_source, rule_dest}
 use Rattle.decide.proofs.KeptLaws.{outside_tells, outside_kept, with_source, with_dest, side_within}
-use Rattle.decide.proofs.RuleLaws.{allow-long}
+use Rattle.decide.proofs.RuleLaws.{allow_long}
 use Rattle.decide.proofs.CoverLaws.{covers_no_may, covers_no_dest, covers_no_source, covers_yes, asked_stops}
-use Rattle.decide.proofs.WalkLaws.{Turn, FirstOf, walk_start, walk_rule, first-end, first-hit, first_next, all_rules}
+use Rattle.decide.proofs.WalkLaws.{Turn, FirstOf, walk_start, walk_rule, first_end, first_hit, first_next, all_rules}
 use Rattle.decide.proofs.cover.first_rule.Statement.{statement}
 use Rattle.decide.proofs.cover.first_rule.Tie as tie
 
@@ -130,7 +130,7 @@ rules-holds c = let a = c.before.before in
     }
 
 returns : tie.Need-returns invariant-members decreases-members invariant-rules decreases-rules
-returns c = let I = c.before.rules.invariant in record { is = first-end _ I.walk (λ z. absurd (omega arith)); kept = I.kept }
+returns c = let I = c.before.rules.invariant in record { is = first_end _ I.walk (λ z. absurd (omega arith)); kept = I.kept }
 
 is-allow-requires : tie.Need-is-allow-requires invariant-members decreases-members invariant-rules decreases-rules
 is-allow-requires c κs = at-rule c
@@ -187,15 +187,15 @@ members-again c = let M = c.before.before.before.before.members in
     let e : M.left ≡ suc (M.left - 1) = omega arith in
     let t = c.before.before.word-in3.ensures.0 in
     ⊎_elim
-    (λ w. record { room = omega (arith, I.room); few = omega (arith, I.few, w.1); rising = walk_rest _ _ _ _ e I.rising; hits = hits_on M.hits _ _ I.hits (tally-yes _ _ _ _ _ e _ t w.0.taken) w.1 })
-    (λ w. record { room = omega (arith, I.room); few = omega (arith, I.few, w.1); rising = walk_rest _ _ _ _ e I.rising; hits = hits_off M.hits _ _ I.hits (tally-no _ _ _ _ _ e _ t w.0.left) w.1 })
+    (λ w. record { room = omega (arith, I.room); few = omega (arith, I.few, w.1); rising = walk_rest _ _ _ _ e I.rising; hits = hits_on M.hits _ _ I.hits (tally_yes _ _ _ _ _ e _ t w.0.taken) w.1 })
+    (λ w. record { room = omega (arith, I.room); few = omega (arith, I.few, w.1); rising = walk_rest _ _ _ _ e I.rising; hits = hits_off M.hits _ _ I.hits (tally_no _ _ _ _ _ e _ t w.0.left) w.1 })
     c.if8.branch
 
 keep-outside-requires : tie.Need-keep-outside-requires invariant-members decreases-members invariant-rules decreases-rules
 keep-outside-requires c κs = let d = c.before.before.before.before.before.before.before.before.before.before.before.before.before.before.before.before.before in type_small _ _ _ c.before.before.before.before.before.before.before.before.word-in2.ensures.0 d.before.before.before.before.before.requires.0.known.accepted (here d).dest
 
 past-requires : tie.Need-past-requires invariant-members decreases-members invariant-rules decreases-rules
-past-requires c κs = let d = c.before.before in (here d, λ e. allow-long _ _ _ (here d) (sym d.is-allow.ensures ∙ e))
+past-requires c κs = let d = c.before.before in (here d, λ e. allow_long _ _ _ (here d) (sym d.is-allow.ensures ∙ e))
 
 rules-again : tie.Need-rules-preserved invariant-members decreases-members invariant-rules decreases-rules
 rules-again c = let k = gone c.before in
@@ -210,7 +210,7 @@ returns-2 c = let M = c.before.before in
     let h = here d in
     let m = sym i.before.before.before.before.before.before.may.ensures ∙ i.before.before.before.before.before.if2.true in
     record {
-      is = first-hit _ d.before.before.rules.invariant.walk (omega arith) (covers_yes _ _ _ _ h m (sym (span_told _ _ _ _ s (within _) _ (sym (hits_full _ _ _ a.requires.1.dest.marked _ (span_rising _ _ _ _ s) _ _ M.members.invariant.hits c.if7.true)))) (source_told i ∙ M.before.before.before.before.before.before.if4.true));
+      is = first_hit _ d.before.before.rules.invariant.walk (omega arith) (covers_yes _ _ _ _ h m (sym (span_told _ _ _ _ s (within _) _ (sym (hits_full _ _ _ a.requires.1.dest.marked _ (span_rising _ _ _ _ s) _ _ M.members.invariant.hits c.if7.true)))) (source_told i ∙ M.before.before.before.before.before.before.if4.true));
       kept = with_dest (with_source d.before.before.rules.invariant.kept i.inside.ensures.kept) i.before.before.before.holds-if-asked.ensures.kept;
     }
 

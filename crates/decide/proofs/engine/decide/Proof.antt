@@ -14,5 +14,5 @@ decide-surveyed-requires c κs =
 returns : tie.Need-returns
 returns c = c.decide-surveyed.ensures.is
 
-pub decide-spec : {M : Type 1} → statement M
-decide-spec = tie.close (tie.spec (λ c κs. search rules) decide-surveyed-requires returns)
+pub decide_spec : {M : Type 1} → statement M
+decide_spec = tie.close (tie.spec (λ c κs. search rules) decide-surveyed-requires returns)

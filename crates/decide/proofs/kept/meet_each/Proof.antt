@@ -9,8 +9,8 @@ use lib.ListN.{length}
 use Rattle.format.specs.Inner.Places.{words_at, Rising}
 use Rattle.decide.specs.Inner.Parts.{group_set}
 use Rattle.decide.specs.Inner.Marks.{any_marked}
-use Rattle.decide.proofs.MarkLaws.{walk_small, walk_rest, found_end, found-yes, found-no}
-use Rattle.decide.proofs.TypeLaws.{span_rising, group-number, group-few}
+use Rattle.decide.proofs.MarkLaws.{walk_small, walk_rest, found_end, found_yes, found_no}
+use Rattle.decide.proofs.TypeLaws.{span_rising, group_number, group_few}
 use Rattle.decide.proofs.KeptLaws.{kept_adds}
 use Rattle.decide.proofs.kept.meet_each.Statement.{statement}
 use Rattle.decide.proofs.kept.meet_each.Tie as tie
@@ -26,13 +26,13 @@ decreases-loop image groups at live first second kf ks t g m₀ left₀ a₀ b�
 
 -- a group's number is below 256
 few : (d : tie.Else2 invariant-loop decreases-loop) → d.before.word_in.result - 32768 < 256
-few d = let p = d.before.before.before.before.requires in group-few _ _ _ _ p.0 p.1 d.before.word_in.ensures.0 d.if2.false
+few d = let p = d.before.before.before.before.requires in group_few _ _ _ _ p.0 p.1 d.before.word_in.ensures.0 d.if2.false
 
 element-copy-out-if3 : tie.Need-element-copy-out-if3 invariant-loop decreases-loop
 element-copy-out-if3 c = few c
 
 group-span-requires : tie.Need-group-span-requires invariant-loop decreases-loop
-group-span-requires c κs = let d = c.before.before in let p = d.before.before.before.before.requires in (p.0, group-number _ _ _ _ p.0 p.1 d.before.word_in.ensures.0 d.if2.false)
+group-span-requires c κs = let d = c.before.before in let p = d.before.before.before.before.requires in (p.0, group_number _ _ _ _ p.0 p.1 d.before.word_in.ensures.0 d.if2.false)
 
 loop-holds : tie.Need-loop-init invariant-loop decreases-loop
 loop-holds c = let s = c.group-span.ensures in (s.room, span_rising _ _ _ _ s, ap (any_marked _) (sym s.are), ap (any_marked _) (sym s.are))
@@ -49,8 +49,8 @@ loop-again c = let L = c.before.before.before.before.before.before.loop in
     let x = c.before.before.before.before.word-in2.ensures.0 in (
       omega arith,
       walk_rest _ _ _ _ e L.invariant.1,
-      ⊎_elim (λ w. found-yes _ _ _ _ L.a L.invariant.2 _ e _ x w.0.taken w.1) (λ w. found-no _ _ _ _ L.a L.invariant.2 _ e _ x w.0.left w.1) c.before.before.if4.branch,
-      ⊎_elim (λ w. found-yes _ _ _ _ L.b L.invariant.3 _ e _ x w.0.taken w.1) (λ w. found-no _ _ _ _ L.b L.invariant.3 _ e _ x w.0.left w.1) c.if5.branch,
+      ⊎_elim (λ w. found_yes _ _ _ _ L.a L.invariant.2 _ e _ x w.0.taken w.1) (λ w. found_no _ _ _ _ L.a L.invariant.2 _ e _ x w.0.left w.1) c.before.before.if4.branch,
+      ⊎_elim (λ w. found_yes _ _ _ _ L.b L.invariant.3 _ e _ x w.0.taken w.1) (λ w. found_no _ _ _ _ L.b L.invariant.3 _ e _ x w.0.left w.1) c.if5.branch,
     )
 
 keep-requires : tie.Need-keep-requires invariant-loop decreases-loop

@@ -4,7 +4,7 @@ use Prim.Native.Nat.{suc, ◌+◌, ◌-◌, ◌*◌, ◌≤◌}
 use mathlib.Core.Path.{◌≡◌, refl, sym, ◌∙◌}
 use lib.ListN.{length}
 use Rattle.decide.specs.Inner.Marks.{any_is}
-use Rattle.decide.proofs.MarkLaws.{walk_small, walk_rest, is_end, is-yes, is-no}
+use Rattle.decide.proofs.MarkLaws.{walk_small, walk_rest, is_end, is_yes, is_no}
 use Rattle.decide.proofs.marks.any_is.Statement.{statement}
 use Rattle.decide.proofs.marks.any_is.Tie as tie
 use Rattle.format.specs.Inner.Places.{words_at, Rising}
@@ -22,10 +22,10 @@ element-copy-out-if1 : tie.Need-element-copy-out-if1 invariant-loop decreases-lo
 element-copy-out-if1 c = let L = c.before.before.loop in let e : L.left ≡ suc (L.left - 1) = omega arith in omega (arith, walk_small _ _ _ _ e L.invariant.1, c.word_in.ensures.0)
 
 returns : tie.Need-returns invariant-loop decreases-loop
-returns c = let L = c.before.before.before.before.loop in let e : L.left ≡ suc (L.left - 1) = omega arith in sym (L.invariant.2 ∙ is-yes _ _ _ _ _ e _ c.before.before.word_in.ensures.0 _ c.if1.true)
+returns c = let L = c.before.before.before.before.loop in let e : L.left ≡ suc (L.left - 1) = omega arith in sym (L.invariant.2 ∙ is_yes _ _ _ _ _ e _ c.before.before.word_in.ensures.0 _ c.if1.true)
 
 loop-again : tie.Need-loop-preserved invariant-loop decreases-loop
-loop-again c = let L = c.before.before.before.before.loop in let e : L.left ≡ suc (L.left - 1) = omega arith in (omega arith, walk_rest _ _ _ _ e L.invariant.1, L.invariant.2 ∙ is-no _ _ _ _ _ e _ c.before.before.word_in.ensures.0 _ c.if1.false)
+loop-again c = let L = c.before.before.before.before.loop in let e : L.left ≡ suc (L.left - 1) = omega arith in (omega arith, walk_rest _ _ _ _ e L.invariant.1, L.invariant.2 ∙ is_no _ _ _ _ _ e _ c.before.before.word_in.ensures.0 _ c.if1.false)
 
 returns-2 : tie.Need-returns-2 invariant-loop decreases-loop
 returns-2 c = sym (c.before.loop.invariant.2 ∙ is_end _ _ _ _ _ (omega arith))

@@ -7,7 +7,7 @@ use Rattle.format.specs.Inner.Places.{words_at, Rising}
 use mathlib.Core.Logic.{⊎_elim}
 use lib.Dec.{eqb}
 use Rattle.decide.specs.Inner.Marks.{tallied, fully_marked}
-use Rattle.decide.proofs.MarkLaws.{walk_small, walk_rest, tally_end, tally-yes, tally-no, hits_on, hits_off}
+use Rattle.decide.proofs.MarkLaws.{walk_small, walk_rest, tally_end, tally_yes, tally_no, hits_on, hits_off}
 use Rattle.decide.proofs.marks.fully_marked.Statement.{statement}
 use Rattle.decide.proofs.marks.fully_marked.Tie as tie
 
@@ -26,8 +26,8 @@ element-copy-out-if1 c = let L = c.before.before.loop in let e : L.left ≡ suc 
 loop-again : tie.Need-loop-preserved invariant-loop decreases-loop
 loop-again c = let L = c.before.before.before.before.loop in let e : L.left ≡ suc (L.left - 1) = omega arith in
     ⊎_elim
-    (λ w. (omega arith, walk_rest _ _ _ _ e L.invariant.1, hits_on L.hits _ _ L.invariant.2 (tally-yes _ _ _ _ _ e _ c.before.before.word_in.ensures.0 w.0.taken) w.1, omega arith))
-    (λ w. (omega arith, walk_rest _ _ _ _ e L.invariant.1, hits_off L.hits _ _ L.invariant.2 (tally-no _ _ _ _ _ e _ c.before.before.word_in.ensures.0 w.0.left) w.1, omega arith))
+    (λ w. (omega arith, walk_rest _ _ _ _ e L.invariant.1, hits_on L.hits _ _ L.invariant.2 (tally_yes _ _ _ _ _ e _ c.before.before.word_in.ensures.0 w.0.taken) w.1, omega arith))
+    (λ w. (omega arith, walk_rest _ _ _ _ e L.invariant.1, hits_off L.hits _ _ L.invariant.2 (tally_no _ _ _ _ _ e _ c.before.before.word_in.ensures.0 w.0.left) w.1, omega arith))
     c.if1.branch
 
 returns : tie.Need-returns invariant-loop decreases-loop

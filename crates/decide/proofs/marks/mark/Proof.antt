@@ -4,7 +4,7 @@ use Prim.Native.Nat.{suc, ◌+◌, ◌-◌, ◌*◌, ◌≤◌}
 use mathlib.Core.Path.{◌≡◌, refl, sym, ◌∙◌}
 use lib.ListN.{length}
 use Rattle.decide.specs.Inner.Marks.{mark_all}
-use Rattle.decide.proofs.MarkLaws.{walk_small, walk_rest, mark_end, mark-next}
+use Rattle.decide.proofs.MarkLaws.{walk_small, walk_rest, mark_end, mark_next}
 use lib.ListN.{length-set}
 use Rattle.decide.proofs.marks.mark.Statement.{statement}
 use Rattle.decide.proofs.marks.mark.Tie as tie
@@ -23,7 +23,7 @@ element-write-marks : tie.Need-element-write-marks invariant-loop decreases-loop
 element-write-marks c = let L = c.before.before.loop in let e : L.left ≡ suc (L.left - 1) = omega arith in omega (arith, walk_small _ _ _ _ e L.invariant.1, c.word_in.ensures.0)
 
 loop-again : tie.Need-loop-preserved invariant-loop decreases-loop
-loop-again c = let L = c.before.before.loop in let e : L.left ≡ suc (L.left - 1) = omega arith in (omega arith, walk_rest _ _ _ _ e L.invariant.1, L.invariant.2 ∙ mark-next _ _ _ _ _ e _ c.word_in.ensures.0, simp length-set L.invariant.3)
+loop-again c = let L = c.before.before.loop in let e : L.left ≡ suc (L.left - 1) = omega arith in (omega arith, walk_rest _ _ _ _ e L.invariant.1, L.invariant.2 ∙ mark_next _ _ _ _ _ e _ c.word_in.ensures.0, simp length-set L.invariant.3)
 
 returns : tie.Need-returns invariant-loop decreases-loop
 returns c = sym (c.before.loop.invariant.2 ∙ mark_end _ _ _ _ (omega arith))

@@ -9,7 +9,7 @@ use Rattle.decide.specs.Inner.Kept.{Sides}
 use Rattle.decide.specs.Inner.Nearer.{AtNearest}
 use Rattle.decide.proofs.PartLaws.{ready_rules}
 use Rattle.decide.proofs.WalkLaws.{Turn, walk_rule}
-use Rattle.decide.proofs.NearerLaws.{near_empty, near_start, near_next, near-four, near-end}
+use Rattle.decide.proofs.NearerLaws.{near_empty, near_start, near_next, near_four, near_end}
 use Rattle.decide.proofs.nearest.nearest_rule.Statement.{statement}
 use Rattle.decide.proofs.nearest.nearest_rule.Tie as tie
 
@@ -35,14 +35,14 @@ next-nearer-requires : tie.Need-next-nearer-requires invariant-loop decreases-lo
 next-nearer-requires c κs = let d = c.before.before in let I = d.before.loop.invariant in (d.before.before.before.before.before.requires.0.known, I.walk, I.kept)
 
 returns-2 : tie.Need-returns-2 invariant-loop decreases-loop
-returns-2 c = near-end _ _ _ _ _ _ c.before.before.next-nearer.ensures.0.walk (λ z. absurd (omega (arith, c.if2.true)))
+returns-2 c = near_end _ _ _ _ _ _ c.before.before.next-nearer.ensures.0.walk (λ z. absurd (omega (arith, c.if2.true)))
 
 returns-3 : tie.Need-returns-3 invariant-loop decreases-loop
 returns-3 c =
     let e = c.before.before in
     let x = e.before.before.next-nearer.ensures.0 in
     let more = e.if2.false in
-    near-four _ _ _ _ _ _ x.walk more _ (x.steps more) (x.nearer more) c.if3.true
+    near_four _ _ _ _ _ _ x.walk more _ (x.steps more) (x.nearer more) c.if3.true
 
 past-requires : tie.Need-past-requires invariant-loop decreases-loop
 past-requires c κs =
@@ -64,7 +64,7 @@ loop-again c =
     record { walk = near_next _ _ _ _ _ _ r.0.walk more _ (r.0.steps more) (r.0.nearer more) _ c.before.past.ensures; kept = r.1 }
 
 returns-4 : tie.Need-returns-4 invariant-loop decreases-loop
-returns-4 c = near-end _ _ _ _ _ _ c.before.loop.invariant.walk (λ z. absurd (omega arith))
+returns-4 c = near_end _ _ _ _ _ _ c.before.loop.invariant.walk (λ z. absurd (omega arith))
 
 pub nearest-rule-spec : {M : Type 1} → statement M
 nearest-rule-spec =

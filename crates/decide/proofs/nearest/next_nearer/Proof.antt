@@ -6,8 +6,8 @@ use Rattle.decide.specs.Inner.Parts.{RuleHere}
 use Rattle.decide.specs.Inner.Kept.{Sides}
 use Rattle.decide.specs.Inner.Nearer.{AtNearest}
 use Rattle.decide.proofs.WalkLaws.{Turn, walk_rule}
-use Rattle.decide.proofs.RuleLaws.{allow-long}
-use Rattle.decide.proofs.NearerLaws.{counts_less, counts_more, near-over}
+use Rattle.decide.proofs.RuleLaws.{allow_long}
+use Rattle.decide.proofs.NearerLaws.{counts_less, counts_more, near_over}
 use Rattle.decide.proofs.nearest.next_nearer.Statement.{statement}
 use Rattle.decide.proofs.nearest.next_nearer.Tie as tie
 
@@ -45,14 +45,14 @@ returns c =
     )
 
 past-requires : tie.Need-past-requires invariant-loop decreases-loop
-past-requires c κs = let a = c.before.before.before.before.before in let h = here a.before in (h, λ e. allow-long _ _ _ h (sym a.is-allow.ensures ∙ e))
+past-requires c κs = let a = c.before.before.before.before.before in let h = here a.before in (h, λ e. allow_long _ _ _ h (sym a.is-allow.ensures ∙ e))
 
 loop-again : tie.Need-loop-preserved invariant-loop decreases-loop
 loop-again c =
     let s = c.before.before.before.steps-at.ensures in
     let d = c.before.before.before.before.before.before.before in
     record {
-      walk = near-over _ _ _ _ _ _ d.before.loop.invariant.walk (omega arith) (counts_less _ _ _ s.0 c.before.if1.false) _ c.past.ensures;
+      walk = near_over _ _ _ _ _ _ d.before.loop.invariant.walk (omega arith) (counts_less _ _ _ s.0 c.before.if1.false) _ c.past.ensures;
       kept = (omega (arith, d.before.loop.invariant.kept.0), s.1);
     }
 

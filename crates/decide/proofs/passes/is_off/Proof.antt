@@ -5,8 +5,8 @@ use mathlib.Core.Path.{◌≡◌, sym, ap, ◌∙◌}
 use mathlib.Core.Bool.{true, not}
 use borrow.Author.Tests.{not-true, not-false}
 use Rattle.decide.specs.Inner.Rules.{allow_at}
-use Rattle.decide.proofs.RuleLaws.{allow-long, allow_condition}
-use Rattle.decide.proofs.NearerLaws.{off-no, off-yes}
+use Rattle.decide.proofs.RuleLaws.{allow_long, allow_condition}
+use Rattle.decide.proofs.NearerLaws.{off_no, off_yes}
 use Rattle.decide.proofs.passes.is_off.Statement.{statement}
 use Rattle.decide.proofs.passes.is_off.Tie as tie
 
@@ -15,16 +15,16 @@ allow : (d : tie.Else1) → allow_at d.before.before.args.image.now d.before.bef
 allow d = sym d.before.before.requires.1 ∙ not-false _ d.if1.false
 
 returns : tie.Need-returns
-returns c = sym (off-no _ _ (sym c.before.before.requires.1 ∙ not-true _ c.if1.true) _)
+returns c = sym (off_no _ _ (sym c.before.before.requires.1 ∙ not-true _ c.if1.true) _)
 
 shared-slice-read-is-on : tie.Need-shared-slice-read-is-on
-shared-slice-read-is-on c = let d = c.before in let h = d.before.before.requires.0 in omega (arith, h.here.inside, h.here.size, allow-long _ _ _ h (allow d))
+shared-slice-read-is-on c = let d = c.before in let h = d.before.before.requires.0 in omega (arith, h.here.inside, h.here.size, allow_long _ _ _ h (allow d))
 
 is-on-requires : tie.Need-is-on-requires
 is-on-requires c κs = let d = c.before in allow_condition _ _ _ d.before.before.requires.0 (allow d)
 
 returns-2 : tie.Need-returns-2
-returns-2 c = let d = c.before.before in ap not c.is-on.ensures ∙ sym (off-yes _ _ (allow d) _)
+returns-2 c = let d = c.before.before in ap not c.is-on.ensures ∙ sym (off_yes _ _ (allow d) _)
 
 pub is-off-spec : {M : Type 1} → statement M
 is-off-spec =

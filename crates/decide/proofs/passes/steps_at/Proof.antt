@@ -4,7 +4,7 @@ use mathlib.Core.Path.{refl, sym, ◌∙◌}
 use mathlib.Core.Bool.{false}
 use Rattle.decide.proofs.PartLaws.{rule_source, rule_dest}
 use Rattle.decide.proofs.KeptLaws.{side_within, outside_tells}
-use Rattle.decide.proofs.NearerLaws.{class-says, stops_says, class_stops_lem, off_stops, source_stops, dest_stops, counts_exact, counts_none}
+use Rattle.decide.proofs.NearerLaws.{class_says, stops_says, class_stops_lem, off_stops, source_stops, dest_stops, counts_exact, counts_none}
 use Rattle.decide.proofs.passes.steps_at.Statement.{statement}
 use Rattle.decide.proofs.passes.steps_at.Tie as tie
 
@@ -14,7 +14,7 @@ is-stopped-by-class-requires c κs = let p = c.before.requires in (p.1, p.2)
 returns : tie.Need-returns
 returns c =
     let p = c.before.before.before.requires in
-    let s = class-says _ _ _ _ (sym c.before.is-stopped-by-class.ensures ∙ c.if1.true) in
+    let s = class_says _ _ _ _ (sym c.before.is-stopped-by-class.ensures ∙ c.if1.true) in
     (counts_none _ _ (class_stops_lem _ _ _ _ p.1 _ s.0 s.1), p.3)
 
 add-is-known-to-stop : tie.Need-overflow-add-is-known-to-stop

@@ -8,10 +8,10 @@ use Rattle.decision.specs.Sets.{within}
 use Rattle.decide.specs.Inner.Parts.{set_in, set_at, group_set}
 use Rattle.decide.specs.Inner.Marks.{fully_marked}
 use Rattle.decide.specs.Inner.Nearer.{SourceIn}
-use Rattle.decide.proofs.TypeLaws.{group-number, group-few, group_is}
+use Rattle.decide.proofs.TypeLaws.{group_number, group_few, group_is}
 use Rattle.decide.proofs.PartLaws.{rule_source}
 use Rattle.decide.proofs.KeptLaws.{kept_says, with_source, side_within}
-use Rattle.decide.proofs.NearerLaws.{steps-source}
+use Rattle.decide.proofs.NearerLaws.{steps_source}
 use Rattle.decide.proofs.passes.steps_on.Statement.{statement}
 use Rattle.decide.proofs.passes.steps_on.Tie as tie
 
@@ -53,7 +53,7 @@ inside-requires c κs = let p = c.before.before.before.before.requires in (p.0, 
 returns : tie.Need-returns
 returns c =
     let p = c.before.before.before.before.before.before.requires in
-    record { is = sym (steps-source _ _ _ _ p.1.here p.1.on (basic-told c.before ∙ not-true _ c.if2.true)); kept = with_source p.2 c.before.inside.ensures.kept }
+    record { is = sym (steps_source _ _ _ _ p.1.here p.1.on (basic-told c.before ∙ not-true _ c.if2.true)); kept = with_source p.2 c.before.inside.ensures.kept }
 
 steps-past-source-requires : tie.Need-steps-past-source-requires
 steps-past-source-requires c κs =
@@ -65,7 +65,7 @@ returns-2 : tie.Need-returns-2
 returns-2 c = c.steps-past-source.ensures
 
 element-copy-out-if3 : tie.Need-element-copy-out-if3
-element-copy-out-if3 c = let p = c.before.before.before.requires in group-few _ _ _ _ p.0 (rule_source _ _ _ p.1.here) c.before.word_in.ensures.0 c.if1.false
+element-copy-out-if3 c = let p = c.before.before.before.requires in group_few _ _ _ _ p.0 (rule_source _ _ _ p.1.here) c.before.word_in.ensures.0 c.if1.false
 
 steps-past-source-requires-2 : tie.Need-steps-past-source-requires-2
 steps-past-source-requires-2 c κs =
@@ -80,12 +80,12 @@ find-inside-requires : tie.Need-find-inside-requires
 find-inside-requires c κs =
     let e = c.before.before.before in
     let p = e.before.before.before.requires in
-    (p.0, group-number _ _ _ _ p.0 (rule_source _ _ _ p.1.here) e.before.word_in.ensures.0 e.if1.false, p.2.source)
+    (p.0, group_number _ _ _ _ p.0 (rule_source _ _ _ p.1.here) e.before.word_in.ensures.0 e.if1.false, p.2.source)
 
 returns-4 : tie.Need-returns-4
 returns-4 c =
     let p = c.before.before.before.before.before.before.before.before.requires in
-    record { is = sym (steps-source _ _ _ _ p.1.here p.1.on (found-told c.before ∙ not-true _ c.if4.true)); kept = with_source p.2 c.before.find-inside.ensures.kept }
+    record { is = sym (steps_source _ _ _ _ p.1.here p.1.on (found-told c.before ∙ not-true _ c.if4.true)); kept = with_source p.2 c.before.find-inside.ensures.kept }
 
 steps-past-source-requires-3 : tie.Need-steps-past-source-requires-3
 steps-past-source-requires-3 c κs =

@@ -7,7 +7,7 @@ use Rattle.decision.specs.Sets.{within}
 use Rattle.decide.specs.Inner.Parts.{set_in, set_at}
 use Rattle.decide.proofs.PartLaws.{rule_dest}
 use Rattle.decide.proofs.KeptLaws.{with_dest, side_within}
-use Rattle.decide.proofs.NearerLaws.{steps-dest, steps-class, steps_all}
+use Rattle.decide.proofs.NearerLaws.{steps_dest, steps_class, steps_all}
 use Rattle.decide.proofs.passes.steps_past_source.Statement.{statement}
 use Rattle.decide.proofs.passes.steps_past_source.Tie as tie
 
@@ -24,7 +24,7 @@ inside-requires c κs = let p = c.before.before.requires in (p.0, rule_dest _ _ 
 returns : tie.Need-returns
 returns c =
     let p = c.before.before.before.before.requires in
-    record { is = sym (steps-dest _ _ _ _ p.1.here p.1.on p.3 (dest-told c.before ∙ not-true _ c.if1.true)); kept = with_dest p.2 c.before.inside.ensures.kept }
+    record { is = sym (steps_dest _ _ _ _ p.1.here p.1.on p.3 (dest-told c.before ∙ not-true _ c.if1.true)); kept = with_dest p.2 c.before.inside.ensures.kept }
 
 is-allow-requires : tie.Need-is-allow-requires
 is-allow-requires c κs = c.before.before.before.before.requires.1.here
@@ -37,7 +37,7 @@ returns-2 c =
     let e = c.before.before.before in
     let p = e.before.before.before.before.requires in
     record {
-      is = sym (steps-class _ _ _ _ p.1.here p.1.on p.3 (dest-told e.before ∙ not-false _ e.if1.false) (sym c.before.is-of-other-class.ensures ∙ c.if2.true));
+      is = sym (steps_class _ _ _ _ p.1.here p.1.on p.3 (dest-told e.before ∙ not-false _ e.if1.false) (sym c.before.is-of-other-class.ensures ∙ c.if2.true));
       kept = with_dest p.2 e.before.inside.ensures.kept;
     }
 

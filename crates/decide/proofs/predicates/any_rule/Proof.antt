@@ -15,8 +15,8 @@ use Rattle.decide.specs.Inner.Kept.{KeptReach}
 use Rattle.decide.specs.Inner.Rules.{reaching_from}
 use Rattle.decide.proofs.PartLaws.{ready_rules, rule_source}
 use Rattle.decide.proofs.KeptLaws.{kept_none}
-use Rattle.decide.proofs.RuleLaws.{source_is, reaching_is, not_reaching, reaching_source, live-length}
-use Rattle.decide.proofs.WalkLaws.{Turn, AnyOf, walk_start, walk_rule, any-end, any-hit, any_next, all_rules}
+use Rattle.decide.proofs.RuleLaws.{source_is, reaching_is, not_reaching, reaching_source, live_length}
+use Rattle.decide.proofs.WalkLaws.{Turn, AnyOf, walk_start, walk_rule, any_end, any_hit, any_next, all_rules}
 use Rattle.decide.proofs.predicates.any_rule.Statement.{statement}
 use Rattle.decide.proofs.predicates.any_rule.Tie as tie
 
@@ -56,11 +56,11 @@ meets-requires c κs = let d = c.before.before.before.before.before in (d.before
 
 returns : tie.Need-returns invariant-loop decreases-loop
 returns c = let d = c.before.before.before.before.before.before.before in
-    any-hit _ d.before.loop.invariant.walk (omega arith)
+    any_hit _ d.before.loop.invariant.walk (omega arith)
     (reaching_source _ _ _ (reaching_is _ _ _ _ (here d) _ _ c.before.before.before.before.before.before.is_live.ensures ∙ sym c.before.before.before.before.reaches.ensures.is ∙ c.before.before.before.if1.true) ∙ ap (any_is _ _) (source_is _ _ _ _ (here d)) ∙ sym c.before.meets.ensures.is ∙ c.if2.true)
 
 past-requires : tie.Need-past-requires invariant-loop decreases-loop
-past-requires c κs = let d = c.before.before.before.before in (here d, live-length _ _ _ (here d) _ _ c.before.before.before.is_live.ensures)
+past-requires c κs = let d = c.before.before.before.before in (here d, live_length _ _ _ (here d) _ _ c.before.before.before.is_live.ensures)
 
 loop-again : tie.Need-loop-preserved invariant-loop decreases-loop
 loop-again c = let d = c.before.before.before.before.before in
@@ -77,7 +77,7 @@ loop-again c = let d = c.before.before.before.before.before in
     c.before.if1.branch
 
 returns-2 : tie.Need-returns-2 invariant-loop decreases-loop
-returns-2 c = any-end _ c.before.loop.invariant.walk (λ z. absurd (omega arith))
+returns-2 c = any_end _ c.before.loop.invariant.walk (λ z. absurd (omega arith))
 
 pub any-rule-spec : {M : Type 1} → statement M
 any-rule-spec =

@@ -18,5 +18,5 @@ returns-2 c = let a = c.before.before.before.before in
     let r = c.meets.ensures in
     record { is = r.is ∙ ap (λ b. b && any_marked a.args.reach.now (set_at a.args.image.now (a.args.at + 4))) (sym (not-false a.args.live c.before.before.if1.false)); kept = r.kept }
 
-pub reaches-spec : {M : Type 1} → statement M
-reaches-spec = tie.close (tie.spec returns (λ c. search rules) (λ c κs. search rules) returns-2)
+pub reaches_spec : {M : Type 1} → statement M
+reaches_spec = tie.close (tie.spec returns (λ c. search rules) (λ c κs. search rules) returns-2)

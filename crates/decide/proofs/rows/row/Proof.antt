@@ -19,7 +19,7 @@ returns c =
       rows_after _ _ _ _ c.before.before.before.before.before.recall.ensures _ _ _ r.kept,
     )
 
-pub row-spec : {M : Type 1} → statement M
-row-spec =
+pub row_spec : {M : Type 1} → statement M
+row_spec =
     tie.close
     (tie.spec (λ c κs. search rules) (λ c κs. search rules) decide-surveyed-requires (λ c κs. search rules) returns)

@@ -5,7 +5,7 @@ use mathlib.Core.Path.{◌≡◌, sym, ◌∙◌}
 use mathlib.Core.Bool.{true}
 use borrow.Author.Tests.{not-true, not-false}
 use Rattle.decide.specs.Inner.Rules.{allow_at}
-use Rattle.decide.proofs.RuleLaws.{live_off, live_on, allow-long, allow_condition}
+use Rattle.decide.proofs.RuleLaws.{live_off, live_on, allow_long, allow_condition}
 use Rattle.decide.proofs.rules.is_live.Statement.{statement}
 use Rattle.decide.proofs.rules.is_live.Tie as tie
 
@@ -17,7 +17,7 @@ returns : tie.Need-returns
 returns c = sym (live_off _ _ _ (sym c.before.is_allow.ensures ∙ not-true _ c.if1.true))
 
 shared-slice-read-is-on : tie.Need-shared-slice-read-is-on
-shared-slice-read-is-on c = let d = c.before in let h = d.before.before.before.requires in omega (arith, h.here.inside, h.here.size, allow-long _ _ _ h (allow d))
+shared-slice-read-is-on c = let d = c.before in let h = d.before.before.before.requires in omega (arith, h.here.inside, h.here.size, allow_long _ _ _ h (allow d))
 
 is-on-requires : tie.Need-is-on-requires
 is-on-requires c κs = let d = c.before in let h = d.before.before.before.requires in allow_condition _ _ _ h (allow d)

@@ -19,7 +19,7 @@ add-result-2 c = let h = c.before.before.before.before.requires.0 in omega (arit
 returns-2 : tie.Need-returns-2
 returns-2 c = omega (arith, c.wide.ensures.0)
 
-pub past-spec : {M : Type 1} → statement M
-past-spec =
+pub past_spec : {M : Type 1} → statement M
+past_spec =
     tie.close
     (tie.spec add-result returns shared-slice-read-wide (λ c κs. search rules) add-result-2 returns-2)

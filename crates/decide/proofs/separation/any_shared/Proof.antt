@@ -8,9 +8,9 @@ use Rattle.decide.specs.Inner.Parts.{RuleHere}
 use Rattle.decide.specs.Inner.Sources.{Gathering, AtSource}
 use Rattle.decide.proofs.PartLaws.{ready_rules, rule_dest}
 use Rattle.decide.proofs.KeptLaws.{kept_none}
-use Rattle.decide.proofs.RuleLaws.{live-length}
+use Rattle.decide.proofs.RuleLaws.{live_length}
 use Rattle.decide.proofs.WalkLaws.{Turn, walk_rule}
-use Rattle.decide.proofs.SourceLaws.{joined-rule, marking_none, sources_start, sources_next, sources-end, shared_is}
+use Rattle.decide.proofs.SourceLaws.{joined_rule, marking_none, sources_start, sources_next, sources_end, shared_is}
 use Rattle.decide.proofs.separation.any_shared.Statement.{statement}
 use Rattle.decide.proofs.separation.any_shared.Tie as tie
 
@@ -51,7 +51,7 @@ mark-source-requires-2 : tie.Need-mark-source-requires-2 invariant-loop decrease
 mark-source-requires-2 c κs = let d = c.before.before.before.before.before.before.before.before.before.before.before in (record { known = d.before.before.before.before.requires.known; here = here d }, record { reach = c.before.before.before.before.before.before.before.meet-each.ensures.1; marking = d.before.loop.invariant.kept.1.marking })
 
 past-requires : tie.Need-past-requires invariant-loop decreases-loop
-past-requires c κs = let d = c.before.before.before.before.before.before.before.before.before.before.before.before in (here d, live-length _ _ _ (here d) _ _ c.before.before.before.before.before.before.before.before.before.before.before.is_live.ensures)
+past-requires c κs = let d = c.before.before.before.before.before.before.before.before.before.before.before.before in (here d, live_length _ _ _ (here d) _ _ c.before.before.before.before.before.before.before.before.before.before.before.is_live.ensures)
 
 loop-again : tie.Need-loop-preserved invariant-loop decreases-loop
 loop-again c = let d = c.before.before.before.before.before.before.before.before.before.before.before.before.before in
@@ -61,8 +61,8 @@ loop-again c = let d = c.before.before.before.before.before.before.before.before
     let t = c.before.mark-source2.ensures in
     record {
       walk = (
-        sources_next _ _ _ _ _ _ _ I.walk.0 (omega arith) _ (joined-rule _ _ _ _ _ _ _ (here d) is _ r.0) _ c.past.ensures,
-        sources_next _ _ _ _ _ _ _ I.walk.1 (omega arith) _ (joined-rule _ _ _ _ _ _ _ (here d) is _ t.0) _ c.past.ensures,
+        sources_next _ _ _ _ _ _ _ I.walk.0 (omega arith) _ (joined_rule _ _ _ _ _ _ _ (here d) is _ r.0) _ c.past.ensures,
+        sources_next _ _ _ _ _ _ _ I.walk.1 (omega arith) _ (joined_rule _ _ _ _ _ _ _ (here d) is _ t.0) _ c.past.ensures,
       );
       kept = (r.1, t.1);
     }
@@ -71,8 +71,8 @@ returns : tie.Need-returns invariant-loop decreases-loop
 returns c = let L = c.before.before.before.before.loop in
     c.any-both.ensures
     ∙ shared_is _ _ _ _ L.a L.b L.invariant.kept.0.marking.all
-    (sources-end _ _ _ L.a _ _ _ L.invariant.walk.0 (λ z. absurd (omega arith)))
-    (sources-end _ _ _ L.b _ _ _ L.invariant.walk.1 (λ z. absurd (omega arith)))
+    (sources_end _ _ _ L.a _ _ _ L.invariant.walk.0 (λ z. absurd (omega arith)))
+    (sources_end _ _ _ L.b _ _ _ L.invariant.walk.1 (λ z. absurd (omega arith)))
 
 pub any-shared-spec : {M : Type 1} → statement M
 any-shared-spec =

@@ -23,8 +23,8 @@ returns-5 c = next_is _ _ _ _ _ c.before.run.given.1 refl
 returns-6 : tie.Need-returns-6
 returns-6 c = next_is _ _ _ _ _ c.before.run2.given.1 refl
 
-pub next-spec : {M : Type 1} → statement M
-next-spec =
+pub next_spec : {M : Type 1} → statement M
+next_spec =
     tie.close
     (tie.spec
     (λ c. search rules)

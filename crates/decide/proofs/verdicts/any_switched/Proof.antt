@@ -8,9 +8,9 @@ use Rattle.format.proofs.ByCase.{count_rules}
 use Rattle.decide.specs.Inner.Parts.{RuleHere}
 use Rattle.decide.specs.Inner.Verdicts.{names_switch, any_named}
 use Rattle.decide.proofs.PartLaws.{ready_rules}
-use Rattle.decide.proofs.RuleLaws.{allow-long}
+use Rattle.decide.proofs.RuleLaws.{allow_long}
 use Rattle.decide.proofs.VerdictLaws.{any_named_lem}
-use Rattle.decide.proofs.WalkLaws.{AnyOf, walk_start, walk_rule, any-end, any-hit, any_next}
+use Rattle.decide.proofs.WalkLaws.{AnyOf, walk_start, walk_rule, any_end, any_hit, any_next}
 use Rattle.decide.proofs.verdicts.any_switched.Statement.{statement}
 use Rattle.decide.proofs.verdicts.any_switched.Tie as tie
 
@@ -37,17 +37,17 @@ is-switched-requires : tie.Need-is-switched-requires invariant-loop decreases-lo
 is-switched-requires c κs = (here c.before, c.is-allow.ensures)
 
 returns : tie.Need-returns invariant-loop decreases-loop
-returns c = let d = c.before.before.before in any-hit _ d.before.loop.invariant (omega arith) (sym c.before.is-switched.ensures ∙ c.if1.true)
+returns c = let d = c.before.before.before in any_hit _ d.before.loop.invariant (omega arith) (sym c.before.is-switched.ensures ∙ c.if1.true)
 
 past-requires : tie.Need-past-requires invariant-loop decreases-loop
-past-requires c κs = let d = c.before.before.before in (here d, λ e. allow-long _ _ _ (here d) (sym c.before.before.is_allow.ensures ∙ e))
+past-requires c κs = let d = c.before.before.before in (here d, λ e. allow_long _ _ _ (here d) (sym c.before.before.is_allow.ensures ∙ e))
 
 loop-again : tie.Need-loop-preserved invariant-loop decreases-loop
 loop-again c = let d = c.before.before.before.before in
     any_next _ d.before.loop.invariant (omega arith) (sym c.before.before.is-switched.ensures ∙ c.before.if1.false) _ c.past.ensures
 
 returns-2 : tie.Need-returns-2 invariant-loop decreases-loop
-returns-2 c = any-end _ c.before.loop.invariant (λ z. absurd (omega arith))
+returns-2 c = any_end _ c.before.loop.invariant (λ z. absurd (omega arith))
 
 pub any-switched-spec : {M : Type 1} → statement M
 any-switched-spec =

@@ -5,7 +5,7 @@ use mathlib.Core.Path.{◌≡◌, sym, ◌∙◌}
 use mathlib.Core.Bool.{true}
 use borrow.Author.Tests.{not-true, not-false}
 use Rattle.decide.specs.Inner.Rules.{allow_at}
-use Rattle.decide.proofs.RuleLaws.{allow-long}
+use Rattle.decide.proofs.RuleLaws.{allow_long}
 use Rattle.decide.proofs.VerdictLaws.{names_not, names_allow}
 use Rattle.decide.proofs.verdicts.is_switched.Statement.{statement}
 use Rattle.decide.proofs.verdicts.is_switched.Tie as tie
@@ -18,10 +18,10 @@ returns : tie.Need-returns
 returns c = sym (names_not _ _ _ c.before.requires.0 (sym c.before.requires.1 ∙ not-true _ c.if1.true))
 
 shared-slice-read-result : tie.Need-shared-slice-read-result
-shared-slice-read-result c = let d = c.before in let h = d.before.requires.0 in omega (arith, h.here.inside, h.here.size, allow-long _ _ _ h (allow d))
+shared-slice-read-result c = let d = c.before in let h = d.before.requires.0 in omega (arith, h.here.inside, h.here.size, allow_long _ _ _ h (allow d))
 
 returns-2 : tie.Need-returns-2
-returns-2 c = let d = c.before in let h = d.before.requires.0 in sym (names_allow _ _ _ h (allow d) (allow-long _ _ _ h (allow d)))
+returns-2 c = let d = c.before in let h = d.before.requires.0 in sym (names_allow _ _ _ h (allow d) (allow_long _ _ _ h (allow d)))
 
 pub is-switched-spec : {M : Type 1} → statement M
 is-switched-spec = tie.close (tie.spec returns (λ c. search rules) shared-slice-read-result returns-2)

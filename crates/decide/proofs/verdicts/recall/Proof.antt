@@ -18,6 +18,6 @@ returns c =
     let p = c.before.before.before.requires in
     recalled_refused _ _ _ (refused_not _ _ (outcome_refused _ _ (sym (ap sections_outcome c.enum_told.given.1) ∙ p.0.sections)))
 
-pub recall-spec : {M : Type 1} → statement M
-recall-spec =
+pub recall_spec : {M : Type 1} → statement M
+recall_spec =
     tie.close (tie.spec (λ c. search rules) (λ c. search rules) recall-at-requires returns (λ c. search rules))

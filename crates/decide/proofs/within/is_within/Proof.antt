@@ -4,7 +4,7 @@ use borrow.Author.Rules.{rules}
 use mathlib.Core.Path.{sym, subst, ◌∙◌}
 use Rattle.format.specs.Claims.{IsType}
 use Rattle.decide.proofs.TypeLaws.{type_group}
-use Rattle.decide.proofs.WithinLaws.{basic_full, first-apart, last_apart}
+use Rattle.decide.proofs.WithinLaws.{basic_full, first_apart, last_apart}
 use Rattle.decide.proofs.within.is_within.Statement.{statement}
 use Rattle.decide.proofs.within.is_within.Tie as tie
 
@@ -18,7 +18,7 @@ returns-2 : tie.Need-returns-2
 returns-2 c =
     let e = c.before.before.before.before in
     let p = e.before.before.before.requires in
-    first-apart _ _ _ _ _ _ p.3 p.1 _ e.before.wide_word.ensures e.if1.false _ _ c.before.before.before.group-span.ensures
+    first_apart _ _ _ _ _ _ p.3 p.1 _ e.before.wide_word.ensures e.if1.false _ _ c.before.before.before.group-span.ensures
     (omega (arith, c.if2.true, c.before.before.word_in.ensures.0, c.before.word-in2.ensures.0))
 
 returns-3 : tie.Need-returns-3

@@ -21,5 +21,5 @@ returns-4 : tie.Need-returns-4
 unfolding constraint
 returns-4 c = rw (form_constraint c.before.args.kind (λ e. absurd (omega (arith, e))) (λ e. absurd (omega (arith, e))) (λ e. absurd (omega (arith, e))))
 
-pub fewest-spec : {M : Type 1} → statement M
-fewest-spec = tie.close (tie.spec returns returns-2 returns-3 returns-4)
+pub fewest_spec : {M : Type 1} → statement M
+fewest_spec = tie.close (tie.spec returns returns-2 returns-3 returns-4)

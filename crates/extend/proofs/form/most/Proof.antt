@@ -22,5 +22,5 @@ returns-4 : tie.Need-returns-4
 unfolding fields_in constraint
 returns-4 c = rw (form_constraint c.before.args.kind (λ e. absurd (omega (arith, e))) (λ e. absurd (omega (arith, e))) (λ e. absurd (omega (arith, e))))
 
-pub most-spec : {M : Type 1} → statement M
-most-spec = tie.close (tie.spec returns returns-2 returns-3 returns-4)
+pub most_spec : {M : Type 1} → statement M
+most_spec = tie.close (tie.spec returns returns-2 returns-3 returns-4)

@@ -10,7 +10,7 @@ use Rattle.format.specs.Format.{count_of}
 use Rattle.format.specs.Policy.{policy_of, place_of}
 use Rattle.format.specs.Twins.{same_bytes, listed}
 use Rattle.format.proofs.ByCase.{count_groups}
-use Rattle.extend.proofs.PlanLaws.{group-byte, group-end, group-part-at, group_next, groups_start, listed_here, listed-on, listed_end}
+use Rattle.extend.proofs.PlanLaws.{group_byte, group_end, group_part_at, group_next, groups_start, listed_here, listed_on, listed_end}
 use borrow.Author.Rules.{rules}
 use Rattle.extend.proofs.plan.is_listed.Statement.{statement}
 use Rattle.extend.proofs.plan.is_listed.Tie as tie
@@ -45,7 +45,7 @@ own t = omega (arith, t.before.loop.invariant.1)
 byte_inside : tie.Need-shared-slice-read-wide invariant-loop decreases-loop
 byte_inside c =
     let t = c.before.before in
-    omega (arith, t.loop.invariant.2, group-byte (l t) [] (start t).requires t.loop.k (own c.before))
+    omega (arith, t.loop.invariant.2, group_byte (l t) [] (start t).requires t.loop.k (own c.before))
 
 size_is : (d : tie.After-wide invariant-loop decreases-loop) → d.wide.result ≡ get_or (l (turn d)) (place_of (l (turn d)) Groups (turn d).loop.k) 0
 size_is d = d.wide.ensures.0 ∙ ap (λ i. get_or (l (turn d)) i 0) (turn d).loop.invariant.2
@@ -53,7 +53,7 @@ size_is d = d.wide.ensures.0 ∙ ap (λ i. get_or (l (turn d)) i 0) (turn d).loo
 inside : (d : tie.After-wide invariant-loop decreases-loop) → (turn d).loop.at + d.wide.result ≤ length (l (turn d))
 inside d =
     let t = turn d in
-    omega (arith, t.loop.inv.2, size_is d, group-end (l t) [] (start t).pre t.loop.k (own d.before.before))
+    omega (arith, t.loop.inv.2, size_is d, group_end (l t) [] (start t).pre t.loop.k (own d.before.before))
 
 -- the records that are compared
 compared :
@@ -65,7 +65,7 @@ compared d =
     let t = turn w in
     d.same-record.ensures
     ∙ ap (same_bytes (start t).args.part.now)
-    (group-part-at (l t) [] (start t).pre t.loop.k (own w.before.before) _ _ t.loop.inv.2 (size_is w))
+    (group_part_at (l t) [] (start t).pre t.loop.k (own w.before.before) _ _ t.loop.inv.2 (size_is w))
 
 returns : tie.Need-returns invariant-loop decreases-loop
 returns c =
@@ -81,7 +81,7 @@ loop-again c =
       t.loop.inv.1,
       group_next (l t) t.loop.k _ _ t.loop.inv.2 (size_is w),
       rw (add-one t.loop.k)
-          (t.loop.inv.3 ∙ listed-on (l t) _ (start t).pre t.loop.k (own w.before.before) (sym (compared c.before) ∙ c.if1.false)),
+          (t.loop.inv.3 ∙ listed_on (l t) _ (start t).pre t.loop.k (own w.before.before) (sym (compared c.before) ∙ c.if1.false)),
     )
 
 returns-2 : tie.Need-returns-2 invariant-loop decreases-loop

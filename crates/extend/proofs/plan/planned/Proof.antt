@@ -24,8 +24,8 @@ returns-2 : tie.Need-returns-2
 unfolding add_fault
 returns-2 c = c.own-causes.ensures ∙ ap (λ f. outcome f (slot_of c.before.before.before.before.before.before.before.args.buffer.now c.before.before.before.before.before.before.before.args.part.now)) (sym (or_else_next _ (front_none c.before.before).0))
 
-pub planned-spec : {M : Type 1} → statement M
-planned-spec =
+pub planned_spec : {M : Type 1} → statement M
+planned_spec =
     tie.close
     (tie.spec
     (λ c κs. search rules)

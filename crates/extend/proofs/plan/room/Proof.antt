@@ -13,7 +13,7 @@ use Rattle.format.specs.Check.{read_of, image_in}
 use Rattle.format.proofs.ByCase.{count_at, count_groups}
 use Rattle.format.proofs.Front.{front_fits}
 use Rattle.extension.specs.Add.{added_twin}
-use Rattle.extend.proofs.PlanLaws.{own_malformed, own_field, own-twin, own-full, own-short, own_none, slot_made}
+use Rattle.extend.proofs.PlanLaws.{own_malformed, own_field, own_twin, own_full, own_short, own_none, slot_made}
 use borrow.Author.Rules.{rules}
 use Rattle.extend.proofs.plan.room.Statement.{statement}
 use Rattle.extend.proofs.plan.room.Tie as tie
@@ -64,7 +64,7 @@ returns : tie.Need-returns
 returns c =
     let w = c.before.before.before in
     let s = start (reads w) in
-    rw (c.refused3.ensures, own-twin _ _ _ s.pre.1 s.pre.2 _ (whole w) (sym c.before.before.is-twin.ensures ∙ c.before.if1.true))
+    rw (c.refused3.ensures, own_twin _ _ _ s.pre.1 s.pre.2 _ (whole w) (sym c.before.before.is-twin.ensures ∙ c.before.if1.true))
 
 returns-2 : tie.Need-returns-2
 returns-2 c =
@@ -73,7 +73,7 @@ returns-2 c =
     let s = from d in
     rw (
       c.refused4.ensures,
-      own-full _ _ _ s.pre.1 s.pre.2 _ (whole (wholly d)) (fresh d)
+      own_full _ _ _ s.pre.1 s.pre.2 _ (whole (wholly d)) (fresh d)
           (omega (arith, counted n, c.before.before.limit-of.ensures, c.before.if2.true)),
     )
 
@@ -87,7 +87,7 @@ returns-3 c =
     let s = from d in
     rw (
       c.refused5.ensures,
-      own-short _ _ _ s.pre.1 s.pre.2 _ (whole (wholly d)) (fresh d) (few e)
+      own_short _ _ _ s.pre.1 s.pre.2 _ (whole (wholly d)) (fresh d) (few e)
           (omega (arith, front_fits _ s.pre.0, c.before.before.word-at3.ensures.0, c.before.if3.true)),
     )
 
@@ -112,8 +112,8 @@ returns-6 c =
     (own_none _ _ _ s.pre.1 s.pre.2 _ (whole (wholly d)) (fresh d) (few e)
     (omega (arith, front_fits _ s.pre.0, c.before.word-at3.ensures.0, c.if3.false)))
 
-pub room-spec : {M : Type 1} → statement M
-room-spec =
+pub room_spec : {M : Type 1} → statement M
+room_spec =
     tie.close
     (tie.spec
     (λ c κs. search rules)

@@ -15,5 +15,5 @@ returns-2 : tie.Need-returns-2
 unfolding closed_row
 returns-2 c = rw (le-ltb c.before.before.args.words (length (form_of c.before.before.args.kind).fields) (omega (arith, c.before.fewest.ensures)))
 
-pub closed-spec : {M : Type 1} → statement M
-closed-spec = tie.close (tie.spec (λ c κs. search rules) returns returns-2)
+pub closed_spec : {M : Type 1} → statement M
+closed_spec = tie.close (tie.spec (λ c κs. search rules) returns returns-2)

@@ -8,7 +8,7 @@ use Rattle.text.specs.Inner.Parts.{run_of}
 use Rattle.text.specs.Inner.Read.{row_of}
 use Rattle.extend.specs.Inner.Filled.{form_of, fields_in, fields_from, closed_row, Fills}
 use Rattle.extend.proofs.FormLaws.{fields_few}
-use Rattle.extend.proofs.RowLaws.{bytes_few, fill_past, fill-outside, Spelled, spelled, not_spelled, Filling, filling-on, row_on, filled, not_filled, filling_start}
+use Rattle.extend.proofs.RowLaws.{bytes_few, fill_past, fill_outside, Spelled, spelled, not_spelled, Filling, filling_on, row_on, filled, not_filled, filling_start}
 use Rattle.extend.proofs.row.fill.Statement.{statement}
 use Rattle.extend.proofs.row.fill.Tie as tie
 
@@ -58,7 +58,7 @@ returns c = let l = c.before.before.loop in let a = c.before.before.before.befor
 returns-2 : tie.Need-returns-2 invariant-loop decreases-loop
 returns-2 c = let l = c.before.before.before.before.before.before.loop in let a = c.before.before.before.before.before.before.before.before.before.args in
     not_filled a.kind a.text.now a.from l.start l.part refl
-    (fill-outside _ a.kind l.i (drop 2 (take l.at l.part)) (drop l.start a.text.now) l.invariant.4 (omega (arith, c.before.before.before.before.before.most.ensures))
+    (fill_outside _ a.kind l.i (drop 2 (take l.at l.part)) (drop l.start a.text.now) l.invariant.4 (omega (arith, c.before.before.before.before.before.most.ensures))
     c.before.before.before.field_at.result c.before.before.before.field_at.ensures
     (not_spelled _ a.text.now l.start c.before.before.value.result c.before.before.value.ensures c.if2.true))
 
@@ -78,7 +78,7 @@ loop-again c = let d = c.before.before.before.before.before in let l = d.before.
   (place-few d).2,
   (place-few d).1,
   same-part d,
-  filling-on _ a.kind l.i a.text.now l.part d.put.new.0 l.start l.at d.put.result d.before.before.before.before.before.field_at.result d.before.before.before.before.value.result
+  filling_on _ a.kind l.i a.text.now l.part d.put.new.0 l.start l.at d.put.result d.before.before.before.before.before.field_at.result d.before.before.before.before.value.result
       l.invariant.4 (word-few d) d.before.before.before.before.before.field_at.ensures (word_is d) (omega arith) (omega arith) (omega (arith, (place-few d).0, l.invariant.3)) d.put.ensures.0 (omega arith) c.if4.false,
   l.invariant.5 ∙ row_on _ a.kind l.i a.text.now l.part d.put.new.0 l.start l.at d.put.result d.before.before.before.before.before.field_at.result d.before.before.before.before.value.result
       l.invariant.4 (word-few d) d.before.before.before.before.before.field_at.ensures (word_is d) (omega arith) (omega arith) (omega (arith, (place-few d).0, l.invariant.3)) d.put.ensures.0 (omega arith) c.if4.false,

@@ -3,7 +3,7 @@ use native.Mathlib.Omega.{arith}
 use mathlib.Core.Path.{sym, ◌∙◌}
 use lib.ListN.{length-set}
 use borrow.Author.Rules.{rules}
-use Rattle.extend.proofs.RowLaws.{record_unknown, record_alone, record-outside, record-made}
+use Rattle.extend.proofs.RowLaws.{record_unknown, record_alone, record_outside, record_made}
 use Rattle.extend.proofs.row.record_at.Statement.{statement}
 use Rattle.extend.proofs.row.record_at.Tie as tie
 
@@ -21,11 +21,11 @@ returns-3 c = let d = c.before.before.before.before.before.before in let a = d.b
 
 returns-4 : tie.Need-returns-4
 returns-4 c = let d = c.before.before.before.before.before.before.before.before.before.before.before.before in let a = d.before.before.before.args in
-    record-outside a.text.now a.at d.word-end.result (omega arith) d.word-end.ensures.0 (λ x. c.before.before.before.before.before.before.before.before.before.if1.false (c.before.before.before.before.before.before.before.before.before.before.kind_of_lem.ensures ∙ x)) (omega (arith, c.before.before.before.before.before.before.before.before.if2.false)) c.before.before.before.before.before.before.if3.false c.before.before.before.before.fill.result c.before.before.before.before.fill.new.1.1.1.0 (rw (sym c.before.before.before.before.before.before.before.before.before.before.kind_of_lem.ensures) c.before.before.before.before.fill.ensures) c.if4.true
+    record_outside a.text.now a.at d.word-end.result (omega arith) d.word-end.ensures.0 (λ x. c.before.before.before.before.before.before.before.before.before.if1.false (c.before.before.before.before.before.before.before.before.before.before.kind_of_lem.ensures ∙ x)) (omega (arith, c.before.before.before.before.before.before.before.before.if2.false)) c.before.before.before.before.before.before.if3.false c.before.before.before.before.fill.result c.before.before.before.before.fill.new.1.1.1.0 (rw (sym c.before.before.before.before.before.before.before.before.before.before.kind_of_lem.ensures) c.before.before.before.before.fill.ensures) c.if4.true
 
 returns-5 : tie.Need-returns-5
 returns-5 c = let d = c.before.before.before.before.before.before.before.before.before.before.before.before.before in let a = d.before.before.before.args in
-    rw c.before.before.before.before.before.before.before.before.before.before.before.kind_of_lem.ensures (record-made a.text.now a.at d.word-end.result (omega arith) d.word-end.ensures.0 (λ x. c.before.before.before.before.before.before.before.before.before.before.if1.false (c.before.before.before.before.before.before.before.before.before.before.before.kind_of_lem.ensures ∙ x)) (omega (arith, c.before.before.before.before.before.before.before.before.before.if2.false)) c.before.before.before.before.before.before.before.if3.false c.before.before.before.before.before.fill.result c.before.before.before.before.before.fill.new.1.1.1.0 (rw (sym c.before.before.before.before.before.before.before.before.before.before.before.kind_of_lem.ensures) c.before.before.before.before.before.fill.ensures) c.low.result c.low.ensures c.before.if4.false (omega (arith, c.before.before.before.before.before.fill.auto.1.1.1.0)))
+    rw c.before.before.before.before.before.before.before.before.before.before.before.kind_of_lem.ensures (record_made a.text.now a.at d.word-end.result (omega arith) d.word-end.ensures.0 (λ x. c.before.before.before.before.before.before.before.before.before.before.if1.false (c.before.before.before.before.before.before.before.before.before.before.before.kind_of_lem.ensures ∙ x)) (omega (arith, c.before.before.before.before.before.before.before.before.before.if2.false)) c.before.before.before.before.before.before.before.if3.false c.before.before.before.before.before.fill.result c.before.before.before.before.before.fill.new.1.1.1.0 (rw (sym c.before.before.before.before.before.before.before.before.before.before.before.kind_of_lem.ensures) c.before.before.before.before.before.fill.ensures) c.low.result c.low.ensures c.before.if4.false (omega (arith, c.before.before.before.before.before.fill.auto.1.1.1.0)))
 
 pub record-at-spec : {M : Type 1} → statement M
 record-at-spec =

@@ -13,7 +13,7 @@ use Rattle.format.specs.Answers.{gives, starts}
 use Rattle.text.specs.declared.Built.{Built}
 use Rattle.text.specs.Build.{Made, built_outcome}
 use Rattle.extend.specs.Inner.Grow.{AddsEach}
-use Rattle.extend.proofs.RowsLaws.{From, rows_past, rows_feed, rows-outside, rows-refused, rows-starts, rows-ahead, rows_added_lem}
+use Rattle.extend.proofs.RowsLaws.{From, rows_past, rows_feed, rows_outside, rows_refused, rows_starts, rows_ahead, rows_added_lem}
 use Rattle.extend.proofs.rows.add_each.Statement.{statement}
 use Rattle.extend.proofs.rows.add_each.Tie as tie
 
@@ -38,24 +38,24 @@ loop-again c = let l = c.before.before.before.loop in let a = c.before.before.be
 
 returns : tie.Need-returns invariant-loop decreases-loop
 returns c = let d = c.before.before.record-at in let l = c.before.before.before.before.before.before.before.loop in let a = c.before.before.before.before.before.before.before.before.before.before.args in
-    adds (l.invariant.2 ∙ rows-outside a.text.now l.at l.buffer (omega arith) c.before.before.before.before.if1.false d.result d.new.1.1.0 d.ensures c.if2.true) refl refl
+    adds (l.invariant.2 ∙ rows_outside a.text.now l.at l.buffer (omega arith) c.before.before.before.before.if1.false d.result d.new.1.1.0 d.ensures c.if2.true) refl refl
 
 returns-2 : tie.Need-returns-2 invariant-loop decreases-loop
 returns-2 c = let g = c.before.before.before.before.before.grow in let d = c.before.before.before.before.before.before.before.before.before.before.record-at in let l = c.before.before.before.before.before.before.before.before.before.before.before.before.before.before.before.loop in let a = c.before.before.before.before.before.before.before.before.before.before.before.before.before.before.before.before.before.before.args in
-    adds (l.invariant.2 ∙ rows-refused a.text.now l.at l.buffer (omega arith) c.before.before.before.before.before.before.before.before.before.before.before.before.if1.false d.result d.new.1.1.0 d.ensures c.before.before.before.before.before.before.before.before.if2.false c.before.f.given.1 g.ensures) refl refl
+    adds (l.invariant.2 ∙ rows_refused a.text.now l.at l.buffer (omega arith) c.before.before.before.before.before.before.before.before.before.before.before.before.if1.false d.result d.new.1.1.0 d.ensures c.before.before.before.before.before.before.before.before.if2.false c.before.f.given.1 g.ensures) refl refl
 
 loop-less-2 : tie.Need-loop-smaller-2 invariant-loop decreases-loop
 loop-less-2 c = let g = c.before.before.before.before.before.grow in let d = c.before.before.before.before.before.before.before.before.before.before.record-at in let l = c.before.before.before.before.before.before.before.before.before.before.before.before.before.before.before.loop in let a = c.before.before.before.before.before.before.before.before.before.before.before.before.before.before.before.before.before.before.args in
-    let h = rows-ahead a.text.now l.at l.buffer (omega arith) c.before.before.before.before.before.before.before.before.before.before.before.before.if1.false d.result d.new.1.1.0 d.ensures c.before.before.before.before.before.before.before.before.if2.false c.before.s.given.1 g.ensures in
+    let h = rows_ahead a.text.now l.at l.buffer (omega arith) c.before.before.before.before.before.before.before.before.before.before.before.before.if1.false d.result d.new.1.1.0 d.ensures c.before.before.before.before.before.before.before.before.if2.false c.before.s.given.1 g.ensures in
     omega (arith, h.0, h.1)
 
 loop-again-2 : tie.Need-loop-preserved-2 invariant-loop decreases-loop
 loop-again-2 c = let g = c.before.before.before.before.before.grow in let d = c.before.before.before.before.before.before.before.before.before.before.record-at in let l = c.before.before.before.before.before.before.before.before.before.before.before.before.before.before.before.loop in let a = c.before.before.before.before.before.before.before.before.before.before.before.before.before.before.before.before.before.before.args in (
-  (rows-ahead a.text.now l.at l.buffer (omega arith) c.before.before.before.before.before.before.before.before.before.before.before.before.if1.false d.result d.new.1.1.0 d.ensures c.before.before.before.before.before.before.before.before.if2.false c.before.s.given.1 g.ensures).1,
+  (rows_ahead a.text.now l.at l.buffer (omega arith) c.before.before.before.before.before.before.before.before.before.before.before.before.if1.false d.result d.new.1.1.0 d.ensures c.before.before.before.before.before.before.before.before.if2.false c.before.s.given.1 g.ensures).1,
   g.auto.0 ∙ l.invariant.1,
   l.invariant.2 ∙ rows_added_lem a.text.now l.at l.buffer (omega arith) c.before.before.before.before.before.before.before.before.before.before.before.before.if1.false d.result d.new.1.1.0 d.ensures c.before.before.before.before.before.before.before.before.if2.false c.before.s.given.1 g.ensures,
   g.ensures.accepted,
-  rows-starts a.text.now l.at l.buffer (omega arith) c.before.before.before.before.before.before.before.before.before.before.before.before.if1.false d.result d.new.1.1.0 d.ensures c.before.before.before.before.before.before.before.before.if2.false c.before.s.given.1 g.ensures,
+  rows_starts a.text.now l.at l.buffer (omega arith) c.before.before.before.before.before.before.before.before.before.before.before.before.if1.false d.result d.new.1.1.0 d.ensures c.before.before.before.before.before.before.before.before.if2.false c.before.s.given.1 g.ensures,
   omega (arith, d.auto.1.1.0, l.invariant.5),
 )
 

@@ -17,5 +17,5 @@ returns-3 : tie.Need-returns-3
 unfolding moved_starts
 returns-3 c = let f = c.before.before.args.field in rw (ne_eqb f 3 c.before.if1.false, ne_eqb f 5 c.if2.false)
 
-pub moved-spec : {M : Type 1} → statement M
-moved-spec = tie.close (tie.spec (λ c. omega arith) (λ c. omega arith) returns (λ c. omega arith) returns-2 returns-3)
+pub moved_spec : {M : Type 1} → statement M
+moved_spec = tie.close (tie.spec (λ c. omega arith) (λ c. omega arith) returns (λ c. omega arith) returns-2 returns-3)

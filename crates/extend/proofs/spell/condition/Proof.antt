@@ -3,7 +3,7 @@ use native.Mathlib.Omega.{arith}
 use borrow.Author.Rules.{rules}
 use mathlib.Core.Path.{sym, ◌∙◌}
 use Rattle.text.specs.Words.{ascii}
-use Rattle.extend.proofs.WordLaws.{condition_empty, condition_switch, says_off, says_on, says-neither}
+use Rattle.extend.proofs.WordLaws.{condition_empty, condition_switch, says_off, says_on, says_neither}
 use Rattle.extend.proofs.spell.condition.Statement.{statement}
 use Rattle.extend.proofs.spell.condition.Tie as tie
 
@@ -30,11 +30,11 @@ returns-5 : tie.Need-returns-5
 unfolding ascii
 returns-5 c = let e = c.before.before.before.before in let d = e.before.before.before.before in
     let a = d.before.before.before.before.before.args in
-    says-neither a.text.now a.from d.word-end.result d.word-end.ensures.0 (sym e.before.same.ensures ∙ e.if3.false)
+    says_neither a.text.now a.from d.word-end.result d.word-end.ensures.0 (sym e.before.same.ensures ∙ e.if3.false)
     (sym c.before.same2.ensures ∙ c.if4.false) d.before.if2.false
 
-pub condition-spec : {M : Type 1} → statement M
-condition-spec =
+pub condition_spec : {M : Type 1} → statement M
+condition_spec =
     tie.close
     (tie.spec
     returns

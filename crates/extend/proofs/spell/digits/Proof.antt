@@ -66,8 +66,8 @@ returns-6 : tie.Need-returns-6 invariant-loop decreases-loop
 returns-6 c = let l = c.before in let text = l.before.before.args.text.now in
     number-here text _ _ l.loop.i l.loop.n (omega arith) (omega arith) (word_none text l.loop.i (omega arith)) l.loop.invariant.3 l.loop.invariant.4
 
-pub digits-spec : {M : Type 1} → statement M
-digits-spec =
+pub digits_spec : {M : Type 1} → statement M
+digits_spec =
     tie.close
     (tie.spec
     invariant-loop

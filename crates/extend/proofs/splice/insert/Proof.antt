@@ -26,8 +26,8 @@ returns c =
     a.requires.within a.requires.room moved.shift-up.ensures (room moved) copied.ensures.1
     c.before.before.before.before.before.before.before.put_word_lem.ensures c.before.before.put-word2.ensures
 
-pub insert-spec : {M : Type 1} → statement M
-insert-spec =
+pub insert_spec : {M : Type 1} → statement M
+insert_spec =
     tie.close
     (tie.spec
     (λ c κs. search rules)

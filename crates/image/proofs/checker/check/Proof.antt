@@ -12,5 +12,5 @@ returns c = sym (outcome_refused _ _ (sym (ap sections_outcome c.before.f.given.
 returns-2 : tie.Need-returns-2
 returns-2 c = sym (outcome_gives _ _ (sym (ap sections_outcome c.enum_told.given.1) ∙ c.before.before.layout.ensures)).0
 
-pub check-spec : {M : Type 1} → statement M
-check-spec = tie.close (tie.spec (λ c κs. search rules) (λ c. search rules) (λ c. search rules) returns returns-2)
+pub check_spec : {M : Type 1} → statement M
+check_spec = tie.close (tie.spec (λ c κs. search rules) (λ c. search rules) (λ c. search rules) returns returns-2)

@@ -12,8 +12,8 @@ use Rattle.format.proofs.ByCase.{count_groups, count_rules, count_constraints}
 use Rattle.image.specs.declared.checker.Walked.{Walked}
 use Rattle.image.specs.declared.checker.Walked.TheVariants.{To}
 use Rattle.image.specs.Inner.Walk.{walk_of, noted_from, noted}
-use Rattle.image.proofs.BodyLaws.{walk_inside, groups_fit, rules-fit, constraints-fit}
-use Rattle.image.proofs.BodyLaws.{groups_stop, rules-stop, constraints-stop, body_ends}
+use Rattle.image.proofs.BodyLaws.{walk_inside, groups_fit, rules_fit, constraints_fit}
+use Rattle.image.proofs.BodyLaws.{groups_stop, rules_stop, constraints_stop, body_ends}
 use borrow.Author.Rules.{rules}
 use Rattle.image.proofs.checker.check_body.Statement.{statement}
 use Rattle.image.proofs.checker.check_body.Tie as tie
@@ -103,7 +103,7 @@ walk-on-requires c κs =
     record {
       groups = counted (walked g).before.before;
       inside = walk_inside _ _ _ _ _ (long d) e;
-      fits = rules-fit _ _ e d.pre _ (c.word-in2.ensures.0 ∙ sym (count_rules _));
+      fits = rules_fit _ _ e d.pre _ (c.word-in2.ensures.0 ∙ sym (count_rules _));
     }
 
 walk-on-requires-2 : tie.Need-walk-on-requires-2
@@ -116,7 +116,7 @@ walk-on-requires-2 c κs =
     record {
       groups = counted (walked g).before.before;
       inside = walk_inside _ _ _ _ _ (walk_inside _ _ _ _ _ (long d) e) f;
-      fits = constraints-fit _ _ e _ f d.pre _ (c.word-in3.ensures.0 ∙ sym (count_constraints _));
+      fits = constraints_fit _ _ e _ f d.pre _ (c.word-in3.ensures.0 ∙ sym (count_constraints _));
     }
 
 returns : tie.Need-returns
@@ -128,7 +128,7 @@ returns-2 : tie.Need-returns-2
 returns-2 c =
     let d = c.before.before.before in
     let g = groups-end d in
-    record { sections = rw (rules-stop _ _ (groups-to g) _ (second d _ c.before.f2.given.1)); table = table (walked g) }
+    record { sections = rw (rules_stop _ _ (groups-to g) _ (second d _ c.before.f2.given.1)); table = table (walked g) }
 
 returns-3 : tie.Need-returns-3
 returns-3 c =
@@ -136,7 +136,7 @@ returns-3 c =
     let r = rules-end d in
     let g = groups-end (walked_on r) in
     record {
-      sections = rw (constraints-stop _ _ (groups-to g) _ (rules-to r) _ (third d _ c.before.f3.given.1));
+      sections = rw (constraints_stop _ _ (groups-to g) _ (rules-to r) _ (third d _ c.before.f3.given.1));
       table = table (walked g);
     }
 

@@ -22,8 +22,8 @@ returns c =
     let l = d.before.before.before.args.image.now in
     c.before.check-all.ensures.sections ∙ ap (λ f. outcome f (starts l)) (check_few l (few d))
 
-pub layout-spec : {M : Type 1} → statement M
-layout-spec =
+pub layout_spec : {M : Type 1} → statement M
+layout_spec =
     tie.close
     (tie.spec
     (λ c κs. search rules)

@@ -9,5 +9,5 @@ use Rattle.image.proofs.checker.note.Tie as tie
 returns-2 : tie.Need-returns-2
 returns-2 c = sym (set_out _ _ _ (omega arith))
 
-pub note-spec : {M : Type 1} → statement M
-note-spec = tie.close (tie.spec (λ c. search rules) (λ c. search rules) (λ c. search rules) (λ c. search rules) returns-2)
+pub note_spec : {M : Type 1} → statement M
+note_spec = tie.close (tie.spec (λ c. search rules) (λ c. search rules) (λ c. search rules) (λ c. search rules) returns-2)

@@ -4,7 +4,7 @@ use lib.ListN.{length}
 use Rattle.format.specs.Twins.{twin_fault}
 use Rattle.format.specs.Check.{LaidOut}
 use Rattle.format.specs.Answers.{outcome, sections_outcome, starts}
-use Rattle.image.proofs.SurveyLaws.{checks_refused, checks_laid, checks-groups, checks-placed, check_refused, check_twin}
+use Rattle.image.proofs.SurveyLaws.{checks_refused, checks_laid, checks_groups, checks_placed, check_refused, check_twin}
 use borrow.Author.Rules.{rules}
 use Rattle.image.proofs.checker.survey.Statement.{statement}
 use Rattle.image.proofs.checker.survey.Tie as tie
@@ -25,13 +25,13 @@ laid d = checks_laid _ _ _ _ (checked d).check-all.ensures _ (sym (ap sections_o
 check-twins-requires : tie.Need-check-twins-requires
 check-twins-requires c κs =
     let d = c.before.before in
-    checks-placed _ _ _ _ (checked d).check-all.ensures (table-long (checked d)) (laid d).0
+    checks_placed _ _ _ _ (checked d).check-all.ensures (table-long (checked d)) (laid d).0
 
 returns : tie.Need-returns
 returns c =
     let d = c.before.before.before in
     let e = checks_refused _ _ _ _ d.check-all.ensures _ (sym (ap sections_outcome c.before.f.given.1)) in
-    record { sections = check_refused _ _ e; groups = checks-groups _ _ _ _ d.check-all.ensures (table-long d) }
+    record { sections = check_refused _ _ e; groups = checks_groups _ _ _ _ d.check-all.ensures (table-long d) }
 
 returns-2 : tie.Need-returns-2
 returns-2 c =
@@ -42,11 +42,11 @@ returns-2 c =
           c.check-twins.ensures
           ∙ ap (outcome (twin_fault (start k).args.image.now)) (laid d).1
           ∙ check_twin _ (laid d).0;
-      groups = checks-groups _ _ _ _ k.check-all.ensures (table-long k);
+      groups = checks_groups _ _ _ _ k.check-all.ensures (table-long k);
     }
 
-pub survey-spec : {M : Type 1} → statement M
-survey-spec =
+pub survey_spec : {M : Type 1} → statement M
+survey_spec =
     tie.close
     (tie.spec
     (λ c κs. search rules)

@@ -11,7 +11,7 @@ use Rattle.format.specs.Answers.{gives, sections_outcome, starts}
 use Rattle.format.proofs.ByCase.{count_groups}
 use Rattle.format.proofs.Accepted.{laid_header}
 use Rattle.image.proofs.AlikeLaws.{placed_as}
-use Rattle.image.proofs.SurveyLaws.{checks_refused, checks_laid, checks-groups, checks-placed, alike_refused, alike_filled}
+use Rattle.image.proofs.SurveyLaws.{checks_refused, checks_laid, checks_groups, checks_placed, alike_refused, alike_filled}
 use borrow.Author.Rules.{rules}
 use Rattle.image.proofs.checker.survey_old.Statement.{statement}
 use Rattle.image.proofs.checker.survey_old.Tie as tie
@@ -42,7 +42,7 @@ fill-alike-requires : tie.Need-fill-alike-requires
 fill-alike-requires c κs =
     let w = c.before.before in
     let d = w.before.before in
-    let placed = checks-placed _ _ _ _ (checked d).check-all.ensures (table-long (checked d)) (laid d).0 in
+    let placed = checks_placed _ _ _ _ (checked d).check-all.ensures (table-long (checked d)) (laid d).0 in
     (placed_as _ _ _ (count_is w) placed, omega (arith, c.fill-alike-arg2.given.0.1))
 
 returns : tie.Need-returns
@@ -51,7 +51,7 @@ returns c =
     let e = checks_refused _ _ _ _ d.check-all.ensures _ (sym (ap sections_outcome c.before.f.given.1)) in
     record {
       sections = rw e;
-      groups = checks-groups _ _ _ _ d.check-all.ensures (table-long d);
+      groups = checks_groups _ _ _ _ d.check-all.ensures (table-long d);
       alike = λ g. alike_refused _ _ e g _;
     }
 
@@ -62,7 +62,7 @@ returns-2 c =
     let k = checked d in
     record {
       sections = ap gives (laid d).1 ∙ rw (laid d).0;
-      groups = checks-groups _ _ _ _ k.check-all.ensures (table-long k);
+      groups = checks_groups _ _ _ _ k.check-all.ensures (table-long k);
       alike = alike_filled _ _ _ (laid d).0 (rw (count_is w) at c.fill-alike.ensures);
     }
 

@@ -13,8 +13,8 @@ use Rattle.format.specs.Format.{count_of}
 use Rattle.format.specs.Check.{read_of}
 use Rattle.image.specs.Inner.Walk.{walk_of, noted_from, Fits}
 use Rattle.image.proofs.WalkLaws.{part_from, part_length, part_next, whole_inside, bad_inside}
-use Rattle.image.proofs.WalkLaws.{walk_end, walk-whole, walk-malformed, walk_field, fits-here, fits_whole}
-use Rattle.image.proofs.WalkLaws.{note-end, note-whole, note-malformed, note-field}
+use Rattle.image.proofs.WalkLaws.{walk_end, walk_whole, walk_malformed, walk_field, fits_here, fits_whole}
+use Rattle.image.proofs.WalkLaws.{note_end, note_whole, note_malformed, note_field}
 use borrow.Author.Rules.{rules}
 use Rattle.image.proofs.checker.walk.Statement.{statement}
 use Rattle.image.proofs.checker.walk.Tie as tie
@@ -103,10 +103,10 @@ record-inside c =
     omega (arith, part_length (l t) _ t.loop.at t.loop.inv.6, whole_inside (l t) _ t.loop.at _ (whole c.before))
 
 narrow-requires : tie.Need-narrow-requires invariant-loop decreases-loop
-narrow-requires c κs = omega (arith, fits-here _ _ _ _ (fits c.before.before))
+narrow-requires c κs = omega (arith, fits_here _ _ _ _ (fits c.before.before))
 
 add_at : tie.Need-overflow-add-at invariant-loop decreases-loop
-add_at c = omega (arith, c.narrow.ensures, fits-here _ _ _ _ (fits c.before.before.before))
+add_at c = omega (arith, c.narrow.ensures, fits_here _ _ _ _ (fits c.before.before.before))
 
 same_length : tie.Need-same-length invariant-loop decreases-loop
 same_length c = kept c.before.before.before
@@ -116,8 +116,8 @@ returns c =
     let d = c.before.before.before in
     let e = sym (read d) ∙ c.before.enum_told.given.1 in
     record {
-      comes = rw c.wide-word2.ensures.0 (sym ((turn d).loop.invariant.3 ∙ walk-malformed _ _ _ _ (omega arith) e));
-      table = table d ∙ sym ((turn d).loop.invariant.4 ∙ note-malformed _ _ _ _ _ _ (omega arith) e);
+      comes = rw c.wide-word2.ensures.0 (sym ((turn d).loop.invariant.3 ∙ walk_malformed _ _ _ _ (omega arith) e));
+      table = table d ∙ sym ((turn d).loop.invariant.4 ∙ note_malformed _ _ _ _ _ _ (omega arith) e);
     }
 
 add-place : tie.Need-overflow-add-t28 invariant-loop decreases-loop
@@ -134,7 +134,7 @@ returns-2 c =
     let e = bad c.before.before in
     record {
       comes = rw c.wide-word3.ensures.0 (sym ((turn d).loop.invariant.3 ∙ walk_field _ _ _ _ _ (omega arith) e));
-      table = table d ∙ sym ((turn d).loop.invariant.4 ∙ note-field _ _ _ _ _ _ _ (omega arith) e);
+      table = table d ∙ sym ((turn d).loop.invariant.4 ∙ note_field _ _ _ _ _ _ _ (omega arith) e);
     }
 
 loop-again : tie.Need-loop-preserved invariant-loop decreases-loop
@@ -146,8 +146,8 @@ loop-again c =
       omega arith,
       omega (arith, whole_inside _ _ t.at _ e),
       kept d,
-      t.inv.3 ∙ walk-whole _ _ _ _ _ _ (omega arith) e,
-      rw (table d) (t.inv.4 ∙ note-whole _ _ _ _ _ _ _ _ (omega arith) e),
+      t.inv.3 ∙ walk_whole _ _ _ _ _ _ (omega arith) e,
+      rw (table d) (t.inv.4 ∙ note_whole _ _ _ _ _ _ _ _ (omega arith) e),
       fits c.before.before.before,
       part_next (l (turn d)) _ t.at _ t.inv.6,
     )
@@ -159,11 +159,11 @@ returns-3 : tie.Need-returns-3 invariant-loop decreases-loop
 returns-3 c =
     record {
       comes = sym (c.before.loop.invariant.3 ∙ walk_end _ _ _ _ (omega arith));
-      table = sym (c.before.loop.invariant.4 ∙ note-end _ _ _ _ _ _ (omega arith));
+      table = sym (c.before.loop.invariant.4 ∙ note_end _ _ _ _ _ _ (omega arith));
     }
 
-pub walk-spec : {M : Type 1} → statement M
-walk-spec =
+pub walk_spec : {M : Type 1} → statement M
+walk_spec =
     tie.close
     (tie.spec
     invariant-loop

@@ -4,7 +4,7 @@ use Prim.Native.Nat.{◌≤◌, ◌%◌}
 use mathlib.Core.Path.{◌≡◌, refl}
 use borrow.Author.Tests.{ltb-true}
 use Rattle.format.proofs.Tests.{false_not_true}
-use Rattle.image.proofs.FieldLaws.{Good, good_last, good-before, good-group}
+use Rattle.image.proofs.FieldLaws.{Good, good_last, good_before, good_group}
 use Rattle.image.proofs.fields.rises.Statement.{statement}
 use Rattle.image.proofs.fields.rises.Tie as tie
 
@@ -34,20 +34,20 @@ returns-3 c e = false_not_true e
 
 loop-again : tie.Need-loop-preserved invariant-loop decreases-loop
 loop-again c =
-    let g = good-before _ _ _ c.before.before.before.before.before.loop.invariant.2 _ _ (omega arith) c.before.before.before.pair-in2.ensures.0 (omega arith) in
-    (omega arith, omega arith, good-before _ _ _ g _ _ (omega arith) c.before.pair-in3.ensures.0 (omega arith))
+    let g = good_before _ _ _ c.before.before.before.before.before.loop.invariant.2 _ _ (omega arith) c.before.before.before.pair-in2.ensures.0 (omega arith) in
+    (omega arith, omega arith, good_before _ _ _ g _ _ (omega arith) c.before.pair-in3.ensures.0 (omega arith))
 
 returns-4 : tie.Need-returns-4 invariant-loop decreases-loop
 returns-4 c e =
     let L = c.before.before.before.loop in
-    let g = good-before _ _ _ L.invariant.2 2 _ (omega arith) c.pair-in4.ensures.0 (ltb-true c.pair-in4.result L.next e) in
-    good-group _ _ _ g refl
+    let g = good_before _ _ _ L.invariant.2 2 _ (omega arith) c.pair-in4.ensures.0 (ltb-true c.pair-in4.result L.next e) in
+    good_group _ _ _ g refl
 
 returns-5 : tie.Need-returns-5 invariant-loop decreases-loop
-returns-5 c e = good-group _ _ _ c.before.before.loop.invariant.2 (omega arith)
+returns-5 c e = good_group _ _ _ c.before.before.loop.invariant.2 (omega arith)
 
-pub rises-spec : {M : Type 1} → statement M
-rises-spec =
+pub rises_spec : {M : Type 1} → statement M
+rises_spec =
     tie.close
     (tie.spec
     invariant-loop

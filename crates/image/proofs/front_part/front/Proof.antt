@@ -10,5 +10,5 @@ use Rattle.image.proofs.front_part.front.Tie as tie
 returns : tie.Need-returns
 returns c = c.layout.ensures ∙ ap (λ l. outcome (check l) (starts l)) c.before.leading.ensures.bytes ∙ front_outcome _
 
-pub front-spec : {M : Type 1} → statement M
-front-spec = tie.close (tie.spec (λ c κs. search rules) (λ c κs. search rules) returns)
+pub front_spec : {M : Type 1} → statement M
+front_spec = tie.close (tie.spec (λ c κs. search rules) (λ c κs. search rules) returns)

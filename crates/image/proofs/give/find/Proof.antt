@@ -10,7 +10,7 @@ use Rattle.format.specs.Answers.{sections_outcome, starts}
 use Rattle.format.proofs.Chain.{outcome_gives, outcome_refused}
 use Rattle.format.proofs.Accepted.{accepted_header}
 use Rattle.image.specs.Inner.Walk.{start_in}
-use Rattle.image.proofs.BodyLaws.{start_in_lem, start_fits, give_refused, give-past, place_byte, extent-is, hops}
+use Rattle.image.proofs.BodyLaws.{start_in_lem, start_fits, give_refused, give_past, place_byte, extent_is, hops}
 use borrow.Author.Rules.{rules}
 use Rattle.image.proofs.give.find.Statement.{statement}
 use Rattle.image.proofs.give.find.Tie as tie
@@ -64,7 +64,7 @@ returns : tie.Need-returns
 returns c =
     let d = c.before.before.before in
     let a = (start d).args in
-    rw (give-past a.image.now a.section a.n (accepted d).0 (omega (arith, c.before.count-in.ensures)))
+    rw (give_past a.image.now a.section a.n (accepted d).0 (omega (arith, c.before.count-in.ensures)))
 
 narrow-requires : tie.Need-narrow-requires
 narrow-requires c κs = omega (arith, started c, start_fits _ (accepted (told c.before)).0 (begun c).args.section)
@@ -88,7 +88,7 @@ returns-2 c =
 returns-3 : tie.Need-returns-3
 returns-3 c =
     let d = (found c.before.before).before in
-    extent-is _ _ _ (accepted (told d)).0 (counted d) _ _ (placed c.before.before) c.wide.ensures.0
+    extent_is _ _ _ (accepted (told d)).0 (counted d) _ _ (placed c.before.before) c.wide.ensures.0
 
 pub find_spec : {M : Type 1} → statement M
 find_spec =

@@ -46,8 +46,8 @@ returns-2 c = let q = found c.before.before.before in
       stands = λ _. ap (λ x. x.place) q.1;
     }
 
-pub record-spec : {M : Type 1} → statement M
-record-spec =
+pub record_spec : {M : Type 1} → statement M
+record_spec =
     tie.close
     (tie.spec
     (λ c κs. search rules)

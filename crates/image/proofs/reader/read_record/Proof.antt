@@ -1,6 +1,6 @@
 -- `read_record` meets its contract: a law for each way that it goes. Assumes nothing.
 use native.Mathlib.Omega.{arith}
-use Rattle.image.proofs.ReaderLaws.{read_tiny, read_past, read_kind, read_length, whole_size, whole-kind, read-fields, least-group, least-allow, least-transition, rest-constraint, least-constraint}
+use Rattle.image.proofs.ReaderLaws.{read_tiny, read_past, read_kind, read_length, whole_size, whole_kind, read_fields_lem, least_group, least_allow, least_transition, rest_constraint, least_constraint}
 use mathlib.Core.Path.{◌≡◌, refl, sym, ◌∙◌}
 use mathlib.Core.Option.{Option}
 use mathlib.Core.List.{List}
@@ -41,13 +41,13 @@ found d =
     d.before.before.before.before.before.before.before.before.before.before.args.groups (part d)
 
 kind_of_lem : (d : tie.Else4) (k : ℕ) → get_or (part d) 1 0 ≡ k → get_or (take (size d) (part d)) 1 0 ≡ k
-kind_of_lem d k e = whole-kind _ d.before.before.before.before.before.before.before.before.before.before.args.groups _ _ (size_is d) (fits d) (kind_is d) (ok d) ∙ e
+kind_of_lem d k e = whole_kind _ d.before.before.before.before.before.before.before.before.before.before.args.groups _ _ (size_is d) (fits d) (kind_is d) (ok d) ∙ e
 
 by-fields :
     (d : tie.Else4) (r : Read) (f : Option ℕ) → r ≡ read_fields f (length (take (size d) (part d)))
     → bad_field d.before.before.before.before.before.before.before.before.before.before.args.groups (take (size d) (part d)) ≡ f
     → r ≡ found d
-by-fields d r f e b = e ∙ sym (read-fields _ _ _ _ (size_is d) (fits d) (kind_is d) (ok d) f b)
+by-fields d r f e b = e ∙ sym (read_fields_lem _ _ _ _ (size_is d) (fits d) (kind_is d) (ok d) f b)
 
 four : (d : tie.At-match-rest) → get_or (part d.before.before) 1 0 ≡ 4
 four d =
@@ -56,7 +56,7 @@ four d =
     let one : k ≡ 1 → ⊥ = omega arith in
     let two : k ≡ 2 → ⊥ = omega arith in
     let three : k ≡ 3 → ⊥ = omega arith in
-    rest-constraint _ e.before.before.before.before.before.before.before.before.before.before.args.groups (part e) (size e) (size_is e) (fits e) (kind_is e) (ok e) one two three
+    rest_constraint _ e.before.before.before.before.before.before.before.before.before.before.args.groups (part e) (size e) (size_is e) (fits e) (kind_is e) (ok e) one two three
 
 returns : tie.Need-returns
 returns c = sym (read_tiny _ _ _ _ refl c.if1.true)
@@ -74,16 +74,16 @@ slice-aggregate-whole : tie.Need-slice-aggregate-whole
 slice-aggregate-whole c = let d = c.before in sym (whole_size _ d.before.before.before.before.before.before.before.before.before.before.args.groups _ _ (size_is d) (fits d) (kind_is d) (ok d))
 
 group-fields-requires : tie.Need-group-fields-requires
-group-fields-requires c κs = let d = c.before.before in least-group _ d.before.before.before.before.before.before.before.before.before.before.args.groups _ _ (size_is d) (fits d) (kind_is d) (ok d) c.match.keys1
+group-fields-requires c κs = let d = c.before.before in least_group _ d.before.before.before.before.before.before.before.before.before.before.args.groups _ _ (size_is d) (fits d) (kind_is d) (ok d) c.match.keys1
 
 allow-fields-requires : tie.Need-allow-fields-requires
-allow-fields-requires c κs = let d = c.before.before in least-allow _ d.before.before.before.before.before.before.before.before.before.before.args.groups _ _ (size_is d) (fits d) (kind_is d) (ok d) c.match.keys2
+allow-fields-requires c κs = let d = c.before.before in least_allow _ d.before.before.before.before.before.before.before.before.before.before.args.groups _ _ (size_is d) (fits d) (kind_is d) (ok d) c.match.keys2
 
 transition-fields-requires : tie.Need-transition-fields-requires
-transition-fields-requires c κs = let d = c.before.before in least-transition _ d.before.before.before.before.before.before.before.before.before.before.args.groups _ _ (size_is d) (fits d) (kind_is d) (ok d) c.match.keys3
+transition-fields-requires c κs = let d = c.before.before in least_transition _ d.before.before.before.before.before.before.before.before.before.before.args.groups _ _ (size_is d) (fits d) (kind_is d) (ok d) c.match.keys3
 
 constraint-fields-requires : tie.Need-constraint-fields-requires
-constraint-fields-requires c κs = let d = c.before.before in least-constraint _ d.before.before.before.before.before.before.before.before.before.before.args.groups _ _ (size_is d) (fits d) (kind_is d) (ok d) (four c)
+constraint-fields-requires c κs = let d = c.before.before in least_constraint _ d.before.before.before.before.before.before.before.before.before.before.args.groups _ _ (size_is d) (fits d) (kind_is d) (ok d) (four c)
 
 returns-5 : tie.Need-returns-5
 returns-5 c = let d = c.before.before.before in by-fields d _ _ c.group-fields.ensures (field_group _ _ (kind_of_lem d 1 c.before.match.keys1))

@@ -8,8 +8,8 @@ use Rattle.image.proofs.twins.file.Tie as tie
 returns : tie.Need-returns
 returns c = let a = c.before.before.args in (ap (set a.heads.now a.key) c.narrow.ensures, refl)
 
-pub file-spec : {M : Type 1} → statement M
-file-spec =
+pub file_spec : {M : Type 1} → statement M
+file_spec =
     tie.close
     (tie.spec
     (λ c. search rules)

@@ -19,8 +19,8 @@ returns-2 c =
     ap (set a.alike.now a.k) c.narrow.ensures
     ∙ ap (λ (t : Bool). set a.alike.now a.k (cond t (get_or a.alike.now a.r 0) a.k)) (sym (le-ltb a.r a.k (omega arith)))
 
-pub settle-spec : {M : Type 1} → statement M
-settle-spec =
+pub settle_spec : {M : Type 1} → statement M
+settle_spec =
     tie.close
     (tie.spec
     (λ c. search rules)

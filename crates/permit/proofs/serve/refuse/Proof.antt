@@ -13,8 +13,8 @@ slice-aggregate-write-due c = sym (length-take-le c.before.before.put-refusal.re
 write-due-requires : tie.Need-write-due-requires
 write-due-requires c κs = due_fault _ c.before.before.before.before.requires c.before.before.put-refusal.ensures.bytes
 
-pub refuse-spec : {M : Type 1} → statement M
-refuse-spec =
+pub refuse_spec : {M : Type 1} → statement M
+refuse_spec =
     tie.close
     (tie.spec
     (λ c. search rules)

@@ -33,8 +33,8 @@ write-due-requires c κs = due_turn c.before.before.before.before.take-turn.ensu
 loop-again : tie.Need-loop-preserved invariant-loop decreases-loop
 loop-again c = (omega (arith, c.before.before.before.before.before.before.before.before.take-turn.ensures.few), omega arith, omega arith, omega arith)
 
-pub serve-spec : {M : Type 1} → statement M
-serve-spec =
+pub serve_spec : {M : Type 1} → statement M
+serve_spec =
     tie.close
     (tie.spec
     invariant-loop

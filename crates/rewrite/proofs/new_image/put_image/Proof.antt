@@ -9,7 +9,7 @@ use Rattle.format.specs.Policy.{policy_of, records_at}
 use Rattle.rewrite.specs.Inner.Kept.{pick}
 use Rattle.rewrite.specs.Inner.Put.{Wrote}
 use Rattle.rewrite.proofs.PutLaws.{header_length_lem, wrote_then}
-use Rattle.rewrite.proofs.NewLaws.{Planned, planned, rules-step, constraints-step, whole-step}
+use Rattle.rewrite.proofs.NewLaws.{Planned, planned, rules_step, constraints_step, whole_step}
 use borrow.Author.Rules.{rules}
 use Rattle.rewrite.proofs.new_image.put_image.Statement.{statement}
 use Rattle.rewrite.proofs.new_image.put_image.Tie as tie
@@ -114,7 +114,7 @@ retype-records-requires : tie.Need-retype-records-requires
 retype-records-requires c κs = let d : tie.After-copy = c.before.before.before in
     let e = counted (headed (kept d)) in
     let a = start e in
-    (rules-step (image e) a.args.sections a.args.to.now a.args.keep.now a.args.kept a.pre.0 (bytes e)
+    (rules_step (image e) a.args.sections a.args.to.now a.args.keep.now a.args.kept a.pre.0 (bytes e)
     a.args.buffer.now _ a.args.size _ _ _ _ _ _ a.pre.1 e.before.word-at2.ensures.0 e.word-at3.ensures.0
     (wrote d) (ap flatten (plan e).groups) (plan e).tail (rules-place (kept d))).0
 
@@ -146,7 +146,7 @@ retype-records-requires-2 c κs = let r : tie.After-retype-records = c.before.be
     let d = retyped r in
     let e = counted (headed (kept d)) in
     let a = start e in
-    (constraints-step (image e) a.args.sections a.args.to.now a.args.keep.now a.args.kept a.pre.0 (bytes e)
+    (constraints_step (image e) a.args.sections a.args.to.now a.args.keep.now a.args.kept a.pre.0 (bytes e)
     a.args.buffer.now _ a.args.size _ _ _ _ _ _ a.pre.1 e.before.word-at2.ensures.0 e.word-at3.ensures.0
     (wrote d) (ap flatten (plan e).groups) (plan e).tail (rules-place (kept d)) _ _ r.retype-records.ensures refl).0
 
@@ -155,7 +155,7 @@ returns c = let r : tie.After-retype-records = c.before.before.before.before.bef
     let d = retyped r in
     let e = counted (headed (kept d)) in
     let a = start e in
-    whole-step (image e) a.args.sections a.args.to.now a.args.keep.now a.args.kept a.pre.0 (bytes e)
+    whole_step (image e) a.args.sections a.args.to.now a.args.keep.now a.args.kept a.pre.0 (bytes e)
     a.args.buffer.now _ a.args.size _ _ _ _ _ _ a.pre.1 e.before.word-at2.ensures.0 e.word-at3.ensures.0
     (wrote d) (ap flatten (plan e).groups) (plan e).tail (rules-place (kept d)) _ _ r.retype-records.ensures refl
     _ c.before.before.retype-records2.ensures (omega arith)

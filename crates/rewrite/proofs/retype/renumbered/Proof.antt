@@ -15,5 +15,5 @@ returns-2 : tie.Need-returns-2
 returns-2 c = let a = c.before.before.before.args in
     ap (λ (i : ℕ). get_or a.to.now i 0) c.before.before.wide.ensures.0 ∙ sym (low_group a.to.now _ _ (omega arith))
 
-pub renumbered-spec : {M : Type 1} → statement M
-renumbered-spec = tie.close (tie.spec (λ c κs. search rules) (λ c. search rules) returns returns-2)
+pub renumbered_spec : {M : Type 1} → statement M
+renumbered_spec = tie.close (tie.spec (λ c κs. search rules) (λ c. search rules) returns returns-2)

@@ -6,7 +6,7 @@ use mathlib.Core.Path.{◌≡◌, ◌∙◌}
 use mathlib.Core.List.{List}
 use lib.ListN.{length, length-set}
 use Rattle.rewrite.specs.Inner.Settle.{Alike, Settled}
-use Rattle.rewrite.proofs.TwinLaws.{settled_none, settled-more}
+use Rattle.rewrite.proofs.TwinLaws.{settled_none, settled_more}
 use Rattle.rewrite.proofs.twins.settle.Statement.{statement}
 use Rattle.rewrite.proofs.twins.settle.Tie as tie
 
@@ -33,7 +33,7 @@ loop-again c = let L = c.before.before.before.before.before.before.loop in
           let m = w.count in
           let first = h.ensures.0 ∙ w.first L.g (omega arith) in
           rw (c.before.number-for.ensures, c.where-set.ensures.0)
-          (settled-more gs L.g (omega arith) h.result first L.to L.keep L.next (L.invariant.4 gs w) (omega arith)
+          (settled_more gs L.g (omega arith) h.result first L.to L.keep L.next (L.invariant.4 gs w) (omega arith)
           (omega arith) (omega arith)),
     )
 
@@ -42,8 +42,8 @@ returns c gs w = let L = c.before.loop in
     let e : L.g ≡ c.before.before.args.count = omega arith in
     rw e at (L.invariant.4 gs w)
 
-pub settle-spec : {M : Type 1} → statement M
-settle-spec =
+pub settle_spec : {M : Type 1} → statement M
+settle_spec =
     tie.close
     (tie.spec
     invariant-loop

@@ -12,5 +12,5 @@ returns c = sym c.before.if1.true ∙ c.before.before.is-again.ensures ∙ ap tr
 returns-2 : tie.Need-returns-2
 returns-2 c = sym c.if1.false ∙ c.before.is-again.ensures ∙ ap try_again (to_z-of_z c.before.before.ranges.error)
 
-pub retry-spec : {M : Type 1} → statement M
-retry-spec = tie.close (tie.spec (λ c κs. search rules) (λ c κs. search rules) returns returns-2)
+pub retry_spec : {M : Type 1} → statement M
+retry_spec = tie.close (tie.spec (λ c κs. search rules) (λ c κs. search rules) returns returns-2)

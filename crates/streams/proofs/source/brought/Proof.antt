@@ -19,5 +19,5 @@ returns-3 c =
     let start = c.before.before.before.before in
     brought_error start.args.answer _ _ (to_z-of_z start.ranges.answer) c.before.if1.false c.if2.false
 
-pub brought-spec : {M : Type 1} → statement M
-brought-spec = tie.close (tie.spec (λ c κs. search rules) returns returns-2 returns-3)
+pub brought_spec : {M : Type 1} → statement M
+brought_spec = tie.close (tie.spec (λ c κs. search rules) returns returns-2 returns-3)
