@@ -59,7 +59,14 @@ returns c =
 pub overflow_add-next : goal.overflow_add-next
 overflow_add-next c =
     let l : List ℕ = c.args.image.now in
-    let own : c.loop-k.k < count_of (l) Groups = omega (arith, c.loop-k.invariant.1) in
-    let size_is : c.wide.result ≡ get_or (l) (place_of (l) Groups c.loop-k.k) 0 = c.wide.ensures.0 ∙ ap (λ i. get_or (l) i 0) c.loop-k.invariant.2 in
-    let inside : c.loop-k.at + c.wide.result ≤ length (l) = omega (arith, c.loop-k.invariant.2, size_is, group_end (l) [] c.requires c.loop-k.k (own)) in
-    record { fits = omega (arith, inside, c.good.0.0) }
+    let own : c.loop-k.k < count_of l Groups = omega (arith, c.loop-k.invariant.1) in
+    let size_is : c.wide.result ≡ get_or l (place_of l Groups c.loop-k.k) 0 = c.wide.ensures.0 ∙ ap (λ i. get_or l i 0) c.loop-k.invariant.2 in
+    let inside : c.loop-k.at + c.wide.result ≤ length l = omega (arith, c.loop-k.invariant.2, size_is, group_end l [] c.requires c.loop-k.k own) in
+    omega (arith, inside)
+
+pub slice_bounds-same_record-end : goal.slice_bounds-same_record-end
+slice_bounds-same_record-end c =
+    let l : List ℕ = c.args.image.now in
+    let own : c.loop-k.k < count_of l Groups = omega (arith, c.loop-k.invariant.1) in
+    let size_is : c.wide.result ≡ get_or l (place_of l Groups c.loop-k.k) 0 = c.wide.ensures.0 ∙ ap (λ i. get_or l i 0) c.loop-k.invariant.2 in
+    omega (arith, c.loop-k.invariant.2, size_is, group_end l [] c.requires c.loop-k.k own)

@@ -2,7 +2,6 @@
 use native.Mathlib.Omega.{arith}
 use mathlib.Core.Path.{◌≡◌, refl, ap, ◌∙◌}
 use mathlib.Core.Bool.{true}
-use mathlib.Core.Logic.{⊎_elim}
 use lib.ListN.{length, get_or}
 use Rattle.format.specs.declared.Section.TheVariants.{Groups, Rules, Constraints}
 use Rattle.format.specs.Format.{kind_in}
@@ -58,7 +57,7 @@ returns-in-2-to-3 c =
 pub returns-in_default : goal.returns-in_default
 returns-in_default c = let k = get_or c.args.part.now 1 0 in
     let one : k ≡ 1 → ⊥ = omega arith in
-    let two : k ≡ 2 → ⊥ = ⊎_elim (λ w. omega arith) (λ w. omega arith) c.if-this-lt1.branch in
-    let three : k ≡ 3 → ⊥ = ⊎_elim (λ w. omega arith) (λ w. omega arith) c.if-this-lt1.branch in
+    let two : k ≡ 2 → ⊥ = omega arith in
+    let three : k ≡ 3 → ⊥ = omega arith in
     let four : k ≡ 4 → ⊥ = omega arith in
     rw (c.refused-in_default.ensures, own_kind c.args.buffer.now c.args.part.now k refl one two three four)

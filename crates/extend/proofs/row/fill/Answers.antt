@@ -60,55 +60,20 @@ returns-then-text-end-eq10 c =
 pub loop-i-preserved : goal.loop-i-preserved
 loop-i-preserved c =
     let word_is : Spelled c.field_at-field.result c.args.text.now c.loop-i.start c.value-word.result = spelled _ _ _ _ c.value-word.ensures c.if-word-eq-OUTSIDE.false in
-    let same_part : length c.put-at.new.part ≡ length c.args.part.now = c.put-at.auto.0 ∙ c.loop-i.invariant.3 in
+    let same_part : length c.put-at.new.part ≡ length c.args.part.now = c.put-at.auto.part ∙ c.loop-i.invariant.3 in
     let place_few : (c.loop-i.at + 2 ≤ 130) × (c.put-at.result ≤ 2 + 2 * (c.loop-i.i + 1)) × (2 ≤ c.put-at.result) = let k = c.args.kind in let b = bytes_few c.field_at-field.result c.value-word.result.number in
     (omega (arith, fields_few k, c.most.ensures), omega (arith, b, c.put-at.ensures.1), omega (arith, c.put-at.ensures.1)) in
     let word_few : c.loop-i.i < length (fields_in (form_of c.args.kind)) = omega (arith, c.most.ensures) in
     let l = c.loop-i in let a = c.args in (
-  omega arith,
-  place_few.2,
-  place_few.1,
-  same_part,
-  filling_on _ a.kind l.i a.text.now l.part c.put-at.new.part l.start l.at c.put-at.result c.field_at-field.result c.value-word.result
+      omega arith,
+      place_few.2,
+      place_few.1,
+      same_part,
+      filling_on _ a.kind l.i a.text.now l.part c.put-at.new.part l.start l.at c.put-at.result c.field_at-field.result c.value-word.result
       l.invariant.4 word_few c.field_at-field.ensures word_is (omega arith) (omega arith) (omega (arith, place_few.0, l.invariant.3)) c.put-at.ensures.0 (omega arith) c.if-text-end-eq10.false,
-  l.invariant.5 ∙ row_on _ a.kind l.i a.text.now l.part c.put-at.new.part l.start l.at c.put-at.result c.field_at-field.result c.value-word.result
+      l.invariant.5 ∙ row_on _ a.kind l.i a.text.now l.part c.put-at.new.part l.start l.at c.put-at.result c.field_at-field.result c.value-word.result
       l.invariant.4 word_few c.field_at-field.ensures word_is (omega arith) (omega arith) (omega (arith, place_few.0, l.invariant.3)) c.put-at.ensures.0 (omega arith) c.if-text-end-eq10.false,
-
--- ?? )
-
-pub most-requires : goal.most-requires
-most-requires c =
-    tt
-
-pub shape_of-part-then-most-i : goal.shape_of-part-then-most-i
-shape_of-part-then-most-i c =
-    c.loop-i.invariant.3
-
-pub field_at-field-requires : goal.field_at-field-requires
-field_at-field-requires c =
-    tt
-
-pub shape_of-part-then-word-eq-OUTSIDE : goal.shape_of-part-then-word-eq-OUTSIDE
-shape_of-part-then-word-eq-OUTSIDE c =
-    c.loop-i.invariant.3
-
-pub closed-requires : goal.closed-requires
-closed-requires c =
-    tt
-
-pub shape_of-part-then-text-end : goal.shape_of-part-then-text-end
-shape_of-part-then-text-end c =
-    let same_part : length c.put-at.new.part ≡ length c.args.part.now = c.put-at.auto.0 ∙ c.loop-i.invariant.3 in
-    same_part
-
-pub closed-requires-then-text-end-eq10 : goal.closed-requires-then-text-end-eq10
-closed-requires-then-text-end-eq10 c =
-    tt
-
-pub shape_of-part-then-text-end-eq10 : goal.shape_of-part-then-text-end-eq10
-shape_of-part-then-text-end-eq10 c =
-    let same_part : length c.put-at.new.part ≡ length c.args.part.now = c.put-at.auto.0 ∙ c.loop-i.invariant.3 in
-    same_part
+    )
 
 pub loop-i-smaller : goal.loop-i-smaller
 loop-i-smaller c =

@@ -24,8 +24,8 @@ returns-then-row-lt2 c = let a = c.args in
 
 pub returns : goal.returns
 returns c = let a = c.args in
-    rw c.kind_of-kind.ensures (record_made a.text.now a.at c.word_end-end.result (omega arith) c.word_end-end.ensures.0 (λ x. c.if-kind-eq0.false (c.kind_of-kind.ensures ∙ x)) (omega (arith, c.if-text-end.false)) c.if-text-end-eq10.false c.fill-row.result c.fill-row.new.part (rw (sym c.kind_of-kind.ensures) c.fill-row.ensures) c.low.result c.low.ensures c.if-row-lt2.false (omega (arith, c.fill-row.auto.1.1.1.0)))
+    rw c.kind_of-kind.ensures (record_made a.text.now a.at c.word_end-end.result (omega arith) c.word_end-end.ensures.0 (λ x. c.if-kind-eq0.false (c.kind_of-kind.ensures ∙ x)) (omega (arith, c.if-text-end.false)) c.if-text-end-eq10.false c.fill-row.result c.fill-row.new.part (rw (sym c.kind_of-kind.ensures) c.fill-row.ensures) c.low.result c.low.ensures c.if-row-lt2.false (omega arith))
 
 pub bounds-part-1 : goal.bounds-part-1
 bounds-part-1 c =
-    simp length-set (omega (arith, c.fill-row.auto.1.1.1.0))
+    simp length-set (omega arith)

@@ -29,27 +29,26 @@ loop-at-preserved-then-text-at-eq10 c = let l = c.loop-at in let a = c.args in
 
 pub returns-then-length-lt2 : goal.returns-then-length-lt2
 returns-then-length-lt2 c = let d = c.record_at-row in let l = c.loop-at in let a = c.args in
-    adds (l.invariant.2 ∙ rows_outside a.text.now l.at l.buffer (omega arith) c.if-text-at-eq10.false d.result d.new.1.1.0 d.ensures c.if-length-lt2.true) refl refl
+    adds (l.invariant.2 ∙ rows_outside a.text.now l.at l.buffer (omega arith) c.if-text-at-eq10.false d.result d.new.part d.ensures c.if-length-lt2.true) refl refl
 
 pub returns-in-Refused : goal.returns-in-Refused
 returns-in-Refused c = let g = c.grow in let d = c.record_at-row in let l = c.loop-at in let a = c.args in
-    adds (l.invariant.2 ∙ rows_refused a.text.now l.at l.buffer (omega arith) c.if-text-at-eq10.false d.result d.new.1.1.0 d.ensures c.if-length-lt2.false c.in-Refused.is g.ensures) refl refl
+    adds (l.invariant.2 ∙ rows_refused a.text.now l.at l.buffer (omega arith) c.if-text-at-eq10.false d.result d.new.part d.ensures c.if-length-lt2.false c.in-Refused.is g.ensures) refl refl
 
 pub loop-at-smaller : goal.loop-at-smaller
 loop-at-smaller c = let g = c.grow in let d = c.record_at-row in let l = c.loop-at in let a = c.args in
-    let h = rows_ahead a.text.now l.at l.buffer (omega arith) c.if-text-at-eq10.false d.result d.new.1.1.0 d.ensures c.if-length-lt2.false c.in-At.is g.ensures in
+    let h = rows_ahead a.text.now l.at l.buffer (omega arith) c.if-text-at-eq10.false d.result d.new.part d.ensures c.if-length-lt2.false c.in-At.is g.ensures in
     omega (arith, h.0, h.1)
 
 pub loop-at-preserved : goal.loop-at-preserved
 loop-at-preserved c = let g = c.grow in let d = c.record_at-row in let l = c.loop-at in let a = c.args in (
-  (rows_ahead a.text.now l.at l.buffer (omega arith) c.if-text-at-eq10.false d.result d.new.1.1.0 d.ensures c.if-length-lt2.false c.in-At.is g.ensures).1,
-  g.auto.0 ∙ l.invariant.1,
-  l.invariant.2 ∙ rows_added_lem a.text.now l.at l.buffer (omega arith) c.if-text-at-eq10.false d.result d.new.1.1.0 d.ensures c.if-length-lt2.false c.in-At.is g.ensures,
-  g.ensures.accepted,
-  rows_starts a.text.now l.at l.buffer (omega arith) c.if-text-at-eq10.false d.result d.new.1.1.0 d.ensures c.if-length-lt2.false c.in-At.is g.ensures,
-  omega (arith, d.auto.1.1.0, l.invariant.5),
-
--- ?? )
+      (rows_ahead a.text.now l.at l.buffer (omega arith) c.if-text-at-eq10.false d.result d.new.part d.ensures c.if-length-lt2.false c.in-At.is g.ensures).1,
+      g.auto.buffer ∙ l.invariant.1,
+      l.invariant.2 ∙ rows_added_lem a.text.now l.at l.buffer (omega arith) c.if-text-at-eq10.false d.result d.new.part d.ensures c.if-length-lt2.false c.in-At.is g.ensures,
+      g.ensures.accepted,
+      rows_starts a.text.now l.at l.buffer (omega arith) c.if-text-at-eq10.false d.result d.new.part d.ensures c.if-length-lt2.false c.in-At.is g.ensures,
+      omega (arith, d.auto.part, l.invariant.5),
+    )
 
 pub returns : goal.returns
 returns c = let l = c.loop-at in let a = c.args in
@@ -63,30 +62,14 @@ pub record_at-row-requires : goal.record_at-row-requires
 record_at-row-requires c =
     (omega arith, omega (arith, c.loop-at.invariant.5))
 
-pub shape_of-buffer-then-length-lt2 : goal.shape_of-buffer-then-length-lt2
-shape_of-buffer-then-length-lt2 c =
-    c.loop-at.invariant.1
-
 pub slice_bounds-part-end : goal.slice_bounds-part-end
 slice_bounds-part-end c =
-    omega (arith, c.record_at-row.auto.1.1.0, c.record_at-row.ensures.few, c.loop-at.invariant.5)
+    omega (arith, c.record_at-row.auto.part, c.record_at-row.ensures.few, c.loop-at.invariant.5)
 
 pub slice_bounds-grow-end : goal.slice_bounds-grow-end
 slice_bounds-grow-end c =
-    sym (length-take-le c.record_at-row.result.length c.record_at-row.new.part (omega (arith, c.record_at-row.auto.1.1.0, c.record_at-row.ensures.few, c.loop-at.invariant.5)))
+    sym (length-take-le c.record_at-row.result.length c.record_at-row.new.part (omega (arith, c.record_at-row.auto.part, c.record_at-row.ensures.few, c.loop-at.invariant.5)))
 
 pub grow-requires : goal.grow-requires
 grow-requires c =
     (c.loop-at.invariant.3, c.loop-at.invariant.4)
-
-pub shape_of-buffer-in-Refused : goal.shape_of-buffer-in-Refused
-shape_of-buffer-in-Refused c =
-    c.grow.auto.0 ∙ c.loop-at.invariant.1
-
-pub word_at-requires : goal.word_at-requires
-word_at-requires c =
-    tt
-
-pub shape_of-buffer : goal.shape_of-buffer
-shape_of-buffer c =
-    c.loop-at.invariant.1

@@ -46,13 +46,12 @@ returns-then-most-n c = let text = c.args.text.now in
 
 pub loop-i-preserved : goal.loop-i-preserved
 loop-i-preserved c = let text = c.args.text.now in (
-  omega arith,
-  omega arith,
-  omega arith,
-  end_next text _ c.loop-i.i c.loop-i.invariant.3 (omega arith) (λ x. absurd (omega (arith, x, c.wide-c.ensures.0))) (λ x. absurd (omega (arith, x, c.wide-c.ensures.0))),
-  c.loop-i.invariant.4 ∙ digits_next text c.loop-i.i c.loop-i.n c.wide-c.result c.wide-c.ensures.0 (omega arith) (omega arith) (omega arith),
-
--- ?? )
+      omega arith,
+      omega arith,
+      omega arith,
+      end_next text _ c.loop-i.i c.loop-i.invariant.3 (omega arith) (λ x. absurd (omega (arith, x, c.wide-c.ensures.0))) (λ x. absurd (omega (arith, x, c.wide-c.ensures.0))),
+      c.loop-i.invariant.4 ∙ digits_next text c.loop-i.i c.loop-i.n c.wide-c.result c.wide-c.ensures.0 (omega arith) (omega arith) (omega arith),
+    )
 
 pub returns : goal.returns
 returns c = let text = c.args.text.now in
@@ -61,7 +60,3 @@ returns c = let text = c.args.text.now in
 pub loop-i-init : goal.loop-i-init
 loop-i-init c =
     (omega arith, omega arith, omega arith, refl, refl)
-
-pub wide-c-requires : goal.wide-c-requires
-wide-c-requires c =
-    tt
