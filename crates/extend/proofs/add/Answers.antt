@@ -10,13 +10,12 @@ use Rattle.extension.specs.Inner.Splice.{inserted}
 use Rattle.extension.proofs.Adds.{buffer_refused, buffer_inserted}
 use Rattle.extend.specs.Inner.Plans.{plan_outcome, slot_of}
 use Rattle.extend.proofs.PlanLaws.{slot_fits}
-use borrow.Author.Rules.{rules}
 use Rattle.extend.proofs.add.Goals as goal
 
 pub insert-requires : goal.insert-requires
 insert-requires c =
     let slotted : (add_fault c.args.buffer.now c.args.part.now ≡ none) × (c.in-Put.slot ≡ slot_of c.args.buffer.now c.args.part.now) = outcome_gives _ _ (sym (ap plan_outcome c.in-Put.is) ∙ c.planned.ensures) in
-    let q = slotted in rw q.1 (slot_fits _ _ (λ i. omega (arith, c.shared_slice_known-1.given i)) q.0)
+    let q = slotted in rw q.1 (slot_fits _ _ (λ i. omega (arith, c.type_inv.part i)) q.0)
 
 pub returns-in-Refused : goal.returns-in-Refused
 returns-in-Refused c = let f : add_fault c.args.buffer.now c.args.part.now ≡ some c.in-Refused.f =

@@ -1,6 +1,5 @@
 -- `add_rows` meets its contract: the image is checked, and then its rows are added. Assumes nothing.
 use mathlib.Core.Path.{sym, ap, ◌∙◌}
-use borrow.Author.Rules.{rules}
 use Rattle.format.specs.Answers.{sections_outcome}
 use Rattle.format.proofs.Chain.{outcome_gives, outcome_refused}
 use Rattle.text.specs.Build.{Made}

@@ -1,7 +1,6 @@
 -- `build` meets its contract: the rows are added to the empty policy. Assumes nothing.
 use native.Mathlib.Omega.{arith}
 use mathlib.Core.Path.{sym, ap, ◌∙◌}
-use borrow.Author.Rules.{rules}
 use Rattle.text.specs.Words.{split}
 use Rattle.text.specs.Build.{Made, rows_from}
 use Rattle.text.proofs.Follow.{refused_short, built_long}

@@ -1,5 +1,4 @@
 -- `is_short` meets its contract. Assumes nothing.
-use borrow.Author.Rules.{rules}
 use Rattle.extend.specs.Inner.Filled.{is_short}
 use Rattle.extend.proofs.form.is_short.Goals as goal
 

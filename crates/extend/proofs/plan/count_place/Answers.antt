@@ -1,7 +1,6 @@
 -- `count_place` meets its contract. Assumes nothing.
 use native.Mathlib.Omega.{arith}
 use Rattle.format.proofs.ByCase.{count_place_groups, count_place_rules, count_place_constraints}
-use borrow.Author.Rules.{rules}
 use Rattle.extend.proofs.plan.count_place.Goals as goal
 
 pub returns-in-Groups : goal.returns-in-Groups

@@ -1,17 +1,16 @@
 -- `is_listed` meets its contract: the walk comes to a group's place, and none before it has the record. Assumes nothing.
 use native.Mathlib.Omega.{arith}
 use native.Mathlib.Numerals.{add-one}
-use Prim.Native.Nat.{ℕ, ◌+◌, ◌-◌, ◌≤◌, ◌<◌}
+use Prim.Native.Nat.{ℕ, ◌+◌, ◌≤◌, ◌<◌}
 use mathlib.Core.Path.{◌≡◌, refl, sym, ap, ◌∙◌}
 use mathlib.Core.List.{List, []}
-use lib.ListN.{length, get_or, drop}
+use lib.ListN.{length, get_or}
 use Rattle.format.specs.declared.Section.TheVariants.{Groups}
 use Rattle.format.specs.Format.{count_of}
 use Rattle.format.specs.Policy.{policy_of, place_of}
-use Rattle.format.specs.Twins.{same_bytes, listed}
+use Rattle.format.specs.Twins.{same_bytes}
 use Rattle.format.proofs.ByCase.{count_groups}
 use Rattle.extend.proofs.PlanLaws.{group_byte, group_end, group_part_at, group_next, groups_start, listed_here, listed_on, listed_end}
-use borrow.Author.Rules.{rules}
 use Rattle.extend.proofs.plan.is_listed.Goals as goal
 
 pub loop-k-init : goal.loop-k-init
@@ -42,8 +41,7 @@ loop-k-preserved c =
     let compared : c.same_record.result ≡ same_bytes c.args.part.now
     (get_or (policy_of l).groups c.loop-k.k []) = c.same_record.ensures
     ∙ ap (same_bytes c.args.part.now)
-    (group_part_at l [] c.requires c.loop-k.k own _ _ c.loop-k.invariant.2 size_is) in
-    (
+    (group_part_at l [] c.requires c.loop-k.k own _ _ c.loop-k.invariant.2 size_is) in (
       omega arith,
       c.loop-k.invariant.1,
       group_next l c.loop-k.k _ _ c.loop-k.invariant.2 size_is,

@@ -1,17 +1,11 @@
 -- `is_listed` meets its contract: the walk comes to a group's place, and none before it has the record. Assumes nothing.
-use native.Mathlib.Omega.{arith}
-use native.Mathlib.Numerals.{add-one}
-use Prim.Native.Nat.{ℕ, ◌+◌, ◌-◌, ◌≤◌, ◌<◌}
-use mathlib.Core.Path.{◌≡◌, refl, sym, ap, ◌∙◌}
-use mathlib.Core.List.{List, []}
-use lib.ListN.{length, get_or, drop}
+use Prim.Native.Nat.{◌-◌, ◌≤◌}
+use mathlib.Core.Path.{◌≡◌}
+use lib.ListN.{drop}
 use Rattle.format.specs.declared.Section.TheVariants.{Groups}
 use Rattle.format.specs.Format.{count_of}
 use Rattle.format.specs.Policy.{policy_of, place_of}
-use Rattle.format.specs.Twins.{same_bytes, listed}
-use Rattle.format.proofs.ByCase.{count_groups}
-use Rattle.extend.proofs.PlanLaws.{group_byte, group_end, group_part_at, group_next, groups_start, listed_here, listed_on, listed_end}
-use borrow.Author.Rules.{rules}
+use Rattle.format.specs.Twins.{listed}
 use Rattle.extend.proofs.plan.is_listed.Given as goal
 
 abbrev pub invariant-loop-k : goal.invariant-loop-k

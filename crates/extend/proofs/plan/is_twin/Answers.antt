@@ -6,7 +6,6 @@ use Rattle.format.specs.Twins.{listed}
 use Rattle.format.proofs.Front.{front_accepted, leading_image}
 use Rattle.extension.specs.Add.{added_twin}
 use Rattle.extend.proofs.PlanLaws.{twin_groups, twin_rules, twin_constraints}
-use borrow.Author.Rules.{rules}
 use Rattle.extend.proofs.plan.is_twin.Goals as goal
 
 pub is_listed-requires : goal.is_listed-requires

@@ -1,6 +1,5 @@
 -- `limit_of` meets its contract. Assumes nothing.
 use Rattle.format.proofs.ByCase.{limit_groups, limit_rules, limit_constraints}
-use borrow.Author.Rules.{rules}
 use Rattle.extend.proofs.plan.limit_of.Goals as goal
 
 pub returns-in-Groups : goal.returns-in-Groups

@@ -9,7 +9,6 @@ use Rattle.format.specs.Answers.{outcome}
 use Rattle.format.proofs.ByCase.{kind_groups, kind_rules, kind_constraints}
 use Rattle.extension.specs.Add.{own_fault}
 use Rattle.extend.proofs.PlanLaws.{own_tiny, own_length, own_kind, slot_is, end_groups, end_rules, end_constraints}
-use borrow.Author.Rules.{rules}
 use Rattle.extend.proofs.plan.own_causes.Goals as goal
 
 pub returns-then-part-lt2 : goal.returns-then-part-lt2

@@ -6,7 +6,6 @@ use Rattle.format.specs.Answers.{sections_outcome, outcome, starts}
 use Rattle.format.proofs.Chain.{outcome_gives, outcome_refused, or_else_first, or_else_next}
 use Rattle.extension.specs.Add.{own_fault, add_fault}
 use Rattle.extend.specs.Inner.Plans.{slot_of}
-use borrow.Author.Rules.{rules}
 use Rattle.extend.proofs.plan.planned.Goals as goal
 
 pub own_causes-requires : goal.own_causes-requires

@@ -14,7 +14,6 @@ use Rattle.format.proofs.ByCase.{count_at, count_groups}
 use Rattle.format.proofs.Front.{front_fits}
 use Rattle.extension.specs.Add.{added_twin}
 use Rattle.extend.proofs.PlanLaws.{own_malformed, own_field, own_twin, own_full, own_short, own_none, slot_made}
-use borrow.Author.Rules.{rules}
 use Rattle.extend.proofs.plan.room.Goals as goal
 
 pub returns-then-is_twin : goal.returns-then-is_twin

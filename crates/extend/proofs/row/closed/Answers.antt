@@ -1,6 +1,5 @@
 -- `closed` meets its contract. Assumes nothing.
 use native.Mathlib.Omega.{arith}
-use borrow.Author.Rules.{rules}
 use borrow.Author.Tests.{lt-ltb, le-ltb}
 use lib.ListN.{length}
 use Rattle.extend.specs.Inner.Filled.{form_of, closed_row}

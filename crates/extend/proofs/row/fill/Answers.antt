@@ -1,14 +1,13 @@
 -- `fill` meets its contract: the bytes so far, and those of the words left, are those of all. Assumes nothing.
 use native.Mathlib.Omega.{arith}
-use Prim.Native.Nat.{◌+◌, ◌-◌, ◌*◌, ◌≤◌, ◌<◌}
+use Prim.Native.Nat.{◌+◌, ◌*◌, ◌≤◌, ◌<◌}
 use mathlib.Core.Path.{◌≡◌, refl, ◌∙◌}
 use lib.ListN.{length, get_or, take, drop}
 use Rattle.text.specs.Words.{split}
-use Rattle.text.specs.Inner.Parts.{run_of}
 use Rattle.text.specs.Inner.Read.{row_of}
 use Rattle.extend.specs.Inner.Filled.{form_of, fields_in, fields_from, closed_row, Fills}
 use Rattle.extend.proofs.FormLaws.{fields_few}
-use Rattle.extend.proofs.RowLaws.{bytes_few, fill_past, fill_outside, Spelled, spelled, not_spelled, Filling, filling_on, row_on, filled, not_filled, filling_start}
+use Rattle.extend.proofs.RowLaws.{bytes_few, fill_past, fill_outside, Spelled, spelled, not_spelled, filling_on, row_on, filled, not_filled, filling_start}
 use Rattle.extend.proofs.row.fill.Goals as goal
 
 pub loop-i-init : goal.loop-i-init
@@ -70,9 +69,9 @@ loop-i-preserved c =
       place_few.1,
       same_part,
       filling_on _ a.kind l.i a.text.now l.part c.put-at.new.part l.start l.at c.put-at.result c.field_at-field.result c.value-word.result
-      l.invariant.4 word_few c.field_at-field.ensures word_is (omega arith) (omega arith) (omega (arith, place_few.0, l.invariant.3)) c.put-at.ensures.0 (omega arith) c.if-text-end-eq10.false,
+          l.invariant.4 word_few c.field_at-field.ensures word_is (omega arith) (omega arith) (omega (arith, place_few.0, l.invariant.3)) c.put-at.ensures.0 (omega arith) c.if-text-end-eq10.false,
       l.invariant.5 ∙ row_on _ a.kind l.i a.text.now l.part c.put-at.new.part l.start l.at c.put-at.result c.field_at-field.result c.value-word.result
-      l.invariant.4 word_few c.field_at-field.ensures word_is (omega arith) (omega arith) (omega (arith, place_few.0, l.invariant.3)) c.put-at.ensures.0 (omega arith) c.if-text-end-eq10.false,
+          l.invariant.4 word_few c.field_at-field.ensures word_is (omega arith) (omega arith) (omega (arith, place_few.0, l.invariant.3)) c.put-at.ensures.0 (omega arith) c.if-text-end-eq10.false,
     )
 
 pub loop-i-smaller : goal.loop-i-smaller

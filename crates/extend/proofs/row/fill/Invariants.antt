@@ -1,14 +1,12 @@
 -- `fill` meets its contract: the bytes so far, and those of the words left, are those of all. Assumes nothing.
-use native.Mathlib.Omega.{arith}
-use Prim.Native.Nat.{◌+◌, ◌-◌, ◌*◌, ◌≤◌, ◌<◌}
-use mathlib.Core.Path.{◌≡◌, refl, ◌∙◌}
-use lib.ListN.{length, get_or, take, drop}
+use Prim.Native.Nat.{◌+◌, ◌-◌, ◌*◌, ◌≤◌}
+use mathlib.Core.Path.{◌≡◌}
+use lib.ListN.{length, take, drop}
 use Rattle.text.specs.Words.{split}
 use Rattle.text.specs.Inner.Parts.{run_of}
 use Rattle.text.specs.Inner.Read.{row_of}
-use Rattle.extend.specs.Inner.Filled.{form_of, fields_in, fields_from, closed_row, Fills}
-use Rattle.extend.proofs.FormLaws.{fields_few}
-use Rattle.extend.proofs.RowLaws.{bytes_few, fill_past, fill_outside, Spelled, spelled, not_spelled, Filling, filling_on, row_on, filled, not_filled, filling_start}
+use Rattle.extend.specs.Inner.Filled.{fields_from}
+use Rattle.extend.proofs.RowLaws.{Filling}
 use Rattle.extend.proofs.row.fill.Given as goal
 
 abbrev pub invariant-loop-i : goal.invariant-loop-i

@@ -2,7 +2,6 @@
 use native.Mathlib.Omega.{arith}
 use mathlib.Core.Path.{sym, ◌∙◌}
 use lib.ListN.{length-set}
-use borrow.Author.Rules.{rules}
 use Rattle.extend.proofs.RowLaws.{put_short, put_long}
 use Rattle.extend.proofs.row.put.Goals as goal
 

@@ -2,7 +2,6 @@
 use native.Mathlib.Omega.{arith}
 use mathlib.Core.Path.{sym, ◌∙◌}
 use lib.ListN.{length-set}
-use borrow.Author.Rules.{rules}
 use Rattle.extend.proofs.RowLaws.{record_unknown, record_alone, record_outside, record_made}
 use Rattle.extend.proofs.row.record_at.Goals as goal
 

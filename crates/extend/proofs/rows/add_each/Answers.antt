@@ -1,15 +1,10 @@
 -- `add_each` meets its contract: what the rows left do, to what the rows before left, is what all do. Assumes nothing.
 use native.Mathlib.Omega.{arith}
-use Prim.Native.Nat.{ℕ, ◌-◌, ◌≤◌}
+use Prim.Native.Nat.{ℕ}
 use mathlib.Core.Path.{◌≡◌, refl, sym, ap, ◌∙◌}
-use mathlib.Core.Option.{none}
 use mathlib.Core.List.{List}
-use lib.ListN.{length}
 use lib.Seq.{length-take-le}
-use borrow.Author.Rules.{rules}
-use Rattle.format.specs.declared.Starts.{Starts}
-use Rattle.format.specs.Check.{image_in, check_front}
-use Rattle.format.specs.Answers.{gives, starts}
+use Rattle.format.specs.Answers.{gives}
 use Rattle.text.specs.declared.Built.{Built}
 use Rattle.text.specs.Build.{Made, built_outcome}
 use Rattle.extend.specs.Inner.Grow.{AddsEach}
@@ -42,13 +37,13 @@ loop-at-smaller c = let g = c.grow in let d = c.record_at-row in let l = c.loop-
 
 pub loop-at-preserved : goal.loop-at-preserved
 loop-at-preserved c = let g = c.grow in let d = c.record_at-row in let l = c.loop-at in let a = c.args in (
-      (rows_ahead a.text.now l.at l.buffer (omega arith) c.if-text-at-eq10.false d.result d.new.part d.ensures c.if-length-lt2.false c.in-At.is g.ensures).1,
-      g.auto.buffer ∙ l.invariant.1,
-      l.invariant.2 ∙ rows_added_lem a.text.now l.at l.buffer (omega arith) c.if-text-at-eq10.false d.result d.new.part d.ensures c.if-length-lt2.false c.in-At.is g.ensures,
-      g.ensures.accepted,
-      rows_starts a.text.now l.at l.buffer (omega arith) c.if-text-at-eq10.false d.result d.new.part d.ensures c.if-length-lt2.false c.in-At.is g.ensures,
-      omega (arith, d.auto.part, l.invariant.5),
-    )
+  (rows_ahead a.text.now l.at l.buffer (omega arith) c.if-text-at-eq10.false d.result d.new.part d.ensures c.if-length-lt2.false c.in-At.is g.ensures).1,
+  g.auto.buffer ∙ l.invariant.1,
+  l.invariant.2 ∙ rows_added_lem a.text.now l.at l.buffer (omega arith) c.if-text-at-eq10.false d.result d.new.part d.ensures c.if-length-lt2.false c.in-At.is g.ensures,
+  g.ensures.accepted,
+  rows_starts a.text.now l.at l.buffer (omega arith) c.if-text-at-eq10.false d.result d.new.part d.ensures c.if-length-lt2.false c.in-At.is g.ensures,
+  omega (arith, d.auto.part, l.invariant.5),
+)
 
 pub returns : goal.returns
 returns c = let l = c.loop-at in let a = c.args in

@@ -1,19 +1,12 @@
 -- `add_each` meets its contract: what the rows left do, to what the rows before left, is what all do. Assumes nothing.
-use native.Mathlib.Omega.{arith}
-use Prim.Native.Nat.{ℕ, ◌-◌, ◌≤◌}
-use mathlib.Core.Path.{◌≡◌, refl, sym, ap, ◌∙◌}
+use Prim.Native.Nat.{◌-◌, ◌≤◌}
+use mathlib.Core.Path.{◌≡◌}
 use mathlib.Core.Option.{none}
-use mathlib.Core.List.{List}
 use lib.ListN.{length}
-use lib.Seq.{length-take-le}
-use borrow.Author.Rules.{rules}
 use Rattle.format.specs.declared.Starts.{Starts}
 use Rattle.format.specs.Check.{image_in, check_front}
-use Rattle.format.specs.Answers.{gives, starts}
-use Rattle.text.specs.declared.Built.{Built}
-use Rattle.text.specs.Build.{Made, built_outcome}
-use Rattle.extend.specs.Inner.Grow.{AddsEach}
-use Rattle.extend.proofs.RowsLaws.{From, rows_past, rows_feed, rows_outside, rows_refused, rows_starts, rows_ahead, rows_added_lem}
+use Rattle.format.specs.Answers.{starts}
+use Rattle.extend.proofs.RowsLaws.{From}
 use Rattle.extend.proofs.rows.add_each.Given as goal
 
 abbrev pub invariant-loop-at : goal.invariant-loop-at

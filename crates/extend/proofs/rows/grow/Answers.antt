@@ -8,7 +8,6 @@ use Rattle.extension.proofs.Causes.{own_is}
 use Rattle.extend.specs.Inner.Plans.{plan_outcome, slot_of}
 use Rattle.extend.proofs.PlanLaws.{slot_fits}
 use Rattle.extend.proofs.GrowLaws.{starts_small, grown, not_grown}
-use borrow.Author.Rules.{rules}
 use Rattle.extend.proofs.rows.grow.Goals as goal
 
 pub insert-requires : goal.insert-requires
@@ -16,7 +15,7 @@ insert-requires c =
     let slotted : (add_fault c.args.buffer.now c.args.part.now ≡ none) × (c.in-Put.slot ≡ slot_of c.args.buffer.now c.args.part.now) = let q = outcome_gives _ _ (sym (ap plan_outcome c.in-Put.is) ∙ c.own_causes.ensures) in
     (own_is c.args.buffer.now c.args.part.now c.requires.0 ∙ q.0, q.1) in
     let q = slotted in
-    rw q.1 (slot_fits c.args.buffer.now c.args.part.now (λ i. omega (arith, c.shared_slice_known-1.given i)) q.0)
+    rw q.1 (slot_fits c.args.buffer.now c.args.part.now (λ i. omega (arith, c.type_inv.part i)) q.0)
 
 pub moved-requires : goal.moved-requires
 moved-requires c =
@@ -31,5 +30,5 @@ pub returns-in-Put : goal.returns-in-Put
 returns-in-Put c =
     let slotted : (add_fault c.args.buffer.now c.args.part.now ≡ none) × (c.in-Put.slot ≡ slot_of c.args.buffer.now c.args.part.now) = let q = outcome_gives _ _ (sym (ap plan_outcome c.in-Put.is) ∙ c.own_causes.ensures) in
     (own_is c.args.buffer.now c.args.part.now c.requires.0 ∙ q.0, q.1) in
-    grown c.args.at c.args.buffer.now c.args.part.now (λ i. omega (arith, c.slice_known-1.given i)) (λ i. omega (arith, c.shared_slice_known-1.given i))
+    grown c.args.at c.args.buffer.now c.args.part.now (λ i. omega (arith, c.slice_known-1.given i)) (λ i. omega (arith, c.type_inv.part i))
     slotted.0 c.args.sections c.in-Put.slot c.requires.1 slotted.1 c.moved.ensures c.insert.ensures

@@ -1,5 +1,4 @@
 -- `put_empty` meets its contract: the nine bytes of the empty policy. Assumes nothing.
-use borrow.Author.Rules.{rules}
 use Rattle.format.specs.Sample.{empty}
 use Rattle.extension.specs.Add.{overwrite}
 use Rattle.extend.proofs.rows.put_empty.Goals as goal

@@ -1,6 +1,5 @@
 -- `any_type` meets its contract: by the first byte. Assumes nothing.
 use native.Mathlib.Omega.{arith}
-use borrow.Author.Rules.{rules}
 use Rattle.extend.proofs.WordLaws.{type_empty, type_group, type_basic}
 use Rattle.extend.proofs.spell.any_type.Goals as goal
 

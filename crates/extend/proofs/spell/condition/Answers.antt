@@ -1,6 +1,5 @@
 -- `condition` meets its contract: by the first byte, and else by the whole word. Assumes nothing.
 use native.Mathlib.Omega.{arith}
-use borrow.Author.Rules.{rules}
 use mathlib.Core.Path.{sym, ◌∙◌}
 use Rattle.text.specs.Words.{ascii}
 use Rattle.extend.proofs.WordLaws.{condition_empty, condition_switch, says_off, says_on, says_neither}

@@ -1,9 +1,9 @@
 -- `digits` meets its contract: the digits left, from the number come to, give the number of all. Assumes nothing.
 use native.Mathlib.Omega.{arith}
-use Prim.Native.Nat.{ℕ, ◌+◌, ◌-◌, ◌≤◌, ◌<◌}
+use Prim.Native.Nat.{ℕ, ◌+◌, ◌≤◌, ◌<◌}
 use mathlib.Core.Path.{◌≡◌, refl, ap, ◌∙◌}
 use mathlib.Core.List.{List}
-use lib.ListN.{length, drop}
+use lib.ListN.{drop}
 use Rattle.text.specs.Words.{digits_from, up_to}
 use Rattle.text.specs.Inner.Read.{word_size, word_of}
 use Rattle.extend.specs.Inner.Filled.{Says}
@@ -46,12 +46,12 @@ returns-then-most-n c = let text = c.args.text.now in
 
 pub loop-i-preserved : goal.loop-i-preserved
 loop-i-preserved c = let text = c.args.text.now in (
-      omega arith,
-      omega arith,
-      omega arith,
-      end_next text _ c.loop-i.i c.loop-i.invariant.3 (omega arith) (λ x. absurd (omega (arith, x, c.wide-c.ensures.0))) (λ x. absurd (omega (arith, x, c.wide-c.ensures.0))),
-      c.loop-i.invariant.4 ∙ digits_next text c.loop-i.i c.loop-i.n c.wide-c.result c.wide-c.ensures.0 (omega arith) (omega arith) (omega arith),
-    )
+  omega arith,
+  omega arith,
+  omega arith,
+  end_next text _ c.loop-i.i c.loop-i.invariant.3 (omega arith) (λ x. absurd (omega (arith, x, c.wide-c.ensures.0))) (λ x. absurd (omega (arith, x, c.wide-c.ensures.0))),
+  c.loop-i.invariant.4 ∙ digits_next text c.loop-i.i c.loop-i.n c.wide-c.result c.wide-c.ensures.0 (omega arith) (omega arith) (omega arith),
+)
 
 pub returns : goal.returns
 returns c = let text = c.args.text.now in

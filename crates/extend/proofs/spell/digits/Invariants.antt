@@ -1,14 +1,9 @@
 -- `digits` meets its contract: the digits left, from the number come to, give the number of all. Assumes nothing.
-use native.Mathlib.Omega.{arith}
-use Prim.Native.Nat.{ℕ, ◌+◌, ◌-◌, ◌≤◌, ◌<◌}
-use mathlib.Core.Path.{◌≡◌, refl, ap, ◌∙◌}
-use mathlib.Core.List.{List}
+use Prim.Native.Nat.{◌+◌, ◌-◌, ◌≤◌}
+use mathlib.Core.Path.{◌≡◌}
 use lib.ListN.{length, drop}
-use Rattle.text.specs.Words.{digits_from, up_to}
+use Rattle.text.specs.Words.{digits_from}
 use Rattle.text.specs.Inner.Read.{word_size, word_of}
-use Rattle.extend.specs.Inner.Filled.{Says}
-use Rattle.text.proofs.Read.{word_none, word_space, word_feed}
-use Rattle.extend.proofs.WordLaws.{end_next, digits_end, digits_low, digits_high, digits_next, upto_over, upto_none, upto_some, says_outside, says_number}
 use Rattle.extend.proofs.spell.digits.Given as goal
 
 abbrev pub invariant-loop-i : goal.invariant-loop-i

@@ -1,6 +1,5 @@
 -- `number` meets its contract: digits, of which the first is 0 only where it is the only one. Assumes nothing.
 use native.Mathlib.Omega.{arith}
-use borrow.Author.Rules.{rules}
 use Rattle.extend.proofs.WordLaws.{number_outside, number_empty, number_one, number_inside, number_zero, number_more}
 use Rattle.extend.proofs.spell.number.Goals as goal
 

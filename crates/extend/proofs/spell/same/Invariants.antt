@@ -1,10 +1,8 @@
 -- `same` meets its contract: up to the place come to the two are the same. Assumes nothing.
-use native.Mathlib.Omega.{arith}
 use Prim.Native.Nat.{◌-◌, ◌≤◌}
-use mathlib.Core.Path.{◌≡◌, refl, sym, ◌∙◌}
+use mathlib.Core.Path.{◌≡◌}
 use lib.ListN.{length, drop}
 use Rattle.text.specs.Words.{same}
-use Rattle.extend.proofs.WordLaws.{same_lengths, same_end, same_differ, same_next}
 use Rattle.extend.proofs.spell.same.Given as goal
 
 abbrev pub invariant-loop-i : goal.invariant-loop-i

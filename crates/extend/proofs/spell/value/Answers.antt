@@ -1,5 +1,4 @@
 -- `value` meets its contract. Assumes nothing.
-use borrow.Author.Rules.{rules}
 use Rattle.text.specs.Rows.{value_of}
 use Rattle.extend.proofs.spell.value.Goals as goal
 

@@ -1,9 +1,6 @@
 -- `word_end` meets its contract: from the place come to, the word ends at the same place. Assumes nothing.
 use native.Mathlib.Omega.{arith}
-use Prim.Native.Nat.{◌+◌, ◌-◌, ◌≤◌}
-use mathlib.Core.Path.{◌≡◌, refl}
-use lib.ListN.{length, drop}
-use Rattle.text.specs.Inner.Read.{word_size}
+use mathlib.Core.Path.{refl}
 use Rattle.extend.proofs.WordLaws.{end_last, end_space, end_feed, end_next}
 use Rattle.extend.proofs.spell.word_end.Goals as goal
 

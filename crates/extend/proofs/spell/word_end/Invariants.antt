@@ -1,10 +1,8 @@
 -- `word_end` meets its contract: from the place come to, the word ends at the same place. Assumes nothing.
-use native.Mathlib.Omega.{arith}
 use Prim.Native.Nat.{◌+◌, ◌-◌, ◌≤◌}
-use mathlib.Core.Path.{◌≡◌, refl}
+use mathlib.Core.Path.{◌≡◌}
 use lib.ListN.{length, drop}
 use Rattle.text.specs.Inner.Read.{word_size}
-use Rattle.extend.proofs.WordLaws.{end_last, end_space, end_feed, end_next}
 use Rattle.extend.proofs.spell.word_end.Given as goal
 
 abbrev pub invariant-loop-i : goal.invariant-loop-i

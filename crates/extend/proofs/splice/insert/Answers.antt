@@ -4,7 +4,6 @@ use Prim.Native.Nat.{◌+◌, ◌≤◌}
 use mathlib.Core.Path.{refl}
 use lib.ListN.{length}
 use Rattle.extend.proofs.MoveLaws.{part_room, steps_insert}
-use borrow.Author.Rules.{rules}
 use Rattle.extend.proofs.splice.insert.Goals as goal
 
 pub copy-requires : goal.copy-requires

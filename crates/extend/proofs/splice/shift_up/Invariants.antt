@@ -1,10 +1,8 @@
 -- `shift_up` meets its contract: from the back, all down to i is moved. Assumes nothing.
-use native.Mathlib.Omega.{arith}
-use Prim.Native.Nat.{ℕ, ◌≤◌}
-use mathlib.Core.Path.{◌≡◌, refl, ap, ◌∙◌}
-use lib.ListN.{length, length-set}
+use Prim.Native.Nat.{◌≤◌}
+use mathlib.Core.Path.{◌≡◌}
+use lib.ListN.{length}
 use Rattle.extend.specs.Inner.Moves.{moved_up}
-use Rattle.extend.proofs.MoveLaws.{up_none, up_turn}
 use Rattle.extend.proofs.splice.shift_up.Given as goal
 
 abbrev pub invariant-loop-i : goal.invariant-loop-i

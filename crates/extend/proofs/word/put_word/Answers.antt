@@ -3,7 +3,6 @@ use native.Mathlib.Omega.{arith}
 use Prim.Native.Nat.{◌/◌, ◌%◌}
 use mathlib.Core.Path.{◌≡◌}
 use Rattle.extension.specs.Inner.Splice.{put_word_at}
-use borrow.Author.Rules.{rules}
 use Rattle.extend.proofs.word.put_word.Goals as goal
 
 pub returns : goal.returns
