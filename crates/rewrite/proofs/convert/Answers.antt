@@ -4,7 +4,6 @@ use lib.ListN.{replicate}
 use Rattle.format.specs.Answers.{sections_outcome}
 use Rattle.format.proofs.Chain.{outcome_gives, outcome_refused}
 use Rattle.rewrite.proofs.AnswerLaws.{alike_all, converts_refused}
-use borrow.Author.Rules.{rules}
 use Rattle.rewrite.proofs.convert.Goals as goal
 
 pub put_converted-requires : goal.put_converted-requires

@@ -11,7 +11,6 @@ use Rattle.rewrite.specs.Inner.Settle.{Ready}
 use Rattle.rewrite.proofs.NewLaws.{Planned, planned}
 use Rattle.rewrite.proofs.AnswerLaws.{groups_few, ready, all_kept}
 use Rattle.rewrite.proofs.AnswerLaws.{converts_short, converts_whole, converts_same, zeros_bytes}
-use borrow.Author.Rules.{rules}
 use Rattle.rewrite.proofs.new_image.put_converted.Goals as goal
 
 pub settle-kept-requires : goal.settle-kept-requires

@@ -10,7 +10,6 @@ use Rattle.rewrite.specs.Inner.Kept.{pick}
 use Rattle.rewrite.specs.Inner.Put.{Wrote}
 use Rattle.rewrite.proofs.PutLaws.{header_length_lem, wrote_then}
 use Rattle.rewrite.proofs.NewLaws.{Planned, planned, rules_step, constraints_step, whole_step}
-use borrow.Author.Rules.{rules}
 use Rattle.rewrite.proofs.new_image.put_image.Goals as goal
 
 pub bounds-image-0 : goal.bounds-image-0
@@ -57,9 +56,14 @@ slice_bounds-copy-count c =
     c.word_at-groups.ensures.0 in
     plan.inside
 
--- ?? no such goal now: slice-bounds-copy-start
--- part-copy-start : tie.Need-slice-bounds-copy-start
--- part-copy-start c = (plan c).inside
+pub slice_bounds-copy-start : goal.slice_bounds-copy-start
+slice_bounds-copy-start c =
+    let image : List ℕ = c.args.image.now in
+    let bytes : Bytes image = λ i. omega (arith, c.shared_slice_known-1.given i) in
+    let plan : (let a = c.args in Planned image a.sections a.keep.now a.kept c.word_at-groups.result) = let a = c.args in
+    planned image a.sections a.to.now a.keep.now a.kept _ c.requires.0 bytes
+    c.word_at-groups.ensures.0 in
+    plan.inside
 
 pub copy-requires : goal.copy-requires
 copy-requires c =
@@ -109,7 +113,7 @@ overflow_sub-sections c =
     let plan : (let a = c.args in Planned image a.sections a.keep.now a.kept c.word_at-groups.result) = let a = c.args in
     planned image a.sections a.to.now a.keep.now a.kept _ c.requires.0 bytes
     c.word_at-groups.ensures.0 in
-    (plan c).order
+    plan.order
 
 pub overflow_add-at : goal.overflow_add-at
 overflow_add-at c =

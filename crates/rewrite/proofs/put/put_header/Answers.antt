@@ -2,7 +2,6 @@
 use native.Mathlib.Omega.{arith}
 use mathlib.Core.List.{[], ◌∷◌}
 use Rattle.rewrite.proofs.PutLaws.{front_put, header_bytes, wrote_as}
-use borrow.Author.Rules.{rules}
 use Rattle.rewrite.proofs.put.put_header.Goals as goal
 
 pub returns : goal.returns

@@ -4,7 +4,6 @@ use mathlib.Core.Path.{sym, ap, ◌∙◌}
 use Prim.Native.Nat.{ℕ}
 use lib.ListN.{get_or}
 use Rattle.rewrite.proofs.FieldLaws.{low_basic, low_group}
-use borrow.Author.Rules.{rules}
 use Rattle.rewrite.proofs.retype.renumbered.Goals as goal
 
 pub returns-then-high-lt128 : goal.returns-then-high-lt128

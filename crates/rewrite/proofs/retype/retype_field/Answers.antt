@@ -1,6 +1,5 @@
 -- `retype_field` meets its contract. Assumes nothing.
 use Rattle.rewrite.specs.Inner.Retype.{field_at}
-use borrow.Author.Rules.{rules}
 use Rattle.rewrite.proofs.retype.retype_field.Goals as goal
 
 pub returns : goal.returns

@@ -1,10 +1,8 @@
 -- `retype_list` meets its contract: the fields from `at` on are still to come. Assumes nothing.
-use native.Mathlib.Omega.{arith}
 use Prim.Native.Nat.{◌-◌, ◌/◌, ◌≤◌}
-use mathlib.Core.Path.{◌≡◌, refl, sym, ◌∙◌}
+use mathlib.Core.Path.{◌≡◌}
 use lib.ListN.{length}
 use Rattle.rewrite.specs.Inner.Retype.{fields_at}
-use Rattle.rewrite.proofs.FieldLaws.{fields_none, fields_turn}
 use Rattle.rewrite.proofs.retype.retype_list.Given as goal
 
 abbrev pub invariant-loop-at : goal.invariant-loop-at

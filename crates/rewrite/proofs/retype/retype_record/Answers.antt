@@ -1,6 +1,5 @@
 -- `retype_record` meets its contract: two fields, and a list where there is one. Assumes nothing.
 use native.Mathlib.Omega.{arith}
-use borrow.Author.Rules.{rules}
 use Rattle.rewrite.proofs.FieldLaws.{record_ends, record_goes_on}
 use Rattle.rewrite.proofs.retype.retype_record.Goals as goal
 

@@ -1,11 +1,7 @@
 -- `retype_records` meets its contract: the records from `at` on are still to come. Assumes nothing.
-use native.Mathlib.Omega.{arith}
-use borrow.Author.Rules.{rules}
-use Prim.Native.Nat.{◌+◌, ◌≤◌}
-use mathlib.Core.Path.{◌≡◌, refl, sym, ◌∙◌}
-use lib.ListN.{length, get_or}
+use mathlib.Core.Path.{◌≡◌}
+use lib.ListN.{length}
 use Rattle.rewrite.specs.Inner.Retype.{Lie, records_from}
-use Rattle.rewrite.proofs.FieldLaws.{records_none, record_lies, records_turn}
 use Rattle.rewrite.proofs.retype.retype_records.Given as goal
 
 abbrev pub invariant-loop-left : goal.invariant-loop-left

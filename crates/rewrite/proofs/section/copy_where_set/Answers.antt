@@ -2,14 +2,10 @@
 use native.Mathlib.Omega.{arith}
 use mathlib.Core.Path.{refl, sym}
 use Rattle.rewrite.proofs.PutLaws.{put_nothing}
-use borrow.Author.Rules.{rules}
 use Rattle.rewrite.proofs.section.copy_where_set.Goals as goal
 
 pub copy-requires : goal.copy-requires
 copy-requires c = let h = rw c.if-mark.true at c.requires in omega arith
-
-pub shape_of-buffer-then-mark : goal.shape_of-buffer-then-mark
-shape_of-buffer-then-mark c = search rules
 
 pub returns-then-mark : goal.returns-then-mark
 returns-then-mark c = rw c.if-mark.true c.copy.ensures

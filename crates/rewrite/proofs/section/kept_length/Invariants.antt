@@ -1,14 +1,10 @@
 -- `kept_length` meets its contract: what is counted, and what the records left add to it. Assumes nothing.
-use native.Mathlib.Omega.{arith}
-use borrow.Author.Rules.{rules}
-use Prim.Native.Nat.{suc, ◌+◌, ◌-◌, ◌≤◌}
-use mathlib.Core.Path.{◌≡◌, ap}
+use Prim.Native.Nat.{◌+◌, ◌-◌, ◌≤◌}
+use mathlib.Core.Path.{◌≡◌}
 use mathlib.Core.List.{flatten}
 use lib.ListN.{length}
-use Rattle.format.specs.Policy.{record_at, records_at}
-use Rattle.format.specs.Inner.Places.{Stands}
+use Rattle.format.specs.Policy.{records_at}
 use Rattle.rewrite.specs.Inner.Kept.{Rows, pick}
-use Rattle.rewrite.proofs.KeptLaws.{rows_here, rows_next, pick_size, pick_end}
 use Rattle.rewrite.proofs.section.kept_length.Given as goal
 
 abbrev pub invariant-loop-k : goal.invariant-loop-k

@@ -1,13 +1,9 @@
 -- `put_kept` meets its contract: what is kept of the records left is still to come. Assumes nothing.
 use native.Mathlib.Omega.{arith}
-use borrow.Author.Rules.{rules}
-use Prim.Native.Nat.{suc, ◌+◌, ◌-◌, ◌≤◌}
+use Prim.Native.Nat.{suc, ◌+◌, ◌-◌}
 use mathlib.Core.Path.{◌≡◌}
-use mathlib.Core.List.{flatten}
-use Rattle.format.specs.Policy.{record_at, records_at}
+use Rattle.format.specs.Policy.{record_at}
 use Rattle.format.specs.Inner.Places.{Stands}
-use Rattle.rewrite.specs.Inner.Put.{Writing}
-use Rattle.rewrite.specs.Inner.Kept.{Rows, pick}
 use Rattle.rewrite.proofs.PutLaws.{writing_start, writing_put, writing_end}
 use Rattle.rewrite.proofs.KeptLaws.{rows_here, rows_next, pick_bytes, pick_room, pick_end}
 use Rattle.rewrite.proofs.section.put_kept.Goals as goal
@@ -24,9 +20,6 @@ bounds-image-place c =
     c.loop-k.invariant.1 in
     let s = here in omega (arith, s.some, s.inside)
 
-pub wide-requires : goal.wide-requires
-wide-requires c = search rules
-
 pub overflow_add-end : goal.overflow_add-end
 overflow_add-end c =
     let here : Stands c.args.image.now c.loop-k.place
@@ -35,10 +28,13 @@ overflow_add-end c =
     c.loop-k.invariant.1 in
     let s = here in omega (arith, s.inside, s.size, c.wide.ensures.0)
 
--- ?? no such goal now: slice-bounds-copy-where-set-end
--- part-copy-where-set-end : tie.Need-slice-bounds-copy-where-set-end invariant-loop decreases-loop
--- part-copy-where-set-end c = let s = here c.before.before.before in omega
---     (arith, s.inside, s.size, c.before.wide.ensures.0)
+pub slice_bounds-copy_where_set-end : goal.slice_bounds-copy_where_set-end
+slice_bounds-copy_where_set-end c =
+    let here : Stands c.args.image.now c.loop-k.place
+    (record_at c.args.image.now c.loop-k.place) = let a = c.args in
+    rows_here a.image.now c.loop-k.place _ (a.count - (c.loop-k.k + 1)) (omega arith)
+    c.loop-k.invariant.1 in
+    let s = here in omega (arith, s.inside, s.size, c.wide.ensures.0)
 
 pub copy_where_set-next-requires : goal.copy_where_set-next-requires
 copy_where_set-next-requires c =

@@ -1,15 +1,9 @@
 -- `put_kept` meets its contract: what is kept of the records left is still to come. Assumes nothing.
-use native.Mathlib.Omega.{arith}
-use borrow.Author.Rules.{rules}
-use Prim.Native.Nat.{suc, ◌+◌, ◌-◌, ◌≤◌}
-use mathlib.Core.Path.{◌≡◌}
+use Prim.Native.Nat.{◌-◌, ◌≤◌}
 use mathlib.Core.List.{flatten}
-use Rattle.format.specs.Policy.{record_at, records_at}
-use Rattle.format.specs.Inner.Places.{Stands}
+use Rattle.format.specs.Policy.{records_at}
 use Rattle.rewrite.specs.Inner.Put.{Writing}
 use Rattle.rewrite.specs.Inner.Kept.{Rows, pick}
-use Rattle.rewrite.proofs.PutLaws.{writing_start, writing_put, writing_end}
-use Rattle.rewrite.proofs.KeptLaws.{rows_here, rows_next, pick_bytes, pick_room, pick_end}
 use Rattle.rewrite.proofs.section.put_kept.Given as goal
 
 abbrev pub invariant-loop-k : goal.invariant-loop-k

@@ -1,7 +1,6 @@
 -- `number_for` meets its contract. Assumes nothing.
 use native.Mathlib.Omega.{arith}
 use borrow.Author.Tests.{lt-ltb, le-ltb}
-use borrow.Author.Rules.{rules}
 use Rattle.rewrite.proofs.twins.number_for.Goals as goal
 
 pub returns-then-h-g : goal.returns-then-h-g

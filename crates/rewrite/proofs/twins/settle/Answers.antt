@@ -1,11 +1,7 @@
 -- `settle` meets its contract: the groups before g are settled. Assumes nothing.
 use native.Mathlib.Omega.{arith}
-use borrow.Author.Rules.{rules}
-use Prim.Native.Nat.{ℕ, ◌-◌, ◌≤◌}
 use mathlib.Core.Path.{◌≡◌, ◌∙◌}
-use mathlib.Core.List.{List}
-use lib.ListN.{length, length-set}
-use Rattle.rewrite.specs.Inner.Settle.{Alike, Settled}
+use lib.ListN.{length-set}
 use Rattle.rewrite.proofs.TwinLaws.{settled_none, settled_more}
 use Rattle.rewrite.proofs.twins.settle.Goals as goal
 
