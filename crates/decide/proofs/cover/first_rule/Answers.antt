@@ -1,0 +1,207 @@
+-- `first_rule` meets its contract: the rules from the running one on answer as all do. Assumes nothing.
+use native.Mathlib.Omega.{arith}
+use Prim.Native.Nat.{ℕ, suc, ◌+◌, ◌-◌, ◌*◌, ◌≤◌, ◌<◌}
+use mathlib.Core.Path.{◌≡◌, sym, subst, ap, ◌∙◌}
+use mathlib.Core.Logic.{⊎_elim}
+use mathlib.Core.Bool.{Bool, false}
+use mathlib.Core.List.{List}
+use lib.ListN.{length}
+use borrow.Author.Tests.{not-false}
+use Rattle.format.specs.declared.Section.TheVariants.{Rules}
+use Rattle.format.specs.Policy.{policy_of}
+use Rattle.format.specs.Claims.{IsType}
+use Rattle.format.specs.Inner.Places.{words_at, Rising}
+use Rattle.format.proofs.Accepted.{accepted_header, accepted_length}
+use Rattle.format.proofs.Bytes.{word_small}
+use Rattle.format.proofs.ByCase.{count_rules}
+use Rattle.decision.specs.Sets.{within}
+use Rattle.decision.specs.Reading.{rule_of}
+use Rattle.decision.specs.Decide.{covers, first_at}
+use Rattle.decide.specs.Inner.Parts.{RuleHere, request_in, rule_in, set_in, set_at}
+use Rattle.decide.specs.Inner.Marks.{tallied, fully_marked}
+use Rattle.decide.specs.Inner.Kept.{KeptTest, Sides}
+use Rattle.decide.specs.Inner.Rules.{found_of, first_rule}
+use Rattle.decide.proofs.MarkLaws.{walk_small, walk_rest, tally_end, tally_yes, tally_no, hits_on, hits_off}
+use Rattle.decide.proofs.TypeLaws.{span_rising, span_told, type_basic, type_small, set_rising}
+use Rattle.decide.proofs.SetLaws.{hits_full, hits_short, full_within}
+use Rattle.decide.proofs.PartLaws.{ready_rules, rule_source, rule_dest}
+use Rattle.decide.proofs.KeptLaws.{outside_tells, outside_kept, with_source, with_dest, side_within}
+use Rattle.decide.proofs.RuleLaws.{allow_long}
+use Rattle.decide.proofs.CoverLaws.{covers_no_may, covers_no_dest, covers_no_source, covers_yes, asked_stops}
+use Rattle.decide.proofs.WalkLaws.{Turn, FirstOf, walk_start, walk_rule, first_end, first_hit, first_next, all_rules}
+use Rattle.decide.proofs.cover.first_rule.Goals as goal
+
+pub word_in-count-requires : goal.word_in-count-requires
+word_in-count-requires c = omega (arith, (accepted_header _ c.requires.0.known.accepted).long)
+
+pub rules-init : goal.rules-init
+unfolding first_rule
+rules-init c = let l = c.args.image.now in
+    record {
+      walk = walk_start _ _ _ _ _ _ _ (ready_rules _ _ _ c.requires.0) (c.word_in-count.ensures.0 ∙ sym (count_rules _)) (ap (λ rs. found_of (first_at (covers (request_in l c.args.q)) 0 rs)) (all_rules l c.args.q.switches));
+      kept = c.requires.1;
+    }
+
+pub returns-then-count-n : goal.returns-then-count-n
+returns-then-count-n c = let I = c.rules.invariant in record { is = first_end _ I.walk (λ z. absurd (omega arith)); kept = I.kept }
+
+pub is_allow-allow-requires : goal.is_allow-allow-requires
+is_allow-allow-requires c =
+    let at_rule : RuleHere c.args.image.now c.rules.at = walk_rule c.rules.invariant.walk (omega arith) c.requires.0.known.accepted in
+    at_rule
+
+pub may-requires : goal.may-requires
+may-requires c =
+    let at_rule : RuleHere c.args.image.now c.rules.at = walk_rule c.rules.invariant.walk (omega arith) c.requires.0.known.accepted in
+    let here : RuleHere c.args.image.now c.rules.at = at_rule in
+    (here, c.is_allow-allow.ensures)
+
+pub overflow_add-to : goal.overflow_add-to
+overflow_add-to c =
+    let at_rule : RuleHere c.args.image.now c.rules.at = walk_rule c.rules.invariant.walk (omega arith) c.requires.0.known.accepted in
+    let here : RuleHere c.args.image.now c.rules.at = at_rule in
+    let h = here in omega (arith, h.long, h.here.inside)
+
+pub holds_if_asked-requires : goal.holds_if_asked-requires
+holds_if_asked-requires c =
+    let at_rule : RuleHere c.args.image.now c.rules.at = walk_rule c.rules.invariant.walk (omega arith) c.requires.0.known.accepted in
+    let here : RuleHere c.args.image.now c.rules.at = at_rule in
+    (c.requires.0.known, rule_dest _ _ _ here, c.rules.invariant.kept.dest)
+
+pub overflow_add-at : goal.overflow_add-at
+overflow_add-at c =
+    let at_rule : RuleHere c.args.image.now c.rules.at = walk_rule c.rules.invariant.walk (omega arith) c.requires.0.known.accepted in
+    let here : RuleHere c.args.image.now c.rules.at = at_rule in
+    let h = here in omega (arith, h.long, h.here.inside)
+
+pub inside-requires : goal.inside-requires
+inside-requires c =
+    let at_rule : RuleHere c.args.image.now c.rules.at = walk_rule c.rules.invariant.walk (omega arith) c.requires.0.known.accepted in
+    let here : RuleHere c.args.image.now c.rules.at = at_rule in
+    (c.requires.0.known, rule_source _ _ _ here, c.rules.invariant.kept.source)
+
+pub word_in-t-requires : goal.word_in-t-requires
+word_in-t-requires c =
+    let at_rule : RuleHere c.args.image.now c.rules.at = walk_rule c.rules.invariant.walk (omega arith) c.requires.0.known.accepted in
+    let here : RuleHere c.args.image.now c.rules.at = at_rule in
+    let h = here in omega (arith, h.long, h.here.inside)
+
+pub known_outside-requires : goal.known_outside-requires
+known_outside-requires c =
+    let at_rule : RuleHere c.args.image.now c.rules.at = walk_rule c.rules.invariant.walk (omega arith) c.requires.0.known.accepted in
+    let here : RuleHere c.args.image.now c.rules.at = at_rule in
+    let is = c.word_in-t.ensures.0 in
+    (type_basic _ _ (subst (IsType _) (sym is) here.dest), type_small _ _ _ is c.requires.0.known.accepted here.dest)
+
+pub members-span-requires : goal.members-span-requires
+members-span-requires c =
+    let at_rule : RuleHere c.args.image.now c.rules.at = walk_rule c.rules.invariant.walk (omega arith) c.requires.0.known.accepted in
+    let here : RuleHere c.args.image.now c.rules.at = at_rule in
+    (c.requires.0.known, rule_dest _ _ _ here)
+
+pub members-init : goal.members-init
+members-init c = let s = c.members-span.ensures in record { room = s.room; few = omega arith; rising = span_rising _ _ _ _ s; hits = omega arith }
+
+pub word_in-requires : goal.word_in-requires
+word_in-requires c = let I = c.members.invariant in omega (arith, I.room)
+
+pub bounds-dest-word_in : goal.bounds-dest-word_in
+bounds-dest-word_in c = let M = c.members in
+    let e : M.left ≡ suc (M.left - 1) = omega arith in
+    omega (arith, walk_small _ _ _ _ e M.invariant.rising, c.word_in.ensures.0)
+
+pub overflow_add-m : goal.overflow_add-m
+overflow_add-m c =
+    let M = c.members in
+    let long = accepted_length _ c.requires.0.known.accepted in
+    let h : M.m + 2 < 18446744073709551616 = omega (arith, M.invariant.room, long, word_small c.args.image.now (λ i. omega (arith, c.shared_slice_known-1.given i)) 1) in
+    record { fits = h }
+
+pub members-preserved : goal.members-preserved
+members-preserved c = let M = c.members in
+    let I = M.invariant in
+    let e : M.left ≡ suc (M.left - 1) = omega arith in
+    let t = c.word_in.ensures.0 in
+    ⊎_elim
+    (λ w. record { room = omega (arith, I.room); few = omega (arith, I.few, w.1); rising = walk_rest _ _ _ _ e I.rising; hits = hits_on M.hits _ _ I.hits (tally_yes _ _ _ _ _ e _ t w.0.taken) w.1 })
+    (λ w. record { room = omega (arith, I.room); few = omega (arith, I.few, w.1); rising = walk_rest _ _ _ _ e I.rising; hits = hits_off M.hits _ _ I.hits (tally_no _ _ _ _ _ e _ t w.0.left) w.1 })
+    c.if-dest-word_in.branch
+
+pub keep_outside-requires : goal.keep_outside-requires
+keep_outside-requires c =
+    let at_rule : RuleHere c.args.image.now c.rules.at = walk_rule c.rules.invariant.walk (omega arith) c.requires.0.known.accepted in
+    let here : RuleHere c.args.image.now c.rules.at = at_rule in
+    type_small _ _ _ c.word_in-t.ensures.0 c.requires.0.known.accepted here.dest
+
+pub past-at-requires : goal.past-at-requires
+past-at-requires c =
+    let at_rule : RuleHere c.args.image.now c.rules.at = walk_rule c.rules.invariant.walk (omega arith) c.requires.0.known.accepted in
+    let here : RuleHere c.args.image.now c.rules.at = at_rule in
+    (here, λ e. allow_long _ _ _ here (sym c.is_allow-allow.ensures ∙ e))
+
+pub rules-preserved : goal.rules-preserved
+rules-preserved c =
+    let at_rule : RuleHere c.args.image.now c.rules.at = walk_rule c.rules.invariant.walk (omega arith) c.requires.0.known.accepted in
+    let here : RuleHere c.args.image.now c.rules.at = at_rule in
+    let source_told : within (set_in c.args.image.now c.args.q.source) (set_at c.args.image.now (c.rules.at + 2)) ≡ c.inside.result = side_within c.requires.1.source c.requires.0.known.accepted (rule_source _ _ _ here) _ c.inside.ensures.is in
+    let gone : (covers (request_in c.args.image.now c.args.q) (rule_in c.args.image.now c.args.q.switches c.rules.at) ≡ false)
+    × Sides c.args.image.now c.args.q c.args.source.now c.args.sources c.args.dest.now c.args.dests c.if-may.ksource c.if-may.kdest = let I = c.rules.invariant.kept in
+    let K = I.dest in
+    let l = c.args.image.now in
+    let F = fully_marked c.args.dest.now c.args.dests in
+    let h = here in
+    let full = full_within _ _ _ K.marked _ (set_rising _ _ c.requires.0.known.accepted h.dest) in
+    ⊎_elim
+    (λ w.
+    let held = w.2.ensures in
+    let source = w.5.ensures in
+    let word = w.7.ensures.0 in
+    let span = w.11.ensures in
+    let all = w.12.invariant.hits ∙ rw (tally_end _ _ _ _ w.13.taken) (omega arith) in
+    let no = sym (span_told _ _ _ _ span (within _) _ (sym (hits_short _ _ _ K.marked _ (span_rising _ _ _ _ span) _ all w.14.left))) in
+    let kept = subst (KeptTest F l) (sym (w.18 ∙ w.16.ensures)) (outside_kept F l _ held.kept _ _ word (full ∙ no)) in
+    (covers_no_dest _ _ _ _ h no, with_dest (with_source I (rw w.17 source.kept)) kept))
+    (⊎_elim
+    (λ w.
+    let held = w.2.ensures in
+    let source = w.5.ensures in
+    let word = w.7.ensures.0 in
+    let asked = (with_dest I held.kept).dest in
+    let no = sym full ∙ outside_tells asked c.requires.0.known.accepted _ _ word (sym w.9.ensures ∙ not-false _ w.10.left) in
+    (covers_no_dest _ _ _ _ h no, with_dest (with_source I (rw w.11 source.kept)) (rw w.12 held.kept)))
+    (⊎_elim
+    (λ w.
+    let held = w.2.ensures in
+    let source = w.5.ensures in
+    let no =
+    source_told
+    (record {
+      before = record { before = record { before = record { before = record { before = record { before = c; if2 = w.0 }; holds-if-asked-arg = w.1 }; holds-if-asked = w.2 }; if3 = w.3 }; inside-arg = w.4 };
+      inside = w.5;
+    })
+    ∙ w.6.left in
+    (covers_no_source _ _ _ _ h no, with_dest (with_source I (rw w.7 source.kept)) (rw w.8 held.kept)))
+    (⊎_elim
+    (λ w.
+    let held = w.2.ensures in
+    let no = sym full ∙ asked_stops _ _ (sym held.is ∙ w.3.left) in
+    (covers_no_dest _ _ _ _ h no, with_dest (with_source I (rw w.4 I.source.kept)) (rw w.5 held.kept)))
+    (λ w.
+    let no = sym c.may.ensures ∙ w.0.left in
+    (covers_no_may _ _ _ _ h no, with_dest (with_source I (rw w.1 I.source.kept)) (rw w.2 K.kept))))))
+    c.if-may.branch in
+    let k = gone in
+    record { walk = first_next _ c.rules.invariant.walk (omega arith) k.0 _ c.past-at.ensures; kept = k.1 }
+
+pub returns : goal.returns
+returns c =
+    let at_rule : RuleHere c.args.image.now c.rules.at = walk_rule c.rules.invariant.walk (omega arith) c.requires.0.known.accepted in
+    let here : RuleHere c.args.image.now c.rules.at = at_rule in
+    let source_told : within (set_in c.args.image.now c.args.q.source) (set_at c.args.image.now (c.rules.at + 2)) ≡ c.inside.result = side_within c.requires.1.source c.requires.0.known.accepted (rule_source _ _ _ here) _ c.inside.ensures.is in
+    let s = c.members-span.ensures in
+    let h = here in
+    let m = sym c.may.ensures ∙ c.if-may.true in
+    record {
+      is = first_hit _ c.rules.invariant.walk (omega arith) (covers_yes _ _ _ _ h m (sym (span_told _ _ _ _ s (within _) _ (sym (hits_full _ _ _ c.requires.1.dest.marked _ (span_rising _ _ _ _ s) _ _ c.members.invariant.hits c.if-hits-dests.true)))) (source_told ∙ c.if-inside.true));
+      kept = with_dest (with_source c.rules.invariant.kept c.inside.ensures.kept) c.holds_if_asked.ensures.kept;
+    }
