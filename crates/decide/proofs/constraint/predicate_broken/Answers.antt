@@ -19,5 +19,4 @@ returns-in-3 c = let e = predicate_is _ _ _ c.requires.1 ∙ c.in-3.is in
     c.companion_broken.ensures ∙ sym (broken_companion _ _ (λ k. absurd (omega (arith, e, k))) (λ k. absurd (omega (arith, e, k))) (λ k. absurd (omega (arith, e, k))))
 
 pub returns-in_default : goal.returns-in_default
-returns-in_default c = let r = c.in-0.rest in
-    absurd (omega (arith, r.0.0.0.1, r.0.0.1, r.0.1, r.1, c.requires.1.predicate))
+returns-in_default c = absurd (omega (arith, c.requires.1.predicate))

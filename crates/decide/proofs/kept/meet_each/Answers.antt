@@ -13,6 +13,7 @@ use Rattle.decide.proofs.MarkLaws.{walk_small, walk_rest, found_end, found_yes, 
 use Rattle.decide.proofs.TypeLaws.{span_rising, group_number, group_few}
 use Rattle.decide.proofs.KeptLaws.{kept_adds}
 use Rattle.decide.proofs.kept.meet_each.Goals as goal
+use Rattle.decide.proofs.kept.meet_each.Goals.{then-first-x, else-first-x, then-second-x, else-second-x}
 
 pub bounds-kf-g : goal.bounds-kf-g
 bounds-kf-g c =
@@ -37,8 +38,14 @@ loop-left-preserved c = let L = c.loop-left in
     let x = c.word_in-x.ensures.0 in (
       omega arith,
       walk_rest _ _ _ _ e L.invariant.1,
-      ⊎_elim (λ w. found_yes _ _ _ _ L.a L.invariant.2 _ e _ x w.0.taken w.1) (λ w. found_no _ _ _ _ L.a L.invariant.2 _ e _ x w.0.left w.1) c.if-first-x.branch,
-      ⊎_elim (λ w. found_yes _ _ _ _ L.b L.invariant.3 _ e _ x w.0.taken w.1) (λ w. found_no _ _ _ _ L.b L.invariant.3 _ e _ x w.0.left w.1) c.if-second-x.branch,
+      elim c.if-first-x.branch [
+        then-first-x w ↦ found_yes _ _ _ _ L.a L.invariant.2 _ e _ x w.if-first-x.true w.a-is
+      | else-first-x w ↦ found_no _ _ _ _ L.a L.invariant.2 _ e _ x w.if-first-x.false w.a-is
+      ],
+      elim c.if-second-x.branch [
+        then-second-x w ↦ found_yes _ _ _ _ L.b L.invariant.3 _ e _ x w.if-second-x.true w.b-is
+      | else-second-x w ↦ found_no _ _ _ _ L.b L.invariant.3 _ e _ x w.if-second-x.false w.b-is
+      ],
     )
 
 pub keep-requires : goal.keep-requires

@@ -9,6 +9,7 @@ use lib.Dec.{eqb}
 use Rattle.decide.specs.Inner.Marks.{tallied, fully_marked}
 use Rattle.decide.proofs.MarkLaws.{walk_small, walk_rest, tally_end, tally_yes, tally_no, hits_on, hits_off}
 use Rattle.decide.proofs.marks.fully_marked.Goals as goal
+use Rattle.decide.proofs.marks.fully_marked.Goals.{then-marks-word_in, else-marks-word_in}
 
 pub loop-left-init : goal.loop-left-init
 loop-left-init c = (c.requires.0, c.requires.1, omega arith, omega arith)
@@ -18,10 +19,18 @@ bounds-marks-word_in c = let L = c.loop-left in let e : L.left ≡ suc (L.left -
 
 pub loop-left-preserved : goal.loop-left-preserved
 loop-left-preserved c = let L = c.loop-left in let e : L.left ≡ suc (L.left - 1) = omega arith in
-    ⊎_elim
-    (λ w. (omega arith, walk_rest _ _ _ _ e L.invariant.1, hits_on L.hits _ _ L.invariant.2 (tally_yes _ _ _ _ _ e _ c.word_in.ensures.0 w.0.taken) w.1, omega arith))
-    (λ w. (omega arith, walk_rest _ _ _ _ e L.invariant.1, hits_off L.hits _ _ L.invariant.2 (tally_no _ _ _ _ _ e _ c.word_in.ensures.0 w.0.left) w.1, omega arith))
-    c.if-marks-word_in.branch
+    elim c.if-marks-word_in.branch [
+      then-marks-word_in w ↦ (
+        omega arith,
+        walk_rest _ _ _ _ e L.invariant.1,
+        hits_on L.hits _ _ L.invariant.2 (tally_yes _ _ _ _ _ e _ c.word_in.ensures.0 w.if-marks-word_in.true) w.hits-is,
+        omega arith)
+    | else-marks-word_in w ↦ (
+        omega arith,
+        walk_rest _ _ _ _ e L.invariant.1,
+        hits_off L.hits _ _ L.invariant.2 (tally_no _ _ _ _ _ e _ c.word_in.ensures.0 w.if-marks-word_in.false) w.hits-is,
+        omega arith)
+    ]
 
 pub returns : goal.returns
 unfolding fully_marked

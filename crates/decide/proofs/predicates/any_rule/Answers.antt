@@ -18,6 +18,7 @@ use Rattle.decide.proofs.KeptLaws.{kept_none}
 use Rattle.decide.proofs.RuleLaws.{source_is, reaching_is, not_reaching, reaching_source, live_length}
 use Rattle.decide.proofs.WalkLaws.{Turn, AnyOf, walk_start, walk_rule, any_end, any_hit, any_next, all_rules}
 use Rattle.decide.proofs.predicates.any_rule.Goals as goal
+use Rattle.decide.proofs.predicates.any_rule.Goals.{then-reaches+else-meets, else-reaches}
 
 pub word_in-count-requires : goal.word_in-count-requires
 word_in-count-requires c = omega (arith, (accepted_header _ c.requires.known.accepted).long)
@@ -65,14 +66,18 @@ loop-n-preserved c =
     let I = c.loop-n.invariant in
     let r = c.reaches.ensures in
     let live = reaching_is _ _ _ _ here _ _ c.is_live-live.ensures in
-    ⊎_elim
-    (λ w.
-    record {
-      walk = any_next _ I.walk (omega arith) (reaching_source _ _ _ (live ∙ sym r.is ∙ w.0.taken) ∙ ap (any_is _ _) (source_is _ _ _ _ here) ∙ sym w.2.ensures.is ∙ w.3.left) _ c.past-at.ensures;
-      kept = record { reach = r.kept; source = rw w.4 w.2.ensures.kept };
-    })
-    (λ w. record { walk = any_next _ I.walk (omega arith) (not_reaching _ _ _ (live ∙ sym r.is ∙ w.0.left)) _ c.past-at.ensures; kept = record { reach = r.kept; source = rw w.1 I.kept.source } })
-    c.if-reaches.branch
+    elim c.if-reaches.branch [
+      then-reaches+else-meets w ↦ record {
+        walk = any_next _ I.walk (omega arith)
+          (reaching_source _ _ _ (live ∙ sym r.is ∙ w.if-reaches.true) ∙ ap (any_is _ _) (source_is _ _ _ _ here)
+            ∙ sym w.meets.ensures.is ∙ w.if-meets.false) _ c.past-at.ensures;
+        kept = record { reach = r.kept; source = rw w.ksource-is w.meets.ensures.kept };
+      }
+    | else-reaches w ↦ record {
+        walk = any_next _ I.walk (omega arith) (not_reaching _ _ _ (live ∙ sym r.is ∙ w.if-reaches.false)) _ c.past-at.ensures;
+        kept = record { reach = r.kept; source = rw w.ksource-is I.kept.source };
+      }
+    ]
 
 pub returns : goal.returns
 returns c = any_end _ c.loop-n.invariant.walk (λ z. absurd (omega arith))

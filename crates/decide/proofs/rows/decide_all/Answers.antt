@@ -13,13 +13,22 @@ use Rattle.decide.proofs.RowLaws.{filled, rows_next, rows_end}
 use Rattle.decide.proofs.rows.decide_all.Goals as goal
 
 pub loop-k-init : goal.loop-k-init
-loop-k-init c = record { few = omega arith; rows = omega arith; all = refl; same = refl; are = refl; kept = record { verdicts = kept_fresh _ _ refl; source = refl; dest = refl } }
-
-pub shape_of-answers-then-rows-k : goal.shape_of-answers-then-rows-k
-shape_of-answers-then-rows-k c = c.loop-k.invariant.same
+loop-k-init c =
+    record {
+      few = omega arith;
+      rows = omega arith;
+      all = refl;
+      same = refl;
+      are = refl;
+      kept = record { verdicts = kept_fresh _ _ refl; source = refl; dest = refl };
+    }
 
 pub returns-then-rows-k : goal.returns-then-rows-k
-returns-then-rows-k c = let L = c.loop-k in (omega (arith, L.invariant.rows, L.invariant.few), rows_end _ _ _ L.answers L.k (omega (arith, L.invariant.rows, L.invariant.few)) L.invariant.are)
+returns-then-rows-k c = let L = c.loop-k in
+    record {
+      value = omega (arith, L.invariant.rows, L.invariant.few);
+      answers_after = rows_end _ _ _ L.answers L.k (omega (arith, L.invariant.rows, L.invariant.few)) L.invariant.are;
+    }
 
 pub row-r-requires : goal.row-r-requires
 row-r-requires c = let k = c.survey-sections.ensures in (record { sections = k.sections; placed = survey_placed _ _ _ _ k }, c.loop-k.invariant.kept, omega arith)
@@ -39,12 +48,9 @@ loop-k-preserved c = let L = c.loop-k in
       kept = r.1;
     }
 
-pub shape_of-answers : goal.shape_of-answers
-shape_of-answers c = c.loop-k.invariant.same
-
 pub returns : goal.returns
-returns c = let L = c.loop-k in (omega (arith, L.invariant.same, L.invariant.rows), rows_end _ _ _ L.answers L.k (omega (arith, L.invariant.rows, L.invariant.all)) L.invariant.are)
-
-pub survey-sections-requires : goal.survey-sections-requires
-survey-sections-requires c =
-    tt
+returns c = let L = c.loop-k in
+    record {
+      value = omega (arith, L.invariant.same, L.invariant.rows);
+      answers_after = rows_end _ _ _ L.answers L.k (omega (arith, L.invariant.rows, L.invariant.all)) L.invariant.are;
+    }
