@@ -1,5 +1,4 @@
 -- `row_at` meets its contract: a number for each field, and two for the word. Assumes nothing.
-use borrow.Author.Rules.{rules}
 use Rattle.decide.proofs.batch.row_at.Goals as goal
 
 pub returns : goal.returns

@@ -7,7 +7,7 @@ use Rattle.runs.specs.declared.Run.{Run}
 use Rattle.runs.specs.Runs.{queries_fault, row_answer, run_outcome}
 use Rattle.runs.specs.Inner.Progress.{run_said, rows_for, next_run}
 use Rattle.runs.proofs.Faults.{same_lengths}
-use Rattle.runs.proofs.Fill.{fill, length_fill, fill_next}
+use Rattle.runs.proofs.Fill.{fill, fill_next}
 use Rattle.runs.proofs.Progress.{out_at, out_none, out_next, rows_most, rows_decided, ran_queries, wrote_queries}
 use Rattle.decide.specs.declared.steps.Step.{Step}
 use Rattle.decide.specs.Inner.Steps.{Stepped}
@@ -55,13 +55,13 @@ loop-i-init c =
 pub offset_bounds-answers-i : goal.offset_bounds-answers-i
 offset_bounds-answers-i c =
     let h = row_slot c.args.image.now (length c.args.queries.now) (length c.args.answers.now) c.loop-i.i
-      (subst (λ n. c.loop-i.i < n) c.begin_queries-begun.ensures.rows c.loop-i-test.true) in
+    (subst (λ n. c.loop-i.i < n) c.begin_queries-begun.ensures.rows c.loop-i-test.true) in
     omega (arith, h.1)
 
 pub bounds-answers-i : goal.bounds-answers-i
 bounds-answers-i c =
     let h = row_slot c.args.image.now (length c.args.queries.now) (length c.args.answers.now) c.loop-i.i
-      (subst (λ n. c.loop-i.i < n) c.begin_queries-begun.ensures.rows c.loop-i-test.true) in
+    (subst (λ n. c.loop-i.i < n) c.begin_queries-begun.ensures.rows c.loop-i-test.true) in
     omega (arith, h.1)
 
 pub loop-i-preserved : goal.loop-i-preserved
@@ -71,7 +71,7 @@ loop-i-preserved c =
     let ys = c.args.answers.now in
     let L = c.loop-i in
     let h = row_slot l (length qs) (length ys) L.i
-      (subst (λ n. L.i < n) c.begin_queries-begun.ensures.rows c.loop-i-test.true) in
+    (subst (λ n. L.i < n) c.begin_queries-begun.ensures.rows c.loop-i-test.true) in
     let r = c.decide_row-s.ensures in
     let s = c.decide_row-s.result in
     record {

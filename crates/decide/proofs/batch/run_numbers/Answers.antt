@@ -1,22 +1,15 @@
 -- `run_numbers` meets its contract: after i rows the slots are filled so far, and the run comes to what the rows so far say.
 use native.Mathlib.Omega.{arith}
-use borrow.Author.Rules.{rules}
-use Prim.Native.Nat.{ℕ, ◌-◌, ◌≤◌}
 use mathlib.Core.Path.{◌≡◌, refl, ap, subst, ◌∙◌}
-use mathlib.Core.Bool.{Bool}
-use mathlib.Core.List.{List}
 use lib.ListN.{length}
 use Rattle.runs.specs.declared.Run.{Run}
 use Rattle.runs.specs.Runs.{run_outcome}
 use Rattle.runs.specs.Numbers.{rows_of}
 use Rattle.runs.proofs.Fill.{fill, length_fill}
 use Rattle.runs.proofs.Progress.{out_none, ran_numbers, wrote_numbers}
-use Rattle.decide.specs.declared.steps.Begun.{Begun}
-use Rattle.decide.specs.declared.steps.Progress.{Progress}
-use Rattle.decide.specs.Inner.Verdicts.{RowTables}
 use Rattle.decide.specs.Inner.Steps.{Begins, Stepped}
 use Rattle.decide.proofs.VerdictLaws.{kept_fresh}
-use Rattle.decide.proofs.NumberLaws.{fault, codes, out, rows, begun_numbers, row_slot, row_few, row_numbers, row_run, row_code_lem}
+use Rattle.decide.proofs.NumberLaws.{fault, codes, out, begun_numbers, row_slot, row_few, row_numbers, row_run, row_code_lem}
 use Rattle.decide.proofs.batch.run_numbers.Goals as goal
 
 pub loop-i-init : goal.loop-i-init
@@ -26,7 +19,7 @@ loop-i-init c =
     let ys = c.args.answers.now in
     let b = c.begin-begun.result in
     let begins : Begins l (length (rows_of ns)) (fault l ns ys) b =
-      begun_numbers l ns ys _ b c.six_each-fits.ensures c.begin-begun.ensures in
+    begun_numbers l ns ys _ b c.six_each-fits.ensures c.begin-begun.ensures in
     record {
       few = omega arith;
       ran = begins.run ∙ out_none l (fault l ns ys) (rows_of ns);
@@ -41,7 +34,7 @@ row_at-q-requires c =
     let ys = c.args.answers.now in
     let b = c.begin-begun.result in
     let begins : Begins l (length (rows_of ns)) (fault l ns ys) b =
-      begun_numbers l ns ys _ b c.six_each-fits.ensures c.begin-begun.ensures in
+    begun_numbers l ns ys _ b c.six_each-fits.ensures c.begin-begun.ensures in
     row_numbers l ns ys c.loop-i.i b.rows begins.rows c.loop-i-test.true
 
 pub decide_row-s-requires : goal.decide_row-s-requires
@@ -51,7 +44,7 @@ decide_row-s-requires c =
     let ys = c.args.answers.now in
     let b = c.begin-begun.result in
     let begins : Begins l (length (rows_of ns)) (fault l ns ys) b =
-      begun_numbers l ns ys _ b c.six_each-fits.ensures c.begin-begun.ensures in
+    begun_numbers l ns ys _ b c.six_each-fits.ensures c.begin-begun.ensures in
     (begins.surveyed, c.loop-i.invariant.kept)
 
 pub offset_bounds-answers-i : goal.offset_bounds-answers-i
@@ -61,7 +54,7 @@ offset_bounds-answers-i c =
     let ys = c.args.answers.now in
     let b = c.begin-begun.result in
     let begins : Begins l (length (rows_of ns)) (fault l ns ys) b =
-      begun_numbers l ns ys _ b c.six_each-fits.ensures c.begin-begun.ensures in
+    begun_numbers l ns ys _ b c.six_each-fits.ensures c.begin-begun.ensures in
     let h = row_few l ns ys c.loop-i.i b.rows begins.rows c.loop-i-test.true in
     omega (arith, h)
 
@@ -72,7 +65,7 @@ bounds-answers-i c =
     let ys = c.args.answers.now in
     let b = c.begin-begun.result in
     let begins : Begins l (length (rows_of ns)) (fault l ns ys) b =
-      begun_numbers l ns ys _ b c.six_each-fits.ensures c.begin-begun.ensures in
+    begun_numbers l ns ys _ b c.six_each-fits.ensures c.begin-begun.ensures in
     let L = c.loop-i in
     let e : length L.answers ≡ length ys = ap length L.invariant.are ∙ length_fill (codes l ns ys) ys L.i in
     let h = row_slot l ns ys L.i b.rows begins.rows c.loop-i-test.true in
@@ -85,7 +78,7 @@ overflow_add-i c =
     let ys = c.args.answers.now in
     let b = c.begin-begun.result in
     let begins : Begins l (length (rows_of ns)) (fault l ns ys) b =
-      begun_numbers l ns ys _ b c.six_each-fits.ensures c.begin-begun.ensures in
+    begun_numbers l ns ys _ b c.six_each-fits.ensures c.begin-begun.ensures in
     let L = c.loop-i in
     let t = c.loop-i-test.true in
     let h = row_few l ns ys L.i b.rows begins.rows t in
@@ -98,7 +91,7 @@ loop-i-preserved c =
     let ys = c.args.answers.now in
     let b = c.begin-begun.result in
     let begins : Begins l (length (rows_of ns)) (fault l ns ys) b =
-      begun_numbers l ns ys _ b c.six_each-fits.ensures c.begin-begun.ensures in
+    begun_numbers l ns ys _ b c.six_each-fits.ensures c.begin-begun.ensures in
     let L = c.loop-i in
     let t = c.loop-i-test.true in
     let q = c.row_at-q.result in
@@ -120,7 +113,7 @@ returns c =
     let ys = c.args.answers.now in
     let b = c.begin-begun.result in
     let begins : Begins l (length (rows_of ns)) (fault l ns ys) b =
-      begun_numbers l ns ys _ b c.six_each-fits.ensures c.begin-begun.ensures in
+    begun_numbers l ns ys _ b c.six_each-fits.ensures c.begin-begun.ensures in
     let L = c.loop-i in
     let e : L.i ≡ b.rows = omega (arith, L.invariant.few, c.loop-i-test.false) in
     let f = e ∙ begins.rows in (

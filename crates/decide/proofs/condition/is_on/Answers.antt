@@ -1,6 +1,5 @@
 -- `is_on` meets its contract: a shift by k is the quotient by 2^k, and a mask of 1 its remainder by 2. Assumes nothing.
 use native.Mathlib.Omega.{arith}
-use borrow.Author.Rules.{rules}
 use Prim.Native.Nat.{◌+◌, ◌/◌, ◌%◌, ◌^◌}
 use mathlib.Core.Path.{ap, ◌∙◌}
 use lib.Bits.{and_mask}

@@ -1,5 +1,4 @@
 -- `companion_broken` meets its contract: the arguments' marks are those of their sets. Assumes nothing.
-use borrow.Author.Rules.{rules}
 use mathlib.Core.Bool.{not}
 use mathlib.Core.Path.{ap, ◌∙◌}
 use Rattle.decide.specs.Inner.Parts.{constraint_in}

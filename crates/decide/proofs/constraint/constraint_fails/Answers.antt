@@ -2,7 +2,6 @@
 use native.Mathlib.Omega.{arith}
 use Prim.Native.Nat.{◌+◌}
 use mathlib.Core.Path.{◌≡◌, sym, ap, ◌∙◌}
-use borrow.Author.Tests.{not-true, not-false}
 use Rattle.format.specs.Bytes.{word_at}
 use Rattle.decision.specs.Sets.{within}
 use Rattle.decision.specs.Decide.{broken, fails}
@@ -12,7 +11,6 @@ use Rattle.decide.proofs.PartLaws.{constraint_first, constraint_second}
 use Rattle.decide.proofs.KeptLaws.{with_source, with_dest, side_within}
 use Rattle.decide.proofs.VerdictLaws.{front_says, front_adds, written_same}
 use Rattle.decide.proofs.ConstraintLaws.{fails_class, fails_action, fails_first, fails_second, fails_broken}
-use borrow.Author.Rules.{rules}
 use Rattle.decide.proofs.constraint.constraint_fails.Goals as goal
 
 pub returns-then-word_in-wide_word : goal.returns-then-word_in-wide_word

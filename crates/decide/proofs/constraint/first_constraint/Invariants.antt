@@ -1,21 +1,14 @@
 -- `first_constraint` meets its contract: the constraints from the running one on answer as all do. Assumes nothing.
-use native.Mathlib.Omega.{arith}
-use borrow.Author.Rules.{rules}
-use Prim.Native.Nat.{◌+◌, ◌-◌}
-use mathlib.Core.Path.{sym, ap, ◌∙◌}
+use Prim.Native.Nat.{◌-◌}
 use Rattle.format.specs.declared.Section.TheVariants.{Constraints}
 use Rattle.format.specs.Policy.{policy_of}
-use Rattle.format.proofs.Accepted.{accepted_header}
-use Rattle.format.proofs.ByCase.{count_constraints}
 use Rattle.decision.specs.Reading.{constraint_of}
-use Rattle.decision.specs.Decide.{fails, first_at}
-use Rattle.decide.specs.Inner.Parts.{NthConstraint, rules_in, request_in}
+use Rattle.decision.specs.Decide.{fails}
+use Rattle.decide.specs.Inner.Parts.{rules_in, request_in}
 use Rattle.decide.specs.Inner.Kept.{Sides}
 use Rattle.decide.specs.Inner.Verdicts.{Written}
-use Rattle.decide.specs.Inner.Rules.{found_of, first_constraint}
-use Rattle.decide.proofs.PartLaws.{ready_constraints}
-use Rattle.decide.proofs.VerdictLaws.{written_same, written_after}
-use Rattle.decide.proofs.WalkLaws.{Turn, FirstOf, walk_start, walk_constraint, first_end, first_hit, first_next, all_constraints}
+use Rattle.decide.specs.Inner.Rules.{first_constraint}
+use Rattle.decide.proofs.WalkLaws.{Turn, FirstOf}
 use Rattle.decide.proofs.constraint.first_constraint.Given as goal
 
 abbrev pub invariant-loop-n : goal.invariant-loop-n

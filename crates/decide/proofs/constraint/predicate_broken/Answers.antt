@@ -1,5 +1,4 @@
 -- `predicate_broken` meets its contract: each predicate number has its own. Assumes nothing.
-use borrow.Author.Rules.{rules}
 use native.Mathlib.Omega.{arith}
 use mathlib.Core.Path.{sym, ◌∙◌}
 use Rattle.decide.proofs.ConstraintLaws.{broken_ban, broken_separation, broken_roster, broken_companion, predicate_is}

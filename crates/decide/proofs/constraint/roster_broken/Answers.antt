@@ -1,5 +1,4 @@
 -- `roster_broken` meets its contract: the marks are those of the second argument and of the list. Assumes nothing.
-use borrow.Author.Rules.{rules}
 use mathlib.Core.Path.{◌∙◌}
 use Rattle.decide.specs.Inner.Parts.{constraint_in}
 use Rattle.decide.proofs.PartLaws.{constraint_types}

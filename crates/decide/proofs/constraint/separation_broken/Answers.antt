@@ -1,5 +1,4 @@
 -- `separation_broken` meets its contract: the arguments' marks are those of their sets. Assumes nothing.
-use borrow.Author.Rules.{rules}
 use mathlib.Core.Path.{◌∙◌}
 use Rattle.decide.specs.Inner.Parts.{constraint_in}
 use Rattle.decide.proofs.ConstraintLaws.{marks_first, marks_second, separation_is}

@@ -1,24 +1,16 @@
 -- `first_rule` meets its contract: the rules from the running one on answer as all do. Assumes nothing.
 use native.Mathlib.Omega.{arith}
-use Prim.Native.Nat.{ℕ, suc, ◌+◌, ◌-◌, ◌*◌, ◌≤◌, ◌<◌}
+use Prim.Native.Nat.{suc, ◌+◌, ◌-◌, ◌<◌}
 use mathlib.Core.Path.{◌≡◌, sym, subst, ap, ◌∙◌}
-use mathlib.Core.Logic.{⊎_elim}
-use mathlib.Core.Bool.{Bool, false}
-use mathlib.Core.List.{List}
-use lib.ListN.{length}
-use borrow.Author.Tests.{not-false}
-use Rattle.format.specs.declared.Section.TheVariants.{Rules}
-use Rattle.format.specs.Policy.{policy_of}
+use mathlib.Core.Bool.{false}
 use Rattle.format.specs.Claims.{IsType}
-use Rattle.format.specs.Inner.Places.{words_at, Rising}
 use Rattle.format.proofs.Accepted.{accepted_header, accepted_length}
 use Rattle.format.proofs.Bytes.{word_small}
 use Rattle.format.proofs.ByCase.{count_rules}
 use Rattle.decision.specs.Sets.{within}
-use Rattle.decision.specs.Reading.{rule_of}
 use Rattle.decision.specs.Decide.{covers, first_at}
 use Rattle.decide.specs.Inner.Parts.{RuleHere, request_in, rule_in, set_in, set_at}
-use Rattle.decide.specs.Inner.Marks.{tallied, fully_marked}
+use Rattle.decide.specs.Inner.Marks.{fully_marked}
 use Rattle.decide.specs.Inner.Kept.{KeptTest, Sides}
 use Rattle.decide.specs.Inner.Rules.{found_of, first_rule}
 use Rattle.decide.proofs.MarkLaws.{walk_small, walk_rest, tally_end, tally_yes, tally_no, hits_on, hits_off}
@@ -28,7 +20,7 @@ use Rattle.decide.proofs.PartLaws.{ready_rules, rule_source, rule_dest}
 use Rattle.decide.proofs.KeptLaws.{outside_tells, outside_kept, with_source, with_dest, side_within}
 use Rattle.decide.proofs.RuleLaws.{allow_long}
 use Rattle.decide.proofs.CoverLaws.{covers_no_may, covers_no_dest, covers_no_source, covers_yes, asked_stops}
-use Rattle.decide.proofs.WalkLaws.{Turn, FirstOf, walk_start, walk_rule, first_end, first_hit, first_next, all_rules}
+use Rattle.decide.proofs.WalkLaws.{walk_start, walk_rule, first_end, first_hit, first_next, all_rules}
 use Rattle.decide.proofs.cover.first_rule.Goals as goal
 use Rattle.decide.proofs.cover.first_rule.Goals.{then-dest-word_in, else-dest-word_in}
 use Rattle.decide.proofs.cover.first_rule.Goals.{then-may+then-holds_if_asked+then-inside+then-not-known_outside+then-left-eq0+else-hits-dests}
@@ -119,13 +111,13 @@ members-preserved c = let M = c.members in
     let e : M.left ≡ suc (M.left - 1) = omega arith in
     let t = c.word_in.ensures.0 in
     elim c.if-dest-word_in.branch [
-      then-dest-word_in w ↦ record {
+      | then-dest-word_in w ↦ record {
         room = omega (arith, I.room);
         few = omega (arith, I.few, w.hits-is);
         rising = walk_rest _ _ _ _ e I.rising;
         hits = hits_on M.hits _ _ I.hits (tally_yes _ _ _ _ _ e _ t w.if-dest-word_in.true) w.hits-is;
       }
-    | else-dest-word_in w ↦ record {
+      | else-dest-word_in w ↦ record {
         room = omega (arith, I.room);
         few = omega (arith, I.few, w.hits-is);
         rising = walk_rest _ _ _ _ e I.rising;
@@ -152,34 +144,35 @@ rules-preserved c =
     let F = fully_marked c.args.dest.now c.args.dests in
     let full = full_within _ _ _ K.marked _ (set_rising _ _ c.requires.0.known.accepted here.dest) in
     let k : (covers (request_in l c.args.q) (rule_in l c.args.q.switches c.rules.at) ≡ false)
-        × Sides l c.args.q c.args.source.now c.args.sources c.args.dest.now c.args.dests c.if-may.ksource c.if-may.kdest =
+    × Sides l c.args.q c.args.source.now c.args.sources c.args.dest.now c.args.dests c.if-may.ksource c.if-may.kdest =
     elim c.if-may.branch [
-      then-may+then-holds_if_asked+then-inside+then-not-known_outside+then-left-eq0+else-hits-dests w ↦
-        let span = w.members-span.ensures in
-        let all = w.members.invariant.hits ∙ rw (tally_end _ _ _ _ w.if-left-eq0.true) (omega arith) in
-        let short = hits_short _ _ _ K.marked _ (span_rising _ _ _ _ span) _ all w.if-hits-dests.false in
-        let no = sym (span_told _ _ _ _ span (within _) _ (sym short)) in
-        let out = outside_kept F l _ w.holds_if_asked.ensures.kept _ _ w.word_in-t.ensures.0 (full ∙ no) in
-        let kept = subst (KeptTest F l) (sym (w.kdest-is ∙ w.keep_outside.ensures)) out in
-        (covers_no_dest _ _ _ _ here no, with_dest (with_source I (rw w.ksource-is w.inside.ensures.kept)) kept)
-    | then-may+then-holds_if_asked+then-inside+else-not-known_outside w ↦
-        let held = w.holds_if_asked.ensures in
-        let asked = (with_dest I held.kept).dest in
-        let out = sym w.known_outside.ensures ∙ w.if-not-known_outside.false in
-        let no = sym full ∙ outside_tells asked c.requires.0.known.accepted _ _ w.word_in-t.ensures.0 out in
-        (covers_no_dest _ _ _ _ here no, with_dest (with_source I (rw w.ksource-is w.inside.ensures.kept)) (rw w.kdest-is held.kept))
-    | then-may+then-holds_if_asked+else-inside w ↦
-        let source = side_within c.requires.1.source c.requires.0.known.accepted (rule_source _ _ _ here) _ w.inside.ensures.is in
-        let no = source ∙ w.if-inside.false in
-        (covers_no_source _ _ _ _ here no,
-          with_dest (with_source I (rw w.ksource-is w.inside.ensures.kept)) (rw w.kdest-is w.holds_if_asked.ensures.kept))
-    | then-may+else-holds_if_asked w ↦
-        let held = w.holds_if_asked.ensures in
-        let no = sym full ∙ asked_stops _ _ (sym held.is ∙ w.if-holds_if_asked.false) in
-        (covers_no_dest _ _ _ _ here no, with_dest (with_source I (rw w.ksource-is I.source.kept)) (rw w.kdest-is held.kept))
-    | else-may w ↦
-        let no = sym c.may.ensures ∙ w.if-may.false in
-        (covers_no_may _ _ _ _ here no, with_dest (with_source I (rw w.ksource-is I.source.kept)) (rw w.kdest-is K.kept))
+      | then-may+then-holds_if_asked+then-inside+then-not-known_outside+then-left-eq0+else-hits-dests w ↦
+          let span = w.members-span.ensures in
+          let all = w.members.invariant.hits ∙ rw (tally_end _ _ _ _ w.if-left-eq0.true) (omega arith) in
+          let short = hits_short _ _ _ K.marked _ (span_rising _ _ _ _ span) _ all w.if-hits-dests.false in
+          let no = sym (span_told _ _ _ _ span (within _) _ (sym short)) in
+          let out = outside_kept F l _ w.holds_if_asked.ensures.kept _ _ w.word_in-t.ensures.0 (full ∙ no) in
+          let kept = subst (KeptTest F l) (sym (w.kdest-is ∙ w.keep_outside.ensures)) out in
+          (covers_no_dest _ _ _ _ here no, with_dest (with_source I (rw w.ksource-is w.inside.ensures.kept)) kept)
+      | then-may+then-holds_if_asked+then-inside+else-not-known_outside w ↦
+          let held = w.holds_if_asked.ensures in
+          let asked = (with_dest I held.kept).dest in
+          let out = sym w.known_outside.ensures ∙ w.if-not-known_outside.false in
+          let no = sym full ∙ outside_tells asked c.requires.0.known.accepted _ _ w.word_in-t.ensures.0 out in
+          (covers_no_dest _ _ _ _ here no, with_dest (with_source I (rw w.ksource-is w.inside.ensures.kept)) (rw w.kdest-is held.kept))
+      | then-may+then-holds_if_asked+else-inside w ↦
+          let source = side_within c.requires.1.source c.requires.0.known.accepted (rule_source _ _ _ here) _ w.inside.ensures.is in
+          let no = source ∙ w.if-inside.false in (
+            covers_no_source _ _ _ _ here no,
+            with_dest (with_source I (rw w.ksource-is w.inside.ensures.kept)) (rw w.kdest-is w.holds_if_asked.ensures.kept),
+          )
+      | then-may+else-holds_if_asked w ↦
+          let held = w.holds_if_asked.ensures in
+          let no = sym full ∙ asked_stops _ _ (sym held.is ∙ w.if-holds_if_asked.false) in
+          (covers_no_dest _ _ _ _ here no, with_dest (with_source I (rw w.ksource-is I.source.kept)) (rw w.kdest-is held.kept))
+      | else-may w ↦
+          let no = sym c.may.ensures ∙ w.if-may.false in
+          (covers_no_may _ _ _ _ here no, with_dest (with_source I (rw w.ksource-is I.source.kept)) (rw w.kdest-is K.kept))
     ] in
     record { walk = first_next _ c.rules.invariant.walk (omega arith) k.0 _ c.past-at.ensures; kept = k.1 }
 
@@ -187,7 +180,7 @@ pub returns : goal.returns
 returns c =
     let here : RuleHere c.args.image.now c.rules.at = walk_rule c.rules.invariant.walk (omega arith) c.requires.0.known.accepted in
     let source : within (set_in c.args.image.now c.args.q.source) (set_at c.args.image.now (c.rules.at + 2)) ≡ c.inside.result =
-      side_within c.requires.1.source c.requires.0.known.accepted (rule_source _ _ _ here) _ c.inside.ensures.is in
+    side_within c.requires.1.source c.requires.0.known.accepted (rule_source _ _ _ here) _ c.inside.ensures.is in
     let s = c.members-span.ensures in
     let h = here in
     let m = sym c.may.ensures ∙ c.if-may.true in

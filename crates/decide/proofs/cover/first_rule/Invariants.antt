@@ -1,34 +1,19 @@
 -- `first_rule` meets its contract: the rules from the running one on answer as all do. Assumes nothing.
-use native.Mathlib.Omega.{arith}
-use Prim.Native.Nat.{ℕ, suc, ◌+◌, ◌-◌, ◌*◌, ◌≤◌, ◌<◌}
-use mathlib.Core.Path.{◌≡◌, sym, subst, ap, ◌∙◌}
-use mathlib.Core.Logic.{⊎_elim}
-use mathlib.Core.Bool.{Bool, false}
+use Prim.Native.Nat.{ℕ, ◌+◌, ◌-◌, ◌*◌, ◌≤◌}
+use mathlib.Core.Path.{◌≡◌}
+use mathlib.Core.Bool.{Bool}
 use mathlib.Core.List.{List}
 use lib.ListN.{length}
-use borrow.Author.Tests.{not-false}
 use Rattle.format.specs.declared.Section.TheVariants.{Rules}
 use Rattle.format.specs.Policy.{policy_of}
-use Rattle.format.specs.Claims.{IsType}
 use Rattle.format.specs.Inner.Places.{words_at, Rising}
-use Rattle.format.proofs.Accepted.{accepted_header, accepted_length}
-use Rattle.format.proofs.Bytes.{word_small}
-use Rattle.format.proofs.ByCase.{count_rules}
-use Rattle.decision.specs.Sets.{within}
 use Rattle.decision.specs.Reading.{rule_of}
-use Rattle.decision.specs.Decide.{covers, first_at}
-use Rattle.decide.specs.Inner.Parts.{RuleHere, request_in, rule_in, set_in, set_at}
-use Rattle.decide.specs.Inner.Marks.{tallied, fully_marked}
-use Rattle.decide.specs.Inner.Kept.{KeptTest, Sides}
-use Rattle.decide.specs.Inner.Rules.{found_of, first_rule}
-use Rattle.decide.proofs.MarkLaws.{walk_small, walk_rest, tally_end, tally_yes, tally_no, hits_on, hits_off}
-use Rattle.decide.proofs.TypeLaws.{span_rising, span_told, type_basic, type_small, set_rising}
-use Rattle.decide.proofs.SetLaws.{hits_full, hits_short, full_within}
-use Rattle.decide.proofs.PartLaws.{ready_rules, rule_source, rule_dest}
-use Rattle.decide.proofs.KeptLaws.{outside_tells, outside_kept, with_source, with_dest, side_within}
-use Rattle.decide.proofs.RuleLaws.{allow_long}
-use Rattle.decide.proofs.CoverLaws.{covers_no_may, covers_no_dest, covers_no_source, covers_yes, asked_stops}
-use Rattle.decide.proofs.WalkLaws.{Turn, FirstOf, walk_start, walk_rule, first_end, first_hit, first_next, all_rules}
+use Rattle.decision.specs.Decide.{covers}
+use Rattle.decide.specs.Inner.Parts.{request_in}
+use Rattle.decide.specs.Inner.Marks.{tallied}
+use Rattle.decide.specs.Inner.Kept.{Sides}
+use Rattle.decide.specs.Inner.Rules.{first_rule}
+use Rattle.decide.proofs.WalkLaws.{Turn, FirstOf}
 use Rattle.decide.proofs.cover.first_rule.Given as goal
 
 -- where the walk over the members of a destination stands: so many hits so far, and the rest from a place on

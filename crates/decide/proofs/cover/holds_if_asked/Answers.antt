@@ -1,7 +1,5 @@
 -- `holds_if_asked` meets its contract. Assumes nothing.
 use mathlib.Core.Path.{sym, ◌∙◌}
-use borrow.Author.Rules.{rules}
-use borrow.Author.Tests.{not-true, not-false}
 use Rattle.decide.proofs.CoverLaws.{asked_no, asked_yes}
 use Rattle.decide.proofs.cover.holds_if_asked.Goals as goal
 

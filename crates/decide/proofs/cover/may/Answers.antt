@@ -5,8 +5,6 @@ use mathlib.Core.Bool.{true}
 use lib.Dec.{eqb}
 use Rattle.decide.proofs.RuleLaws.{allow_long, allow_condition}
 use Rattle.decide.proofs.CoverLaws.{may_transition, may_other, may_off, may_class, may_action, low_byte}
-use borrow.Author.Rules.{rules}
-use borrow.Author.Tests.{not-true, not-false}
 use Rattle.decide.specs.Inner.Rules.{allow_at}
 use Rattle.decide.proofs.cover.may.Goals as goal
 

@@ -1,5 +1,4 @@
 -- `decide` meets its contract: the check first, then what it gave. Assumes nothing.
-use borrow.Author.Rules.{rules}
 use mathlib.Core.Path.{refl}
 use Rattle.image.proofs.SurveyLaws.{survey_placed}
 use Rattle.decide.proofs.VerdictLaws.{front_none}

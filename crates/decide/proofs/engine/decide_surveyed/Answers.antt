@@ -1,9 +1,7 @@
 -- `decide_surveyed` meets its contract: the source is looked at before the destination, and both before the decision. Assumes nothing.
 use native.Mathlib.Omega.{arith}
-use borrow.Author.Rules.{rules}
 use mathlib.Core.Path.{◌≡◌, sym, ap, ◌∙◌}
 use mathlib.Core.Bool.{true}
-use borrow.Author.Tests.{not-true, not-false}
 use Rattle.format.specs.declared.Section.TheVariants.{Groups}
 use Rattle.format.specs.Format.{count_of, is_type}
 use Rattle.format.specs.Answers.{sections_outcome}

@@ -1,5 +1,4 @@
 -- `judge` meets its contract: the marks of the two types are set, asked, and taken off again. Assumes nothing.
-use borrow.Author.Rules.{rules}
 use mathlib.Core.Path.{sym, subst}
 use Rattle.format.specs.Claims.{IsType}
 use Rattle.format.proofs.Fields.{type_is}

@@ -1,5 +1,4 @@
 -- `judge_marked` meets its contract: the lowest covering rule and the lowest failing constraint make the decision. Assumes nothing.
-use borrow.Author.Rules.{rules}
 use mathlib.Core.Path.{refl, sym, ap, ◌∙◌}
 use Rattle.format.specs.Answers.{gives}
 use Rattle.format.proofs.Fields.{type_is}

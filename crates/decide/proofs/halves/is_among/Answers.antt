@@ -2,7 +2,7 @@
 use native.Mathlib.Omega.{arith}
 use mathlib.Core.Path.{refl, sym, ap, ◌∙◌}
 use lib.Dec.{eqb}
-use Rattle.decide.proofs.HalfLaws.{Among, among_next, among_one}
+use Rattle.decide.proofs.HalfLaws.{among_next, among_one}
 use Rattle.decide.proofs.halves.is_among.Goals as goal
 
 pub loop-left-init : goal.loop-left-init

@@ -1,8 +1,5 @@
 -- `is_among` meets its contract: the number is among the members left where it is among all. Assumes nothing.
-use native.Mathlib.Omega.{arith}
-use mathlib.Core.Path.{refl, sym, ap, ◌∙◌}
-use lib.Dec.{eqb}
-use Rattle.decide.proofs.HalfLaws.{Among, among_next, among_one}
+use Rattle.decide.proofs.HalfLaws.{Among}
 use Rattle.decide.proofs.halves.is_among.Given as goal
 
 abbrev pub invariant-loop-left : goal.invariant-loop-left

@@ -1,6 +1,5 @@
 -- `find_inside` meets its contract: what is found of a group is kept. Assumes nothing.
 use native.Mathlib.Omega.{arith}
-use borrow.Author.Rules.{rules}
 use mathlib.Core.Path.{◌∙◌}
 use Rattle.decide.specs.Inner.Parts.{group_set}
 use Rattle.decide.specs.Inner.Marks.{fully_marked}

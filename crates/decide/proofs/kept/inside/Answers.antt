@@ -5,7 +5,6 @@ use Rattle.decide.specs.Inner.Parts.{Spans, group_set, set_at}
 use Rattle.decide.specs.Inner.Marks.{fully_marked}
 use Rattle.decide.proofs.TypeLaws.{span_basic, span_rising, span_told, group_number, group_few, group_is}
 use Rattle.decide.proofs.KeptLaws.{kept_says}
-use borrow.Author.Rules.{rules}
 use Rattle.decide.proofs.kept.inside.Goals as goal
 
 pub fully_marked-requires : goal.fully_marked-requires

@@ -1,7 +1,6 @@
 -- `keep` meets its contract: 1 more than the bit is stored. Assumes nothing.
 use mathlib.Core.Path.{refl, sym}
 use Rattle.decide.specs.Inner.Kept.{bit}
-use borrow.Author.Rules.{rules}
 use Rattle.decide.proofs.kept.keep.Goals as goal
 
 pub returns-then-found : goal.returns-then-found

@@ -1,7 +1,6 @@
 -- `keep_outside` meets its contract: a basic type is no group. Assumes nothing.
 use mathlib.Core.Path.{sym}
 use Rattle.decide.proofs.KeptLaws.{keep_basic, keep_group}
-use borrow.Author.Rules.{rules}
 use Rattle.decide.proofs.kept.keep_outside.Goals as goal
 
 pub returns-then-t-lt32768 : goal.returns-then-t-lt32768

@@ -1,7 +1,6 @@
 -- `known_outside` meets its contract: a mark, or what is kept. Assumes nothing.
 use mathlib.Core.Path.{sym}
 use Rattle.decide.proofs.KeptLaws.{outside_basic, outside_group}
-use borrow.Author.Rules.{rules}
 use Rattle.decide.proofs.kept.known_outside.Goals as goal
 
 pub bounds-marks-t : goal.bounds-marks-t

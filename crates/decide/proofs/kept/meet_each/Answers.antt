@@ -1,12 +1,7 @@
 -- `meet_each` meets its contract: what was found so far, or is found in what is left of a group, is kept of it. Assumes nothing.
-use borrow.Author.Rules.{rules}
 use native.Mathlib.Omega.{arith}
-use Prim.Native.Nat.{suc, ◌+◌, ◌-◌, ◌*◌, ◌≤◌, ◌<◌}
+use Prim.Native.Nat.{suc, ◌-◌, ◌<◌}
 use mathlib.Core.Path.{◌≡◌, sym, ap}
-use mathlib.Core.Bool.{◌||◌}
-use mathlib.Core.Logic.{⊎_elim}
-use lib.ListN.{length}
-use Rattle.format.specs.Inner.Places.{words_at, Rising}
 use Rattle.decide.specs.Inner.Parts.{group_set}
 use Rattle.decide.specs.Inner.Marks.{any_marked}
 use Rattle.decide.proofs.MarkLaws.{walk_small, walk_rest, found_end, found_yes, found_no}
@@ -39,12 +34,12 @@ loop-left-preserved c = let L = c.loop-left in
       omega arith,
       walk_rest _ _ _ _ e L.invariant.1,
       elim c.if-first-x.branch [
-        then-first-x w ↦ found_yes _ _ _ _ L.a L.invariant.2 _ e _ x w.if-first-x.true w.a-is
-      | else-first-x w ↦ found_no _ _ _ _ L.a L.invariant.2 _ e _ x w.if-first-x.false w.a-is
+        | then-first-x w ↦ found_yes _ _ _ _ L.a L.invariant.2 _ e _ x w.if-first-x.true w.a-is
+        | else-first-x w ↦ found_no _ _ _ _ L.a L.invariant.2 _ e _ x w.if-first-x.false w.a-is
       ],
       elim c.if-second-x.branch [
-        then-second-x w ↦ found_yes _ _ _ _ L.b L.invariant.3 _ e _ x w.if-second-x.true w.b-is
-      | else-second-x w ↦ found_no _ _ _ _ L.b L.invariant.3 _ e _ x w.if-second-x.false w.b-is
+        | then-second-x w ↦ found_yes _ _ _ _ L.b L.invariant.3 _ e _ x w.if-second-x.true w.b-is
+        | else-second-x w ↦ found_no _ _ _ _ L.b L.invariant.3 _ e _ x w.if-second-x.false w.b-is
       ],
     )
 

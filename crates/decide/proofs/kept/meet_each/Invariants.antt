@@ -1,17 +1,11 @@
 -- `meet_each` meets its contract: what was found so far, or is found in what is left of a group, is kept of it. Assumes nothing.
-use borrow.Author.Rules.{rules}
-use native.Mathlib.Omega.{arith}
-use Prim.Native.Nat.{suc, ◌+◌, ◌-◌, ◌*◌, ◌≤◌, ◌<◌}
-use mathlib.Core.Path.{◌≡◌, sym, ap}
+use Prim.Native.Nat.{◌+◌, ◌*◌, ◌≤◌}
+use mathlib.Core.Path.{◌≡◌}
 use mathlib.Core.Bool.{◌||◌}
-use mathlib.Core.Logic.{⊎_elim}
 use lib.ListN.{length}
 use Rattle.format.specs.Inner.Places.{words_at, Rising}
 use Rattle.decide.specs.Inner.Parts.{group_set}
 use Rattle.decide.specs.Inner.Marks.{any_marked}
-use Rattle.decide.proofs.MarkLaws.{walk_small, walk_rest, found_end, found_yes, found_no}
-use Rattle.decide.proofs.TypeLaws.{span_rising, group_number, group_few}
-use Rattle.decide.proofs.KeptLaws.{kept_adds}
 use Rattle.decide.proofs.kept.meet_each.Given as goal
 
 abbrev pub invariant-loop-left : goal.invariant-loop-left

@@ -5,7 +5,6 @@ use Rattle.decide.specs.Inner.Parts.{Spans, group_set, set_at}
 use Rattle.decide.specs.Inner.Marks.{any_is}
 use Rattle.decide.proofs.TypeLaws.{span_basic, span_rising, span_told, group_number, group_few, group_is}
 use Rattle.decide.proofs.KeptLaws.{kept_says, kept_adds}
-use borrow.Author.Rules.{rules}
 use Rattle.decide.proofs.kept.meets.Goals as goal
 
 pub any_is-requires : goal.any_is-requires

@@ -1,6 +1,5 @@
 -- `any_both` meets its contract: what was found is told of the numbers so far. Assumes nothing.
 use native.Mathlib.Omega.{arith}
-use Prim.Native.Nat.{◌-◌, ◌≤◌}
 use mathlib.Core.Path.{◌≡◌, refl, sym, ap, ◌∙◌}
 use mathlib.Core.Bool.{false, ◌&&◌, ◌||◌}
 use lib.ListN.{get_or}

@@ -1,11 +1,7 @@
 -- `any_both` meets its contract: what was found is told of the numbers so far. Assumes nothing.
-use native.Mathlib.Omega.{arith}
 use Prim.Native.Nat.{◌-◌, ◌≤◌}
-use mathlib.Core.Path.{◌≡◌, refl, sym, ap, ◌∙◌}
-use mathlib.Core.Bool.{false, ◌&&◌, ◌||◌}
-use lib.ListN.{get_or}
+use mathlib.Core.Path.{◌≡◌}
 use Rattle.decide.specs.Inner.Marks.{both_below}
-use Rattle.decide.proofs.SourceLaws.{both_next}
 use Rattle.decide.proofs.marks.any_both.Given as goal
 
 abbrev pub invariant-loop-i : goal.invariant-loop-i

@@ -1,10 +1,8 @@
 -- `any_is` meets its contract: what is left to look at answers as all does. Assumes nothing.
-use native.Mathlib.Omega.{arith}
-use Prim.Native.Nat.{suc, ◌+◌, ◌-◌, ◌*◌, ◌≤◌}
-use mathlib.Core.Path.{◌≡◌, refl, sym, ◌∙◌}
+use Prim.Native.Nat.{◌+◌, ◌*◌, ◌≤◌}
+use mathlib.Core.Path.{◌≡◌}
 use lib.ListN.{length}
 use Rattle.decide.specs.Inner.Marks.{any_is}
-use Rattle.decide.proofs.MarkLaws.{walk_small, walk_rest, is_end, is_yes, is_no}
 use Rattle.format.specs.Inner.Places.{words_at, Rising}
 use Rattle.decide.proofs.marks.any_is.Given as goal
 

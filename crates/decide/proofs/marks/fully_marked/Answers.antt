@@ -1,10 +1,8 @@
 -- `fully_marked` meets its contract: the hits so far and those among what is left are all hits. Assumes nothing.
 use native.Mathlib.Omega.{arith}
-use Prim.Native.Nat.{suc, ◌+◌, ◌-◌, ◌*◌, ◌≤◌}
+use Prim.Native.Nat.{suc, ◌-◌}
 use mathlib.Core.Path.{◌≡◌, ap}
-use lib.ListN.{length}
-use Rattle.format.specs.Inner.Places.{words_at, Rising}
-use mathlib.Core.Logic.{⊎_elim}
+use Rattle.format.specs.Inner.Places.{words_at}
 use lib.Dec.{eqb}
 use Rattle.decide.specs.Inner.Marks.{tallied, fully_marked}
 use Rattle.decide.proofs.MarkLaws.{walk_small, walk_rest, tally_end, tally_yes, tally_no, hits_on, hits_off}
@@ -20,16 +18,18 @@ bounds-marks-word_in c = let L = c.loop-left in let e : L.left ≡ suc (L.left -
 pub loop-left-preserved : goal.loop-left-preserved
 loop-left-preserved c = let L = c.loop-left in let e : L.left ≡ suc (L.left - 1) = omega arith in
     elim c.if-marks-word_in.branch [
-      then-marks-word_in w ↦ (
+      | then-marks-word_in w ↦ (
         omega arith,
         walk_rest _ _ _ _ e L.invariant.1,
         hits_on L.hits _ _ L.invariant.2 (tally_yes _ _ _ _ _ e _ c.word_in.ensures.0 w.if-marks-word_in.true) w.hits-is,
-        omega arith)
-    | else-marks-word_in w ↦ (
+        omega arith,
+      )
+      | else-marks-word_in w ↦ (
         omega arith,
         walk_rest _ _ _ _ e L.invariant.1,
         hits_off L.hits _ _ L.invariant.2 (tally_no _ _ _ _ _ e _ c.word_in.ensures.0 w.if-marks-word_in.false) w.hits-is,
-        omega arith)
+        omega arith,
+      )
     ]
 
 pub returns : goal.returns

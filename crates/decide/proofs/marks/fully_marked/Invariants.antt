@@ -1,13 +1,9 @@
 -- `fully_marked` meets its contract: the hits so far and those among what is left are all hits. Assumes nothing.
-use native.Mathlib.Omega.{arith}
-use Prim.Native.Nat.{suc, ◌+◌, ◌-◌, ◌*◌, ◌≤◌}
-use mathlib.Core.Path.{◌≡◌, ap}
+use Prim.Native.Nat.{◌+◌, ◌*◌, ◌≤◌}
+use mathlib.Core.Path.{◌≡◌}
 use lib.ListN.{length}
 use Rattle.format.specs.Inner.Places.{words_at, Rising}
-use mathlib.Core.Logic.{⊎_elim}
-use lib.Dec.{eqb}
-use Rattle.decide.specs.Inner.Marks.{tallied, fully_marked}
-use Rattle.decide.proofs.MarkLaws.{walk_small, walk_rest, tally_end, tally_yes, tally_no, hits_on, hits_off}
+use Rattle.decide.specs.Inner.Marks.{tallied}
 use Rattle.decide.proofs.marks.fully_marked.Given as goal
 
 abbrev pub invariant-loop-left : goal.invariant-loop-left

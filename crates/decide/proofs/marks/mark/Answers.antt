@@ -1,12 +1,9 @@
 -- `mark` meets its contract: what is left to mark, on top of what is marked, is all. Assumes nothing.
 use native.Mathlib.Omega.{arith}
-use Prim.Native.Nat.{suc, ◌+◌, ◌-◌, ◌*◌, ◌≤◌}
+use Prim.Native.Nat.{suc, ◌-◌}
 use mathlib.Core.Path.{◌≡◌, refl, sym, ◌∙◌}
-use lib.ListN.{length}
-use Rattle.decide.specs.Inner.Marks.{mark_all}
 use Rattle.decide.proofs.MarkLaws.{walk_small, walk_rest, mark_end, mark_next}
 use lib.ListN.{length-set}
-use Rattle.format.specs.Inner.Places.{words_at, Rising}
 use Rattle.decide.proofs.marks.mark.Goals as goal
 
 pub loop-left-init : goal.loop-left-init

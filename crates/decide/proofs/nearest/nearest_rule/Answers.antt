@@ -1,14 +1,11 @@
 -- `nearest_rule` meets its contract: the nearest so far and the rules from the running one on give what all do. Assumes nothing.
 use native.Mathlib.Omega.{arith}
-use Prim.Native.Nat.{◌-◌}
 use mathlib.Core.Path.{sym, ◌∙◌}
 use Rattle.format.proofs.Tests.{false_not_true}
 use Rattle.format.proofs.Accepted.{accepted_header}
 use Rattle.format.proofs.ByCase.{count_rules}
-use Rattle.decide.specs.Inner.Kept.{Sides}
-use Rattle.decide.specs.Inner.Nearer.{AtNearest}
 use Rattle.decide.proofs.PartLaws.{ready_rules}
-use Rattle.decide.proofs.WalkLaws.{Turn, walk_rule}
+use Rattle.decide.proofs.WalkLaws.{walk_rule}
 use Rattle.decide.proofs.NearerLaws.{near_empty, near_start, near_next, near_four, near_end}
 use Rattle.decide.proofs.nearest.nearest_rule.Goals as goal
 

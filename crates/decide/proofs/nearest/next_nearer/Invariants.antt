@@ -1,13 +1,8 @@
 -- `next_nearer` meets its contract: a rule that comes no nearer is passed over. Assumes nothing.
-use native.Mathlib.Omega.{arith}
 use Prim.Native.Nat.{◌-◌, ◌≤◌}
-use mathlib.Core.Path.{sym, ◌∙◌}
-use Rattle.decide.specs.Inner.Parts.{RuleHere}
 use Rattle.decide.specs.Inner.Kept.{Sides}
 use Rattle.decide.specs.Inner.Nearer.{AtNearest}
-use Rattle.decide.proofs.WalkLaws.{Turn, walk_rule}
-use Rattle.decide.proofs.RuleLaws.{allow_long}
-use Rattle.decide.proofs.NearerLaws.{counts_less, counts_more, near_over}
+use Rattle.decide.proofs.WalkLaws.{Turn}
 use Rattle.decide.proofs.nearest.next_nearer.Given as goal
 
 abbrev pub invariant-loop-n : goal.invariant-loop-n

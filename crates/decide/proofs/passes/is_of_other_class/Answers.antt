@@ -1,9 +1,7 @@
 -- `is_of_other_class` meets its contract: only an allow rule asks for a class. Assumes nothing.
-use borrow.Author.Rules.{rules}
 use mathlib.Core.Path.{sym, ap₂, ◌∙◌}
 use mathlib.Core.Bool.{not}
 use lib.Dec.{eqb}
-use borrow.Author.Tests.{not-true, not-false}
 use Rattle.decide.proofs.NearerLaws.{other_no, other_yes}
 use Rattle.decide.proofs.passes.is_of_other_class.Goals as goal
 

@@ -1,9 +1,7 @@
 -- `is_off` meets its contract: only an allow rule has a condition. Assumes nothing.
 use native.Mathlib.Omega.{arith}
-use borrow.Author.Rules.{rules}
 use mathlib.Core.Path.{◌≡◌, sym, ap, ◌∙◌}
 use mathlib.Core.Bool.{true, not}
-use borrow.Author.Tests.{not-true, not-false}
 use Rattle.decide.specs.Inner.Rules.{allow_at}
 use Rattle.decide.proofs.RuleLaws.{allow_long, allow_condition}
 use Rattle.decide.proofs.NearerLaws.{off_no, off_yes}

@@ -1,5 +1,4 @@
 -- `is_stopped_by_class` meets its contract: the class is asked where it may tell. Assumes nothing.
-use borrow.Author.Rules.{rules}
 use mathlib.Core.Path.{sym, ◌∙◌}
 use Rattle.decide.proofs.NearerLaws.{class_few, class_known}
 use Rattle.decide.proofs.passes.is_stopped_by_class.Goals as goal

@@ -3,7 +3,7 @@ use native.Mathlib.Omega.{arith}
 use Prim.Native.Nat.{◌+◌, ◌-◌}
 use mathlib.Core.Path.{◌≡◌, sym, ap, ◌∙◌}
 use mathlib.Core.Bool.{true}
-use borrow.Author.Tests.{not-true, not-false, eq-eqb}
+use borrow.Author.Tests.{eq-eqb}
 use Rattle.decision.specs.Sets.{within}
 use Rattle.decide.specs.Inner.Parts.{set_in, set_at, group_set}
 use Rattle.decide.specs.Inner.Marks.{fully_marked}

@@ -2,7 +2,6 @@
 use native.Mathlib.Omega.{arith}
 use Prim.Native.Nat.{◌+◌}
 use mathlib.Core.Path.{◌≡◌, sym, ◌∙◌}
-use borrow.Author.Tests.{not-true, not-false}
 use Rattle.decision.specs.Sets.{within}
 use Rattle.decide.specs.Inner.Parts.{set_in, set_at}
 use Rattle.decide.proofs.PartLaws.{rule_dest}

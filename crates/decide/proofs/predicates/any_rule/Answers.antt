@@ -1,22 +1,15 @@
 -- `any_rule` meets its contract: the rules from the running one on answer as all do. Assumes nothing.
 use native.Mathlib.Omega.{arith}
-use Prim.Native.Nat.{◌-◌}
 use mathlib.Core.Path.{sym, ap, ◌∙◌}
-use mathlib.Core.Logic.{⊎_elim}
-use Rattle.format.specs.declared.Section.TheVariants.{Rules}
-use Rattle.format.specs.Policy.{policy_of}
 use Rattle.format.proofs.Accepted.{accepted_header}
 use Rattle.format.proofs.ByCase.{count_rules}
 use Rattle.decision.specs.Sets.{any_of}
-use Rattle.decision.specs.Reading.{rule_of}
-use Rattle.decide.specs.Inner.Parts.{RuleHere, rules_in}
+use Rattle.decide.specs.Inner.Parts.{RuleHere}
 use Rattle.decide.specs.Inner.Marks.{any_is}
-use Rattle.decide.specs.Inner.Kept.{KeptReach}
-use Rattle.decide.specs.Inner.Rules.{reaching_from}
 use Rattle.decide.proofs.PartLaws.{ready_rules, rule_source}
 use Rattle.decide.proofs.KeptLaws.{kept_none}
 use Rattle.decide.proofs.RuleLaws.{source_is, reaching_is, not_reaching, reaching_source, live_length}
-use Rattle.decide.proofs.WalkLaws.{Turn, AnyOf, walk_start, walk_rule, any_end, any_hit, any_next, all_rules}
+use Rattle.decide.proofs.WalkLaws.{walk_start, walk_rule, any_end, any_hit, any_next, all_rules}
 use Rattle.decide.proofs.predicates.any_rule.Goals as goal
 use Rattle.decide.proofs.predicates.any_rule.Goals.{then-reaches+else-meets, else-reaches}
 
@@ -25,9 +18,9 @@ word_in-count-requires c = omega (arith, (accepted_header _ c.requires.known.acc
 
 pub loop-n-init : goal.loop-n-init
 loop-n-init c = record {
-      walk = walk_start _ _ _ _ _ _ _ (ready_rules _ _ _ c.requires) (c.word_in-count.ensures.0 ∙ sym (count_rules _)) (ap (any_of _) (all_rules _ _));
-      kept = record { reach = kept_none _ 256; source = kept_none _ 256 };
-    }
+  walk = walk_start _ _ _ _ _ _ _ (ready_rules _ _ _ c.requires) (c.word_in-count.ensures.0 ∙ sym (count_rules _)) (ap (any_of _) (all_rules _ _));
+  kept = record { reach = kept_none _ 256; source = kept_none _ 256 };
+}
 
 pub is_live-live-requires : goal.is_live-live-requires
 is_live-live-requires c =
@@ -67,13 +60,13 @@ loop-n-preserved c =
     let r = c.reaches.ensures in
     let live = reaching_is _ _ _ _ here _ _ c.is_live-live.ensures in
     elim c.if-reaches.branch [
-      then-reaches+else-meets w ↦ record {
+      | then-reaches+else-meets w ↦ record {
         walk = any_next _ I.walk (omega arith)
-          (reaching_source _ _ _ (live ∙ sym r.is ∙ w.if-reaches.true) ∙ ap (any_is _ _) (source_is _ _ _ _ here)
+            (reaching_source _ _ _ (live ∙ sym r.is ∙ w.if-reaches.true) ∙ ap (any_is _ _) (source_is _ _ _ _ here)
             ∙ sym w.meets.ensures.is ∙ w.if-meets.false) _ c.past-at.ensures;
         kept = record { reach = r.kept; source = rw w.ksource-is w.meets.ensures.kept };
       }
-    | else-reaches w ↦ record {
+      | else-reaches w ↦ record {
         walk = any_next _ I.walk (omega arith) (not_reaching _ _ _ (live ∙ sym r.is ∙ w.if-reaches.false)) _ c.past-at.ensures;
         kept = record { reach = r.kept; source = rw w.ksource-is I.kept.source };
       }

@@ -1,22 +1,14 @@
 -- `any_rule` meets its contract: the rules from the running one on answer as all do. Assumes nothing.
-use native.Mathlib.Omega.{arith}
 use Prim.Native.Nat.{◌-◌}
-use mathlib.Core.Path.{sym, ap, ◌∙◌}
-use mathlib.Core.Logic.{⊎_elim}
 use Rattle.format.specs.declared.Section.TheVariants.{Rules}
 use Rattle.format.specs.Policy.{policy_of}
-use Rattle.format.proofs.Accepted.{accepted_header}
-use Rattle.format.proofs.ByCase.{count_rules}
 use Rattle.decision.specs.Sets.{any_of}
 use Rattle.decision.specs.Reading.{rule_of}
-use Rattle.decide.specs.Inner.Parts.{RuleHere, rules_in}
+use Rattle.decide.specs.Inner.Parts.{rules_in}
 use Rattle.decide.specs.Inner.Marks.{any_is}
 use Rattle.decide.specs.Inner.Kept.{KeptReach}
 use Rattle.decide.specs.Inner.Rules.{reaching_from}
-use Rattle.decide.proofs.PartLaws.{ready_rules, rule_source}
-use Rattle.decide.proofs.KeptLaws.{kept_none}
-use Rattle.decide.proofs.RuleLaws.{source_is, reaching_is, not_reaching, reaching_source, live_length}
-use Rattle.decide.proofs.WalkLaws.{Turn, AnyOf, walk_start, walk_rule, any_end, any_hit, any_next, all_rules}
+use Rattle.decide.proofs.WalkLaws.{Turn, AnyOf}
 use Rattle.decide.proofs.predicates.any_rule.Given as goal
 
 abbrev pub invariant-loop-n : goal.invariant-loop-n

@@ -1,9 +1,7 @@
 -- `reaches` meets its contract: the two tests are the definition's. Assumes nothing.
-use borrow.Author.Rules.{rules}
 use Prim.Native.Nat.{◌+◌}
 use mathlib.Core.Path.{sym, ap, ◌∙◌}
 use mathlib.Core.Bool.{◌&&◌}
-use borrow.Author.Tests.{not-true, not-false}
 use Rattle.decide.specs.Inner.Parts.{set_at}
 use Rattle.decide.specs.Inner.Marks.{any_marked}
 use Rattle.decide.proofs.predicates.reaches.Goals as goal

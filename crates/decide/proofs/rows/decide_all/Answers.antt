@@ -1,15 +1,10 @@
 -- `decide_all` meets its contract: k slots are filled. Assumes nothing.
 use native.Mathlib.Omega.{arith}
-use Prim.Native.Nat.{ℕ, ◌-◌, ◌≤◌}
-use mathlib.Core.Path.{◌≡◌, refl}
-use mathlib.Core.Bool.{Bool}
-use mathlib.Core.List.{List}
-use lib.ListN.{length, length-set}
-use Rattle.decide.specs.declared.verdicts.Held.{Held}
+use mathlib.Core.Path.{refl}
+use lib.ListN.{length-set}
 use Rattle.image.proofs.SurveyLaws.{survey_placed}
-use Rattle.decide.specs.Inner.Verdicts.{RowTables}
 use Rattle.decide.proofs.VerdictLaws.{kept_fresh}
-use Rattle.decide.proofs.RowLaws.{filled, rows_next, rows_end}
+use Rattle.decide.proofs.RowLaws.{rows_next, rows_end}
 use Rattle.decide.proofs.rows.decide_all.Goals as goal
 
 pub loop-k-init : goal.loop-k-init

@@ -1,15 +1,12 @@
 -- `decide_all` meets its contract: k slots are filled. Assumes nothing.
-use native.Mathlib.Omega.{arith}
 use Prim.Native.Nat.{ℕ, ◌-◌, ◌≤◌}
-use mathlib.Core.Path.{◌≡◌, refl}
+use mathlib.Core.Path.{◌≡◌}
 use mathlib.Core.Bool.{Bool}
 use mathlib.Core.List.{List}
-use lib.ListN.{length, length-set}
+use lib.ListN.{length}
 use Rattle.decide.specs.declared.verdicts.Held.{Held}
-use Rattle.image.proofs.SurveyLaws.{survey_placed}
 use Rattle.decide.specs.Inner.Verdicts.{RowTables}
-use Rattle.decide.proofs.VerdictLaws.{kept_fresh}
-use Rattle.decide.proofs.RowLaws.{filled, rows_next, rows_end}
+use Rattle.decide.proofs.RowLaws.{filled}
 use Rattle.decide.proofs.rows.decide_all.Given as goal
 
 -- k slots are filled, of as many as there are

@@ -1,5 +1,4 @@
 -- `query_at` meets its contract: a number for each field. Assumes nothing.
-use borrow.Author.Rules.{rules}
 use Rattle.decide.proofs.rows.query_at.Goals as goal
 
 pub returns : goal.returns

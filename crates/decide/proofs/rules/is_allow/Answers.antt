@@ -1,5 +1,4 @@
 -- `is_allow` meets its contract: kind 2 is an allow rule. Assumes nothing.
-use borrow.Author.Rules.{rules}
 use mathlib.Core.Path.{refl}
 use Rattle.decide.specs.Inner.Rules.{allow_at}
 use Rattle.decide.proofs.rules.is_allow.Goals as goal

@@ -1,9 +1,7 @@
 -- `is_live` meets its contract: only an allow rule has a condition. Assumes nothing.
 use native.Mathlib.Omega.{arith}
-use borrow.Author.Rules.{rules}
 use mathlib.Core.Path.{◌≡◌, sym, ◌∙◌}
 use mathlib.Core.Bool.{true}
-use borrow.Author.Tests.{not-true, not-false}
 use Rattle.decide.specs.Inner.Rules.{allow_at}
 use Rattle.decide.proofs.RuleLaws.{live_off, live_on, allow_long, allow_condition}
 use Rattle.decide.proofs.rules.is_live.Goals as goal

@@ -1,6 +1,5 @@
 -- `past` meets its contract: a rule's first byte is its length. Assumes nothing.
 use native.Mathlib.Omega.{arith}
-use borrow.Author.Rules.{rules}
 use Rattle.decide.proofs.rules.past.Goals as goal
 
 pub overflow_add-result : goal.overflow_add-result

@@ -1,16 +1,7 @@
 -- `any_shared` meets its contract: what is marked and the rules from the running one on give what all rules give. Assumes nothing.
-use native.Mathlib.Omega.{arith}
 use Prim.Native.Nat.{◌-◌}
-use mathlib.Core.Path.{sym, ◌∙◌}
-use Rattle.format.proofs.Accepted.{accepted_header}
-use Rattle.format.proofs.ByCase.{count_rules}
-use Rattle.decide.specs.Inner.Parts.{RuleHere}
 use Rattle.decide.specs.Inner.Sources.{Gathering, AtSource}
-use Rattle.decide.proofs.PartLaws.{ready_rules, rule_dest}
-use Rattle.decide.proofs.KeptLaws.{kept_none}
-use Rattle.decide.proofs.RuleLaws.{live_length}
-use Rattle.decide.proofs.WalkLaws.{Turn, walk_rule}
-use Rattle.decide.proofs.SourceLaws.{joined_rule, marking_none, sources_start, sources_next, sources_end, shared_is}
+use Rattle.decide.proofs.WalkLaws.{Turn}
 use Rattle.decide.proofs.separation.any_shared.Given as goal
 
 abbrev pub invariant-loop-n : goal.invariant-loop-n

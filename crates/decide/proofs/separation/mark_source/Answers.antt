@@ -1,5 +1,4 @@
 -- `mark_source` meets its contract: the source of a rule that reaches the marks is joined, and no other. Assumes nothing.
-use borrow.Author.Rules.{rules}
 use mathlib.Core.Path.{sym, ◌∙◌}
 use Rattle.decide.proofs.SourceLaws.{joined_reaching, joined_far}
 use Rattle.decide.proofs.separation.mark_source.Goals as goal

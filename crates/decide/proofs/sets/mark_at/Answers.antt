@@ -1,5 +1,4 @@
 -- `mark_at` meets its contract: the number in the field is the type. Assumes nothing.
-use borrow.Author.Rules.{rules}
 use mathlib.Core.Path.{sym, ap, subst, ◌∙◌}
 use Rattle.format.specs.Claims.{IsType}
 use Rattle.decide.specs.Inner.Parts.{set_in}

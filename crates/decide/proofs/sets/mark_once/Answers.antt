@@ -1,5 +1,4 @@
 -- `mark_once` meets its contract: a basic type is its own set, and a group that was marked has its marks. Assumes nothing.
-use borrow.Author.Rules.{rules}
 use native.Mathlib.Omega.{arith}
 use Prim.Native.Nat.{◌-◌}
 use mathlib.Core.Path.{◌≡◌, sym, ap, ◌∙◌}

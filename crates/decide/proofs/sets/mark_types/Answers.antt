@@ -1,8 +1,7 @@
 -- `mark_types` meets its contract: the sets that are left to mark, on top of what is marked, are all. Assumes nothing.
 use native.Mathlib.Omega.{arith}
-use Prim.Native.Nat.{ℕ, suc, ◌+◌, ◌-◌, ◌*◌, ◌≤◌, ◌<◌}
+use Prim.Native.Nat.{suc, ◌+◌, ◌-◌}
 use mathlib.Core.Path.{◌≡◌, refl, sym, ap, subst, ◌∙◌}
-use lib.ListN.{length}
 use Rattle.format.specs.declared.Section.TheVariants.{Groups}
 use Rattle.format.specs.Bytes.{word_at}
 use Rattle.format.specs.Format.{count_of}

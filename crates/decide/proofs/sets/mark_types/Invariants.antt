@@ -1,17 +1,15 @@
 -- `mark_types` meets its contract: the sets that are left to mark, on top of what is marked, are all. Assumes nothing.
-use native.Mathlib.Omega.{arith}
-use Prim.Native.Nat.{ℕ, suc, ◌+◌, ◌-◌, ◌*◌, ◌≤◌, ◌<◌}
-use mathlib.Core.Path.{◌≡◌, refl, sym, ap, subst, ◌∙◌}
+use Prim.Native.Nat.{ℕ, ◌+◌, ◌*◌, ◌≤◌, ◌<◌}
+use mathlib.Core.Path.{◌≡◌}
 use lib.ListN.{length}
 use Rattle.format.specs.declared.Section.TheVariants.{Groups}
 use Rattle.format.specs.Bytes.{word_at}
 use Rattle.format.specs.Format.{count_of}
 use Rattle.format.specs.Claims.{IsType}
 use Rattle.format.specs.Inner.Places.{words_at}
-use Rattle.decision.specs.Sets.{set_of, union_of}
+use Rattle.decision.specs.Sets.{union_of}
 use Rattle.decide.specs.Inner.Parts.{groups_in}
 use Rattle.decide.specs.Inner.Marks.{mark_all}
-use Rattle.decide.proofs.MarkedLaws.{union_end, union_next, types_next}
 use Rattle.decide.proofs.sets.mark_types.Given as goal
 
 abbrev pub invariant-loop-left : goal.invariant-loop-left

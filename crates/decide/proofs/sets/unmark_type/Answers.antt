@@ -1,5 +1,4 @@
 -- `unmark_type` meets its contract: a basic type has one mark, and a group's are all stored over. Assumes nothing.
-use borrow.Author.Rules.{rules}
 use Rattle.decide.proofs.MarkedLaws.{unmark_basic}
 use Rattle.decide.proofs.sets.unmark_type.Goals as goal
 

@@ -1,5 +1,4 @@
 -- `begin` meets its contract: the check, the run's refusal, the rows that are decided. Assumes nothing.
-use borrow.Author.Rules.{rules}
 use mathlib.Core.Path.{◌≡◌, refl, ap, ◌∙◌}
 use Rattle.format.specs.Answers.{starts}
 use Rattle.image.proofs.SurveyLaws.{survey_placed}

@@ -1,5 +1,4 @@
 -- `begin_queries` meets its contract: the list of answers fits where it is as long. Assumes nothing.
-use borrow.Author.Rules.{rules}
 use mathlib.Core.Path.{sym, subst}
 use Rattle.runs.proofs.Faults.{queries_fault_lem}
 use Rattle.decide.specs.Inner.Steps.{Begins}

@@ -1,5 +1,4 @@
 -- `decide_row` meets its contract: the single decision, and what the run comes to after it. Assumes nothing.
-use borrow.Author.Rules.{rules}
 use Rattle.decide.proofs.BatchLaws.{step_is}
 use Rattle.decide.proofs.VerdictLaws.{tables_for, rows_after}
 use Rattle.decide.proofs.steps.decide_row.Goals as goal

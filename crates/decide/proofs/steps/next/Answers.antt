@@ -1,5 +1,4 @@
 -- `next` meets its contract: a case for each of the run's and of the row's answer. Assumes nothing.
-use borrow.Author.Rules.{rules}
 use mathlib.Core.Path.{refl}
 use Rattle.decide.proofs.BatchLaws.{next_is}
 use Rattle.decide.proofs.steps.next.Goals as goal

@@ -1,6 +1,4 @@
 -- `opening` meets its contract: the check's refusal, then 16, then 17. Assumes nothing.
-use borrow.Author.Rules.{rules}
-use borrow.Author.Tests.{not-true, not-false}
 use native.Mathlib.Omega.{arith}
 use mathlib.Core.Path.{sym}
 use mathlib.Core.Option.{none, some}

@@ -5,7 +5,6 @@ use lib.ListN.{get_or}
 use Rattle.format.specs.Inner.Places.{GroupAt}
 use Rattle.decide.specs.Inner.Parts.{groups_in}
 use Rattle.decide.proofs.TypeLaws.{few_groups, group_placed, group_span_is}
-use borrow.Author.Rules.{rules}
 use Rattle.decide.proofs.types.group_span.Goals as goal
 
 pub offset_bounds-groups-g : goal.offset_bounds-groups-g

@@ -1,6 +1,5 @@
 -- `members` meets its contract: a basic type is its own member, in its field. Assumes nothing.
 use Rattle.decide.proofs.TypeLaws.{span_basic, span_group, group_number}
-use borrow.Author.Rules.{rules}
 use Rattle.decide.proofs.types.members.Goals as goal
 
 pub returns-then-t-lt32768 : goal.returns-then-t-lt32768

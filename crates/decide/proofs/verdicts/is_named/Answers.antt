@@ -1,5 +1,4 @@
 -- `is_named` meets its contract: what is known is answered, and else the rules are asked. Assumes nothing.
-use borrow.Author.Rules.{rules}
 use mathlib.Core.Path.{sym}
 use Rattle.decide.proofs.verdicts.is_named.Goals as goal
 

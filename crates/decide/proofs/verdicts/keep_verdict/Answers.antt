@@ -1,5 +1,4 @@
 -- `keep_verdict` meets its contract. Assumes nothing.
-use borrow.Author.Rules.{rules}
 use mathlib.Core.Path.{ap}
 use lib.ListN.{set}
 use Rattle.decide.proofs.verdicts.keep_verdict.Goals as goal

@@ -1,5 +1,4 @@
 -- `recall` meets its contract: a refused image has no verdicts. Assumes nothing.
-use borrow.Author.Rules.{rules}
 use mathlib.Core.Path.{sym, ap, ◌∙◌}
 use Rattle.format.specs.Answers.{sections_outcome}
 use Rattle.format.proofs.Chain.{outcome_gives, outcome_refused}

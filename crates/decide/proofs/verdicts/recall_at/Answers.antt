@@ -1,5 +1,4 @@
 -- `recall_at` meets its contract: nothing was kept, or it is right, or front and back change, or no rule names a switch. Assumes nothing.
-use borrow.Author.Rules.{rules}
 use mathlib.Core.Path.{refl, sym, ◌∙◌}
 use Rattle.decide.proofs.VerdictLaws.{recalled_first, recalled_plain, recalled_turned}
 use Rattle.decide.proofs.verdicts.recall_at.Goals as goal

@@ -1,9 +1,7 @@
 -- `turn` meets its contract: the numbers before the running one are turned, the others as they were. Assumes nothing.
 use native.Mathlib.Omega.{arith}
-use borrow.Author.Rules.{rules}
-use Prim.Native.Nat.{◌-◌}
 use mathlib.Core.Path.{refl}
-use Rattle.decide.proofs.VerdictLaws.{Turning, turning_next}
+use Rattle.decide.proofs.VerdictLaws.{turning_next}
 use Rattle.decide.proofs.verdicts.turn.Goals as goal
 
 pub loop-n-init : goal.loop-n-init

@@ -1,6 +1,5 @@
 -- `turned_at` meets its contract. Assumes nothing.
 use native.Mathlib.Omega.{arith}
-use borrow.Author.Rules.{rules}
 use mathlib.Core.Path.{refl}
 use Rattle.decide.specs.Inner.Verdicts.{turned}
 use Rattle.decide.proofs.verdicts.turned_at.Goals as goal

@@ -1,5 +1,4 @@
 -- `with_verdict` meets its contract: 1 more than the bit is added. Assumes nothing.
-use borrow.Author.Rules.{rules}
 use mathlib.Core.Path.{refl}
 use Rattle.decide.specs.Inner.Kept.{bit}
 use Rattle.decide.proofs.verdicts.with_verdict.Goals as goal

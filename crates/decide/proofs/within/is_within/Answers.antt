@@ -1,6 +1,5 @@
 -- `is_within` meets its contract: a basic type is looked for, a group's ends or its count settle it. Assumes nothing.
 use native.Mathlib.Omega.{arith}
-use borrow.Author.Rules.{rules}
 use mathlib.Core.Path.{sym, subst, ◌∙◌}
 use Rattle.format.specs.Claims.{IsType}
 use Rattle.decide.proofs.TypeLaws.{type_group}
