@@ -3,6 +3,7 @@ ghost use Rattle.std.specs.Prelude.{◌≡◌, ◌+◌, ◌≤◌, length};
 ghost use Rattle.extension.specs.Inner.Splice.{inserted};
 ghost use Rattle.extend.specs.Inner.Moves.{moved_up, Fits};
 
+use crate::bytes;
 use crate::plan::Slot;
 use crate::word::put_word;
 use format::header;
