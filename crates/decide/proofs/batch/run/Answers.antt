@@ -24,11 +24,13 @@ row_slot l n m i h =
 
 -- what the run comes to after it, and its slot
 module _ (l : List ℕ) (qs : List Query) (ys : List Answer) (i : ℕ) (d : Query) (h : i < length qs) where
-  row_run : (r : Run) (s : Step) → Stepped l (get_or qs i d) r i s → r ≡ out_at l (queries_fault l (length qs) (length ys)) qs i
+  row_run : (r : Run) (s : Step) → Stepped l (get_or qs i d) r i s
+      → r ≡ out_at l (queries_fault l (length qs) (length ys)) qs i
       → s.progress.run ≡ out_at l (queries_fault l (length qs) (length ys)) qs (i + 1)
   row_run r s z e =
       let f = queries_fault l (length qs) (length ys) in
-      z.run ∙ ap (λ x. next_run x i (row_answer l (get_or qs i d))) e ∙ out_next l f qs i d h ∙ ap (out_at l f qs) (sym (add-one i))
+      z.run ∙ ap (λ x. next_run x i (row_answer l (get_or qs i d))) e ∙ out_next l f qs i d h
+      ∙ ap (out_at l f qs) (sym (add-one i))
 
   row_slots : (r : Run) (s : Step) → Stepped l (get_or qs i d) r i s → i < length ys → (zs : List Answer)
       → zs ≡ fill (map (row_answer l) qs) ys i → set zs i s.answer ≡ fill (map (row_answer l) qs) ys (i + 1)

@@ -10,7 +10,8 @@ use Rattle.decide.proofs.NumberLaws.{codes, out}
 use Rattle.decide.proofs.batch.run_numbers.Given as goal
 
 -- i rows are decided, of `many`
-pub record Rows (l ns ys : List ℕ) (many : ℕ) (slots : List ℕ) (progress : Progress) (verdicts : List ℕ) (source dest : List Bool) (i : ℕ) : Type 0 where
+pub record Rows (l ns ys : List ℕ) (many : ℕ) (slots : List ℕ) (progress : Progress) (verdicts : List ℕ)
+    (source dest : List Bool) (i : ℕ) : Type 0 where
   pub few : i ≤ many
   pub ran : progress.run ≡ out l ns ys i
   pub are : slots ≡ fill (codes l ns ys) ys i

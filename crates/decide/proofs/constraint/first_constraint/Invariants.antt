@@ -13,8 +13,10 @@ use Rattle.decide.proofs.constraint.first_constraint.Given as goal
 
 abbrev pub invariant-loop-n : goal.invariant-loop-n
 invariant-loop-n l =
-    Turn (FirstOf Constraints (constraint_of (policy_of l.image)) l.image (fails (rules_in l.image l.q.switches) (request_in l.image l.q)) (first_constraint l.image l.q) l.count l.n l.at)
-    (Sides l.image l.q l.source l.sources l.dest l.dests l.ksource l.kdest × Written l.image l.q.switches l.initial.verdicts l.verdicts)
+    Turn (FirstOf Constraints (constraint_of (policy_of l.image)) l.image
+    (fails (rules_in l.image l.q.switches) (request_in l.image l.q)) (first_constraint l.image l.q) l.count l.n l.at)
+    (Sides l.image l.q l.source l.sources l.dest l.dests l.ksource l.kdest
+    × Written l.image l.q.switches l.initial.verdicts l.verdicts)
 
 abbrev pub decreases-loop-n : goal.decreases-loop-n
 decreases-loop-n l = l.count - l.n

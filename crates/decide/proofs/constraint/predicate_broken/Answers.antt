@@ -15,7 +15,9 @@ returns-in-2 c = c.roster_broken.ensures ∙ sym (broken_roster _ _ (predicate_i
 
 pub returns-in-3 : goal.returns-in-3
 returns-in-3 c = let e = predicate_is _ _ _ c.requires.1 ∙ c.in-3.is in
-    c.companion_broken.ensures ∙ sym (broken_companion _ _ (λ k. absurd (omega (arith, e, k))) (λ k. absurd (omega (arith, e, k))) (λ k. absurd (omega (arith, e, k))))
+    c.companion_broken.ensures ∙ sym
+    (broken_companion _ _ (λ k. absurd (omega (arith, e, k))) (λ k. absurd (omega (arith, e, k)))
+    (λ k. absurd (omega (arith, e, k))))
 
 pub returns-in_default : goal.returns-in_default
 returns-in_default c = absurd (omega (arith, c.requires.1.predicate))

@@ -15,4 +15,5 @@ returns c = let p = c.requires in
     c.any_rule.ensures
     ∙ roster_is _ (constraint_in c.args.image.now c.args.at) _ _
     (marks_second _ _ _ p.1 p.0.known.accepted _ c.mark_at.ensures)
-    (marks_small _ _ _ (union_small _ _ _ p.0.known.accepted (constraint_types _ _ _ p.1 _ w).are) (list_is _ _ _ p.1 _ w) c.mark_types.ensures)
+    (marks_small _ _ _ (union_small _ _ _ p.0.known.accepted (constraint_types _ _ _ p.1 _ w).are)
+    (list_is _ _ _ p.1 _ w) c.mark_types.ensures)

@@ -34,61 +34,70 @@ pub rules-init : goal.rules-init
 unfolding first_rule
 rules-init c = let l = c.args.image.now in
     record {
-      walk = walk_start _ _ _ _ _ _ _ (ready_rules _ _ _ c.requires.0) (c.word_in-count.ensures.0 ∙ sym (count_rules _)) (ap (λ rs. found_of (first_at (covers (request_in l c.args.q)) 0 rs)) (all_rules l c.args.q.switches));
+      walk = walk_start _ _ _ _ _ _ _ (ready_rules _ _ _ c.requires.0) (c.word_in-count.ensures.0 ∙ sym (count_rules _))
+          (ap (λ rs. found_of (first_at (covers (request_in l c.args.q)) 0 rs)) (all_rules l c.args.q.switches));
       kept = c.requires.1;
     }
 
 pub returns-then-count-n : goal.returns-then-count-n
-returns-then-count-n c = let I = c.rules.invariant in record { is = first_end _ I.walk (λ z. absurd (omega arith)); kept = I.kept }
+returns-then-count-n c = let I = c.rules.invariant in
+    record { is = first_end _ I.walk (λ z. absurd (omega arith)); kept = I.kept }
 
 pub is_allow-allow-requires : goal.is_allow-allow-requires
-is_allow-allow-requires c =
-    let at_rule : RuleHere c.args.image.now c.rules.at = walk_rule c.rules.invariant.walk (omega arith) c.requires.0.known.accepted in
-    at_rule
+is_allow-allow-requires c = walk_rule c.rules.invariant.walk (omega arith) c.requires.0.known.accepted
 
 pub may-requires : goal.may-requires
 may-requires c =
-    let here : RuleHere c.args.image.now c.rules.at = walk_rule c.rules.invariant.walk (omega arith) c.requires.0.known.accepted in
+    let here : RuleHere c.args.image.now c.rules.at =
+    walk_rule c.rules.invariant.walk (omega arith) c.requires.0.known.accepted in
     (here, c.is_allow-allow.ensures)
 
 pub overflow_add-to : goal.overflow_add-to
 overflow_add-to c =
-    let here : RuleHere c.args.image.now c.rules.at = walk_rule c.rules.invariant.walk (omega arith) c.requires.0.known.accepted in
+    let here : RuleHere c.args.image.now c.rules.at =
+    walk_rule c.rules.invariant.walk (omega arith) c.requires.0.known.accepted in
     let h = here in omega (arith, h.long, h.here.inside)
 
 pub holds_if_asked-requires : goal.holds_if_asked-requires
 holds_if_asked-requires c =
-    let here : RuleHere c.args.image.now c.rules.at = walk_rule c.rules.invariant.walk (omega arith) c.requires.0.known.accepted in
+    let here : RuleHere c.args.image.now c.rules.at =
+    walk_rule c.rules.invariant.walk (omega arith) c.requires.0.known.accepted in
     (c.requires.0.known, rule_dest _ _ _ here, c.rules.invariant.kept.dest)
 
 pub overflow_add-at : goal.overflow_add-at
 overflow_add-at c =
-    let here : RuleHere c.args.image.now c.rules.at = walk_rule c.rules.invariant.walk (omega arith) c.requires.0.known.accepted in
+    let here : RuleHere c.args.image.now c.rules.at =
+    walk_rule c.rules.invariant.walk (omega arith) c.requires.0.known.accepted in
     let h = here in omega (arith, h.long, h.here.inside)
 
 pub inside-requires : goal.inside-requires
 inside-requires c =
-    let here : RuleHere c.args.image.now c.rules.at = walk_rule c.rules.invariant.walk (omega arith) c.requires.0.known.accepted in
+    let here : RuleHere c.args.image.now c.rules.at =
+    walk_rule c.rules.invariant.walk (omega arith) c.requires.0.known.accepted in
     (c.requires.0.known, rule_source _ _ _ here, c.rules.invariant.kept.source)
 
 pub word_in-t-requires : goal.word_in-t-requires
 word_in-t-requires c =
-    let here : RuleHere c.args.image.now c.rules.at = walk_rule c.rules.invariant.walk (omega arith) c.requires.0.known.accepted in
+    let here : RuleHere c.args.image.now c.rules.at =
+    walk_rule c.rules.invariant.walk (omega arith) c.requires.0.known.accepted in
     let h = here in omega (arith, h.long, h.here.inside)
 
 pub known_outside-requires : goal.known_outside-requires
 known_outside-requires c =
-    let here : RuleHere c.args.image.now c.rules.at = walk_rule c.rules.invariant.walk (omega arith) c.requires.0.known.accepted in
+    let here : RuleHere c.args.image.now c.rules.at =
+    walk_rule c.rules.invariant.walk (omega arith) c.requires.0.known.accepted in
     let is = c.word_in-t.ensures.0 in
     (type_basic _ _ (subst (IsType _) (sym is) here.dest), type_small _ _ _ is c.requires.0.known.accepted here.dest)
 
 pub members-span-requires : goal.members-span-requires
 members-span-requires c =
-    let here : RuleHere c.args.image.now c.rules.at = walk_rule c.rules.invariant.walk (omega arith) c.requires.0.known.accepted in
+    let here : RuleHere c.args.image.now c.rules.at =
+    walk_rule c.rules.invariant.walk (omega arith) c.requires.0.known.accepted in
     (c.requires.0.known, rule_dest _ _ _ here)
 
 pub members-init : goal.members-init
-members-init c = let s = c.members-span.ensures in record { room = s.room; few = omega arith; rising = span_rising _ _ _ _ s; hits = omega arith }
+members-init c = let s = c.members-span.ensures in
+    record { room = s.room; few = omega arith; rising = span_rising _ _ _ _ s; hits = omega arith }
 
 pub word_in-requires : goal.word_in-requires
 word_in-requires c = let I = c.members.invariant in omega (arith, I.room)
@@ -102,7 +111,8 @@ pub overflow_add-m : goal.overflow_add-m
 overflow_add-m c =
     let M = c.members in
     let long = accepted_length _ c.requires.0.known.accepted in
-    let h : M.m + 2 < 18446744073709551616 = omega (arith, M.invariant.room, long, word_small c.args.image.now (λ i. omega (arith, c.type_inv.image i)) 1) in
+    let h : M.m + 2 < 18446744073709551616 =
+    omega (arith, M.invariant.room, long, word_small c.args.image.now (λ i. omega (arith, c.type_inv.image i)) 1) in
     record { fits = h }
 
 pub members-preserved : goal.members-preserved
@@ -127,17 +137,20 @@ members-preserved c = let M = c.members in
 
 pub keep_outside-requires : goal.keep_outside-requires
 keep_outside-requires c =
-    let here : RuleHere c.args.image.now c.rules.at = walk_rule c.rules.invariant.walk (omega arith) c.requires.0.known.accepted in
+    let here : RuleHere c.args.image.now c.rules.at =
+    walk_rule c.rules.invariant.walk (omega arith) c.requires.0.known.accepted in
     type_small _ _ _ c.word_in-t.ensures.0 c.requires.0.known.accepted here.dest
 
 pub past-at-requires : goal.past-at-requires
 past-at-requires c =
-    let here : RuleHere c.args.image.now c.rules.at = walk_rule c.rules.invariant.walk (omega arith) c.requires.0.known.accepted in
+    let here : RuleHere c.args.image.now c.rules.at =
+    walk_rule c.rules.invariant.walk (omega arith) c.requires.0.known.accepted in
     (here, λ e. allow_long _ _ _ here (sym c.is_allow-allow.ensures ∙ e))
 
 pub rules-preserved : goal.rules-preserved
 rules-preserved c =
-    let here : RuleHere c.args.image.now c.rules.at = walk_rule c.rules.invariant.walk (omega arith) c.requires.0.known.accepted in
+    let here : RuleHere c.args.image.now c.rules.at =
+    walk_rule c.rules.invariant.walk (omega arith) c.requires.0.known.accepted in
     let I = c.rules.invariant.kept in
     let K = I.dest in
     let l = c.args.image.now in
@@ -158,18 +171,25 @@ rules-preserved c =
           let held = w.holds_if_asked.ensures in
           let asked = (with_dest I held.kept).dest in
           let out = sym w.known_outside.ensures ∙ w.if-not-known_outside.false in
-          let no = sym full ∙ outside_tells asked c.requires.0.known.accepted _ _ w.word_in-t.ensures.0 out in
-          (covers_no_dest _ _ _ _ here no, with_dest (with_source I (rw w.ksource-is w.inside.ensures.kept)) (rw w.kdest-is held.kept))
+          let no = sym full ∙ outside_tells asked c.requires.0.known.accepted _ _ w.word_in-t.ensures.0 out in (
+            covers_no_dest _ _ _ _ here no,
+            with_dest (with_source I (rw w.ksource-is w.inside.ensures.kept))
+                (rw w.kdest-is held.kept),
+          )
       | then-may+then-holds_if_asked+else-inside w ↦
-          let source = side_within c.requires.1.source c.requires.0.known.accepted (rule_source _ _ _ here) _ w.inside.ensures.is in
+          let source = side_within c.requires.1.source c.requires.0.known.accepted
+          (rule_source _ _ _ here) _ w.inside.ensures.is in
           let no = source ∙ w.if-inside.false in (
             covers_no_source _ _ _ _ here no,
             with_dest (with_source I (rw w.ksource-is w.inside.ensures.kept)) (rw w.kdest-is w.holds_if_asked.ensures.kept),
           )
       | then-may+else-holds_if_asked w ↦
           let held = w.holds_if_asked.ensures in
-          let no = sym full ∙ asked_stops _ _ (sym held.is ∙ w.if-holds_if_asked.false) in
-          (covers_no_dest _ _ _ _ here no, with_dest (with_source I (rw w.ksource-is I.source.kept)) (rw w.kdest-is held.kept))
+          let no = sym full ∙ asked_stops _ _ (sym held.is ∙ w.if-holds_if_asked.false) in (
+            covers_no_dest _ _ _ _ here no,
+            with_dest (with_source I (rw w.ksource-is I.source.kept))
+                (rw w.kdest-is held.kept),
+          )
       | else-may w ↦
           let no = sym c.may.ensures ∙ w.if-may.false in
           (covers_no_may _ _ _ _ here no, with_dest (with_source I (rw w.ksource-is I.source.kept)) (rw w.kdest-is K.kept))
@@ -178,13 +198,19 @@ rules-preserved c =
 
 pub returns : goal.returns
 returns c =
-    let here : RuleHere c.args.image.now c.rules.at = walk_rule c.rules.invariant.walk (omega arith) c.requires.0.known.accepted in
-    let source : within (set_in c.args.image.now c.args.q.source) (set_at c.args.image.now (c.rules.at + 2)) ≡ c.inside.result =
+    let here : RuleHere c.args.image.now c.rules.at =
+    walk_rule c.rules.invariant.walk (omega arith) c.requires.0.known.accepted in
+    let source : within (set_in c.args.image.now c.args.q.source) (set_at c.args.image.now (c.rules.at + 2))
+    ≡ c.inside.result =
     side_within c.requires.1.source c.requires.0.known.accepted (rule_source _ _ _ here) _ c.inside.ensures.is in
     let s = c.members-span.ensures in
     let h = here in
     let m = sym c.may.ensures ∙ c.if-may.true in
     record {
-      is = first_hit _ c.rules.invariant.walk (omega arith) (covers_yes _ _ _ _ h m (sym (span_told _ _ _ _ s (within _) _ (sym (hits_full _ _ _ c.requires.1.dest.marked _ (span_rising _ _ _ _ s) _ _ c.members.invariant.hits c.if-hits-dests.true)))) (source ∙ c.if-inside.true));
+      is = first_hit _ c.rules.invariant.walk (omega arith)
+          (covers_yes _ _ _ _ h m
+          (sym (span_told _ _ _ _ s (within _) _
+          (sym (hits_full _ _ _ c.requires.1.dest.marked _
+          (span_rising _ _ _ _ s) _ _ c.members.invariant.hits c.if-hits-dests.true)))) (source ∙ c.if-inside.true));
       kept = with_dest (with_source c.rules.invariant.kept c.inside.ensures.kept) c.holds_if_asked.ensures.kept;
     }

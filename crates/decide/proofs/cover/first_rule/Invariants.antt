@@ -31,7 +31,8 @@ decreases-members l = l.left
 
 abbrev pub invariant-rules : goal.invariant-rules
 invariant-rules l =
-    Turn (FirstOf Rules (rule_of (policy_of l.image) l.q.switches) l.image (covers (request_in l.image l.q)) (first_rule l.image l.q) l.count l.n l.at) (Sides l.image l.q l.source l.sources l.dest l.dests l.ksource l.kdest)
+    Turn (FirstOf Rules (rule_of (policy_of l.image) l.q.switches) l.image (covers (request_in l.image l.q))
+    (first_rule l.image l.q) l.count l.n l.at) (Sides l.image l.q l.source l.sources l.dest l.dests l.ksource l.kdest)
 
 abbrev pub decreases-rules : goal.decreases-rules
 decreases-rules l = l.count - l.n

@@ -36,7 +36,8 @@ returns-then-not-is_on c =
 pub returns-then-word_in-wide_word : goal.returns-then-word_in-wide_word
 returns-then-word_in-wide_word c =
     let allow : allow_at c.args.image.now c.args.at ≡ true = sym c.requires.1 ∙ c.if-not-allow.false in
-    sym (may_class _ _ _ allow _ c.word_in.ensures.0 (sym c.is_on.ensures ∙ c.if-not-is_on.false) (λ e. c.if-word_in-wide_word.true (e ∙ sym c.wide_word-2.ensures)))
+    sym (may_class _ _ _ allow _ c.word_in.ensures.0 (sym c.is_on.ensures ∙ c.if-not-is_on.false)
+    (λ e. c.if-word_in-wide_word.true (e ∙ sym c.wide_word-2.ensures)))
 
 pub word_in-requires-2 : goal.word_in-requires-2
 word_in-requires-2 c =
@@ -47,4 +48,5 @@ pub returns : goal.returns
 returns c =
     let allow : allow_at c.args.image.now c.args.at ≡ true = sym c.requires.1 ∙ c.if-not-allow.false in
     ap (eqb c.word_in-2.result) c.wide_word-3.ensures
-    ∙ sym (may_action _ _ _ allow _ _ c.word_in.ensures.0 c.word_in-2.ensures.0 (sym c.is_on.ensures ∙ c.if-not-is_on.false) (c.if-word_in-wide_word.false ∙ c.wide_word-2.ensures))
+    ∙ sym (may_action _ _ _ allow _ _ c.word_in.ensures.0 c.word_in-2.ensures.0 (sym c.is_on.ensures ∙ c.if-not-is_on.false)
+    (c.if-word_in-wide_word.false ∙ c.wide_word-2.ensures))

@@ -6,8 +6,10 @@ use Rattle.decide.proofs.engine.decide.Goals as goal
 
 pub decide_surveyed-requires : goal.decide_surveyed-requires
 decide_surveyed-requires c =
-    let k = c.survey-sections.ensures in
-    (record { sections = k.sections; placed = survey_placed _ _ _ _ k }, record { verdicts = λ _. front_none _ _; source = refl; dest = refl })
+    let k = c.survey-sections.ensures in (
+      record { sections = k.sections; placed = survey_placed _ _ _ _ k },
+      record { verdicts = λ _. front_none _ _; source = refl; dest = refl },
+    )
 
 pub returns : goal.returns
 returns c = c.decide_surveyed.ensures.is

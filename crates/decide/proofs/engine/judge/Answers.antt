@@ -7,10 +7,12 @@ use Rattle.decide.proofs.EngineLaws.{marks_after, marked_type}
 use Rattle.decide.proofs.engine.judge.Goals as goal
 
 pub mark_type-sources-requires : goal.mark_type-sources-requires
-mark_type-sources-requires c = let p = c.requires in (p.0.known, subst (IsType _) (sym c.wide_word-from.ensures) (type_is _ _ p.1.0))
+mark_type-sources-requires c = let p = c.requires in
+    (p.0.known, subst (IsType _) (sym c.wide_word-from.ensures) (type_is _ _ p.1.0))
 
 pub mark_type-dests-requires : goal.mark_type-dests-requires
-mark_type-dests-requires c = let p = c.requires in (p.0.known, subst (IsType _) (sym c.wide_word-to.ensures) (type_is _ _ p.1.1))
+mark_type-dests-requires c = let p = c.requires in
+    (p.0.known, subst (IsType _) (sym c.wide_word-to.ensures) (type_is _ _ p.1.1))
 
 pub judge_marked-answer-requires : goal.judge_marked-answer-requires
 judge_marked-answer-requires c =
@@ -19,8 +21,10 @@ judge_marked-answer-requires c =
     let d = c.mark_type-dests.ensures in (
       p.0,
       p.1,
-      marked_type _ _ _ _ _ p.0.known.accepted (type_is _ _ p.1.0) c.wide_word-from.ensures (marks_after _ _ _ s.0 p.2.source) s.1,
-      marked_type _ _ _ _ _ p.0.known.accepted (type_is _ _ p.1.1) c.wide_word-to.ensures (marks_after _ _ _ d.0 p.2.dest) d.1,
+      marked_type _ _ _ _ _ p.0.known.accepted (type_is _ _ p.1.0) c.wide_word-from.ensures
+          (marks_after _ _ _ s.0 p.2.source) s.1,
+      marked_type _ _ _ _ _ p.0.known.accepted (type_is _ _ p.1.1) c.wide_word-to.ensures
+          (marks_after _ _ _ d.0 p.2.dest) d.1,
       p.2.verdicts p.0.known.accepted,
     )
 

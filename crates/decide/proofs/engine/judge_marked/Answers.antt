@@ -1,4 +1,5 @@
--- `judge_marked` meets its contract: the lowest covering rule and the lowest failing constraint make the decision. Assumes nothing.
+-- `judge_marked` meets its contract: the lowest covering rule and the lowest failing constraint make the decision. Assumes
+-- nothing.
 use mathlib.Core.Path.{refl, sym, ap, ◌∙◌}
 use Rattle.format.specs.Answers.{gives}
 use Rattle.format.proofs.Fields.{type_is}
@@ -42,11 +43,17 @@ unfolding decision_of
 returns-in-Nothing-first_constraint c =
     let r = c.first_rule.ensures in
     let k = c.first_constraint.ensures in
-    record { is = ap gives (engine_is _ _ (At _) Nothing (sym c.in-At.is ∙ r.is) (sym c.in-Nothing-first_constraint.is ∙ k.is)); kept = k.kept }
+    record {
+      is = ap gives (engine_is _ _ (At _) Nothing (sym c.in-At.is ∙ r.is) (sym c.in-Nothing-first_constraint.is ∙ k.is));
+      kept = k.kept;
+    }
 
 pub returns-in-At-first_constraint : goal.returns-in-At-first_constraint
 unfolding decision_of
 returns-in-At-first_constraint c =
     let r = c.first_rule.ensures in
     let k = c.first_constraint.ensures in
-    record { is = ap gives (engine_is _ _ (At _) (At _) (sym c.in-At.is ∙ r.is) (sym c.in-At-first_constraint.is ∙ k.is)); kept = k.kept }
+    record {
+      is = ap gives (engine_is _ _ (At _) (At _) (sym c.in-At.is ∙ r.is) (sym c.in-At-first_constraint.is ∙ k.is));
+      kept = k.kept;
+    }

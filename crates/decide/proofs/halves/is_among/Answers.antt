@@ -18,4 +18,6 @@ pub word_in-requires : goal.word_in-requires
 word_in-requires c = let I = c.loop-left.invariant in omega (arith, I.some, I.room)
 
 pub returns : goal.returns
-returns c = let L = c.loop-left in ap (λ v. eqb v c.args.x) c.word_in.ensures.0 ∙ sym (L.invariant.same ∙ among_one _ _ _ _ (omega (arith, L.invariant.some)))
+returns c = let L = c.loop-left in
+    ap (λ v. eqb v c.args.x) c.word_in.ensures.0
+    ∙ sym (L.invariant.same ∙ among_one _ _ _ _ (omega (arith, L.invariant.some)))

@@ -20,4 +20,7 @@ pub returns : goal.returns
 returns c =
     let F = fully_marked c.args.marks.now c.args.size in
     let e = span_told _ _ _ _ c.group_span-s.ensures F _ c.is_within-found.ensures in
-    record { is = c.keep.ensures.0 ∙ e; kept = rw c.keep.ensures.1 (kept_adds (λ g. F (group_set c.args.image.now g)) _ c.requires.2.kept _ _ e) }
+    record {
+      is = c.keep.ensures.0 ∙ e;
+      kept = rw c.keep.ensures.1 (kept_adds (λ g. F (group_set c.args.image.now g)) _ c.requires.2.kept _ _ e);
+    }

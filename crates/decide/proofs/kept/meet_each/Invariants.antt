@@ -1,4 +1,5 @@
--- `meet_each` meets its contract: what was found so far, or is found in what is left of a group, is kept of it. Assumes nothing.
+-- `meet_each` meets its contract: what was found so far, or is found in what is left of a group, is kept of it. Assumes
+-- nothing.
 use Prim.Native.Nat.{◌+◌, ◌*◌, ◌≤◌}
 use mathlib.Core.Path.{◌≡◌}
 use mathlib.Core.Bool.{◌||◌}

@@ -13,8 +13,10 @@ loop-i-init c = (refl, omega arith)
 
 pub loop-i-preserved : goal.loop-i-preserved
 loop-i-preserved c = let a = c.args in
-    let L = c.loop-i in
-    (ap (λ x. x || get_or a.a.now L.i false && get_or a.b.now L.i false) L.invariant.0 ∙ sym (both_next _ _ L.i), omega arith)
+    let L = c.loop-i in (
+      ap (λ x. x || get_or a.a.now L.i false && get_or a.b.now L.i false) L.invariant.0 ∙ sym (both_next _ _ L.i),
+      omega arith,
+    )
 
 pub returns : goal.returns
 returns c = let L = c.loop-i in let e : L.i ≡ 1024 = omega arith in L.invariant.0 ∙ ap (both_below _ _) e

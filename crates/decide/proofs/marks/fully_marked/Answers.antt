@@ -13,7 +13,8 @@ pub loop-left-init : goal.loop-left-init
 loop-left-init c = (c.requires.0, c.requires.1, omega arith, omega arith)
 
 pub bounds-marks-word_in : goal.bounds-marks-word_in
-bounds-marks-word_in c = let L = c.loop-left in let e : L.left ≡ suc (L.left - 1) = omega arith in omega (arith, walk_small _ _ _ _ e L.invariant.1, c.word_in.ensures.0)
+bounds-marks-word_in c = let L = c.loop-left in
+    let e : L.left ≡ suc (L.left - 1) = omega arith in omega (arith, walk_small _ _ _ _ e L.invariant.1, c.word_in.ensures.0)
 
 pub loop-left-preserved : goal.loop-left-preserved
 loop-left-preserved c = let L = c.loop-left in let e : L.left ≡ suc (L.left - 1) = omega arith in
@@ -37,5 +38,6 @@ unfolding fully_marked
 returns c = let a = c.args in
     let L = c.loop-left in
     let n : L.left ≡ 0 = omega arith in
-    let e : L.hits ≡ tallied a.marks.now (words_at a.image.now a.count a.from) = omega (arith, L.invariant.2, tally_end a.marks.now a.image.now L.at L.left n) in
+    let e : L.hits ≡ tallied a.marks.now (words_at a.image.now a.count a.from) =
+    omega (arith, L.invariant.2, tally_end a.marks.now a.image.now L.at L.left n) in
     ap (λ n. eqb n a.size) e

@@ -1,4 +1,5 @@
--- `nearest_rule` meets its contract: the nearest so far and the rules from the running one on give what all do. Assumes nothing.
+-- `nearest_rule` meets its contract: the nearest so far and the rules from the running one on give what all do. Assumes
+-- nothing.
 use native.Mathlib.Omega.{arith}
 use mathlib.Core.Path.{sym, ◌∙◌}
 use Rattle.format.proofs.Tests.{false_not_true}
@@ -18,13 +19,18 @@ returns-then-count-eq0 c = near_empty _ _ _ (c.word_in-count.ensures.0 ∙ sym (
 pub loop-n-init : goal.loop-n-init
 loop-n-init c =
     let p = c.requires in
-    record { walk = near_start _ _ p.2 _ _ (ready_rules _ _ _ p.0) (c.word_in-count.ensures.0 ∙ sym (count_rules _)) c.if-count-eq0.false; kept = p.1 }
+    record {
+      walk = near_start _ _ p.2 _ _ (ready_rules _ _ _ p.0)
+          (c.word_in-count.ensures.0 ∙ sym (count_rules _)) c.if-count-eq0.false;
+      kept = p.1;
+    }
 
 pub next_nearer-next-requires : goal.next_nearer-next-requires
 next_nearer-next-requires c = let I = c.loop-n.invariant in (c.requires.0.known, I.walk, I.kept)
 
 pub returns-then-count-next : goal.returns-then-count-next
-returns-then-count-next c = near_end _ _ _ _ _ _ c.next_nearer-next.ensures.0.walk (λ z. absurd (omega (arith, c.if-count-next.true)))
+returns-then-count-next c =
+    near_end _ _ _ _ _ _ c.next_nearer-next.ensures.0.walk (λ z. absurd (omega (arith, c.if-count-next.true)))
 
 pub returns-then-next-eq4 : goal.returns-then-next-eq4
 returns-then-next-eq4 c =
@@ -46,7 +52,10 @@ pub loop-n-preserved : goal.loop-n-preserved
 loop-n-preserved c =
     let r = c.next_nearer-next.ensures in
     let more = c.if-count-next.false in
-    record { walk = near_next _ _ _ _ _ _ r.0.walk more _ (r.0.steps more) (r.0.nearer more) _ c.past-at.ensures; kept = r.1 }
+    record {
+      walk = near_next _ _ _ _ _ _ r.0.walk more _ (r.0.steps more) (r.0.nearer more) _ c.past-at.ensures;
+      kept = r.1;
+    }
 
 pub returns : goal.returns
 returns c = near_end _ _ _ _ _ _ c.loop-n.invariant.walk (λ z. absurd (omega arith))

@@ -31,12 +31,14 @@ word_in-requires c = c.requires.1.room
 
 pub bounds-marks-word_in : goal.bounds-marks-word_in
 bounds-marks-word_in c =
-    let basic : word_at c.args.image.now c.args.at < 32768 = high_basic _ _ (omega (arith, c.if-image-at-gt127.false)) (omega (arith, c.type_inv.image (c.args.at + 1))) in
+    let basic : word_at c.args.image.now c.args.at < 32768 =
+    high_basic _ _ (omega (arith, c.if-image-at-gt127.false)) (omega (arith, c.type_inv.image (c.args.at + 1))) in
     omega (arith, c.word_in.ensures.0, type_basic _ _ c.requires.1.is basic)
 
 pub returns : goal.returns
 returns c =
-    let basic : word_at c.args.image.now c.args.at < 32768 = high_basic _ _ (omega (arith, c.if-image-at-gt127.false)) (omega (arith, c.type_inv.image (c.args.at + 1))) in
+    let basic : word_at c.args.image.now c.args.at < 32768 =
+    high_basic _ _ (omega (arith, c.if-image-at-gt127.false)) (omega (arith, c.type_inv.image (c.args.at + 1))) in
     ap (λ i. not (get_or c.args.marks.now i false)) c.word_in.ensures.0
     ∙ sym (stops_known _ _ _ _ _ _ c.if-most-passed.false ∙ outside_basic _ _ _ basic)
 

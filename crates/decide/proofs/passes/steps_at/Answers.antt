@@ -26,7 +26,8 @@ pub returns-then-is_known_to_stop : goal.returns-then-is_known_to_stop
 returns-then-is_known_to_stop c =
     let p = c.requires in
     let s = stops_says _ _ _ _ _ _ (sym c.is_known_to_stop.ensures ∙ c.if-is_known_to_stop.true) in
-    let no = side_within p.3.source p.0.accepted (rule_source _ _ _ p.1) false (sym (outside_tells p.3.source p.0.accepted _ _ refl s.1)) in
+    let no = side_within p.3.source p.0.accepted (rule_source _ _ _ p.1) false
+    (sym (outside_tells p.3.source p.0.accepted _ _ refl s.1)) in
     (counts_none _ _ (source_stops _ _ _ _ p.1 _ s.0 no), p.3)
 
 pub is_off-requires : goal.is_off-requires
@@ -47,7 +48,8 @@ pub returns-then-is_known_to_stop-2 : goal.returns-then-is_known_to_stop-2
 returns-then-is_known_to_stop-2 c =
     let p = c.requires in
     let s = stops_says _ _ _ _ _ _ (sym c.is_known_to_stop-2.ensures ∙ c.if-is_known_to_stop-2.true) in
-    let no = side_within p.3.dest p.0.accepted (rule_dest _ _ _ p.1) false (sym (outside_tells p.3.dest p.0.accepted _ _ refl s.1)) in
+    let no = side_within p.3.dest p.0.accepted (rule_dest _ _ _ p.1) false
+    (sym (outside_tells p.3.dest p.0.accepted _ _ refl s.1)) in
     (counts_none _ _ (dest_stops _ _ _ _ p.1 _ s.0 no), p.3)
 
 pub steps_on-requires : goal.steps_on-requires

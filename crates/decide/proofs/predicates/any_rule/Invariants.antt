@@ -13,7 +13,8 @@ use Rattle.decide.proofs.predicates.any_rule.Given as goal
 
 abbrev pub invariant-loop-n : goal.invariant-loop-n
 invariant-loop-n l =
-    Turn (AnyOf Rules (rule_of (policy_of l.image) l.switches) l.image (reaching_from l.reach (any_is l.source l.value)) (any_of (reaching_from l.reach (any_is l.source l.value)) (rules_in l.image l.switches)) l.count l.n l.at)
+    Turn (AnyOf Rules (rule_of (policy_of l.image) l.switches) l.image (reaching_from l.reach (any_is l.source l.value))
+    (any_of (reaching_from l.reach (any_is l.source l.value)) (rules_in l.image l.switches)) l.count l.n l.at)
     (KeptReach l.image l.reach (any_is l.source l.value) l.kreach l.ksource)
 
 abbrev pub decreases-loop-n : goal.decreases-loop-n

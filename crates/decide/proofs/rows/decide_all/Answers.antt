@@ -26,7 +26,8 @@ returns-then-rows-k c = let L = c.loop-k in
     }
 
 pub row-r-requires : goal.row-r-requires
-row-r-requires c = let k = c.survey-sections.ensures in (record { sections = k.sections; placed = survey_placed _ _ _ _ k }, c.loop-k.invariant.kept, omega arith)
+row-r-requires c = let k = c.survey-sections.ensures in
+    (record { sections = k.sections; placed = survey_placed _ _ _ _ k }, c.loop-k.invariant.kept, omega arith)
 
 pub bounds-answers-k : goal.bounds-answers-k
 bounds-answers-k c = let L = c.loop-k in omega (arith, L.invariant.all, L.invariant.same)

@@ -10,7 +10,8 @@ use Rattle.decide.proofs.RowLaws.{filled}
 use Rattle.decide.proofs.rows.decide_all.Given as goal
 
 -- k slots are filled, of as many as there are
-pub record Rows (l b slots : List ℕ) (whole slot-end : ℕ) (now verdicts : List ℕ) (source dest : List Bool) (held : Held) (k : ℕ) : Type 0 where
+pub record Rows (l b slots : List ℕ) (whole slot-end : ℕ) (now verdicts : List ℕ) (source dest : List Bool)
+    (held : Held) (k : ℕ) : Type 0 where
   pub few : k ≤ slot-end
   pub rows : k ≤ whole
   pub all : slot-end ≡ length slots

@@ -1,4 +1,5 @@
--- `any_shared` meets its contract: what is marked and the rules from the running one on give what all rules give. Assumes nothing.
+-- `any_shared` meets its contract: what is marked and the rules from the running one on give what all rules give. Assumes
+-- nothing.
 use native.Mathlib.Omega.{arith}
 use mathlib.Core.Path.{sym, ◌∙◌}
 use Rattle.format.proofs.Accepted.{accepted_header}
@@ -19,37 +20,50 @@ loop-n-init c = let e = ready_rules _ _ _ c.requires in
     let k = c.word_in-count.ensures.0 ∙ sym (count_rules _) in
     record {
       walk = (sources_start _ _ _ _ _ e k, sources_start _ _ _ _ _ e k);
-      kept = (record { reach = kept_none _ 256; marking = marking_none _ 256 }, record { reach = kept_none _ 256; marking = marking_none _ 256 });
+      kept = (
+        record { reach = kept_none _ 256; marking = marking_none _ 256 },
+        record { reach = kept_none _ 256; marking = marking_none _ 256 },
+      );
     }
 
 pub is_live-live-requires : goal.is_live-live-requires
 is_live-live-requires c =
-    let here : RuleHere c.args.image.now c.loop-n.at = walk_rule (c.loop-n.invariant.walk.0 0) (omega arith) c.requires.known.accepted in
+    let here : RuleHere c.args.image.now c.loop-n.at =
+    walk_rule (c.loop-n.invariant.walk.0 0) (omega arith) c.requires.known.accepted in
     here
 
 pub meet_each-requires : goal.meet_each-requires
 meet_each-requires c =
-    let here : RuleHere c.args.image.now c.loop-n.at = walk_rule (c.loop-n.invariant.walk.0 0) (omega arith) c.requires.known.accepted in
+    let here : RuleHere c.args.image.now c.loop-n.at =
+    walk_rule (c.loop-n.invariant.walk.0 0) (omega arith) c.requires.known.accepted in
     let I = c.loop-n.invariant in (c.requires.known, rule_dest _ _ _ here, I.kept.0.reach, I.kept.1.reach)
 
 pub mark_source-requires : goal.mark_source-requires
 mark_source-requires c =
-    let here : RuleHere c.args.image.now c.loop-n.at = walk_rule (c.loop-n.invariant.walk.0 0) (omega arith) c.requires.known.accepted in
-    (record { known = c.requires.known; here = here }, record { reach = c.meet_each.ensures.0; marking = c.loop-n.invariant.kept.0.marking })
+    let here : RuleHere c.args.image.now c.loop-n.at =
+    walk_rule (c.loop-n.invariant.walk.0 0) (omega arith) c.requires.known.accepted in (
+      record { known = c.requires.known; here = here },
+      record { reach = c.meet_each.ensures.0; marking = c.loop-n.invariant.kept.0.marking },
+    )
 
 pub mark_source-requires-in-loop-n : goal.mark_source-requires-in-loop-n
 mark_source-requires-in-loop-n c =
-    let here : RuleHere c.args.image.now c.loop-n.at = walk_rule (c.loop-n.invariant.walk.0 0) (omega arith) c.requires.known.accepted in
-    (record { known = c.requires.known; here = here }, record { reach = c.meet_each.ensures.1; marking = c.loop-n.invariant.kept.1.marking })
+    let here : RuleHere c.args.image.now c.loop-n.at =
+    walk_rule (c.loop-n.invariant.walk.0 0) (omega arith) c.requires.known.accepted in (
+      record { known = c.requires.known; here = here },
+      record { reach = c.meet_each.ensures.1; marking = c.loop-n.invariant.kept.1.marking },
+    )
 
 pub past-at-requires : goal.past-at-requires
 past-at-requires c =
-    let here : RuleHere c.args.image.now c.loop-n.at = walk_rule (c.loop-n.invariant.walk.0 0) (omega arith) c.requires.known.accepted in
+    let here : RuleHere c.args.image.now c.loop-n.at =
+    walk_rule (c.loop-n.invariant.walk.0 0) (omega arith) c.requires.known.accepted in
     (here, live_length _ _ _ here _ _ c.is_live-live.ensures)
 
 pub loop-n-preserved : goal.loop-n-preserved
 loop-n-preserved c =
-    let here : RuleHere c.args.image.now c.loop-n.at = walk_rule (c.loop-n.invariant.walk.0 0) (omega arith) c.requires.known.accepted in
+    let here : RuleHere c.args.image.now c.loop-n.at =
+    walk_rule (c.loop-n.invariant.walk.0 0) (omega arith) c.requires.known.accepted in
     let I = c.loop-n.invariant in
     let is = c.is_live-live.ensures in
     let r = c.mark_source.ensures in

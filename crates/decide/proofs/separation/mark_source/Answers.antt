@@ -5,9 +5,14 @@ use Rattle.decide.proofs.separation.mark_source.Goals as goal
 
 pub returns-then-reaches : goal.returns-then-reaches
 returns-then-reaches c = let r = c.reaches.ensures in
-    let k = c.mark_once.ensures in
-    (joined_reaching c.args.image.now c.args.at c.args.reach.now c.args.marks.now c.args.live _ (sym r.is ∙ c.if-reaches.true) k.0, record { reach = r.kept; marking = k.1 })
+    let k = c.mark_once.ensures in (
+      joined_reaching c.args.image.now c.args.at c.args.reach.now c.args.marks.now c.args.live _
+          (sym r.is ∙ c.if-reaches.true) k.0,
+      record { reach = r.kept; marking = k.1 },
+    )
 
 pub returns-else-reaches : goal.returns-else-reaches
-returns-else-reaches c = let r = c.reaches.ensures in
-    (joined_far c.args.image.now c.args.at c.args.reach.now c.args.marks.now c.args.live (sym r.is ∙ c.if-reaches.false), record { reach = r.kept; marking = c.requires.1.marking })
+returns-else-reaches c = let r = c.reaches.ensures in (
+  joined_far c.args.image.now c.args.at c.args.reach.now c.args.marks.now c.args.live (sym r.is ∙ c.if-reaches.false),
+  record { reach = r.kept; marking = c.requires.1.marking },
+)

@@ -9,4 +9,5 @@ pub mark_type-requires : goal.mark_type-requires
 mark_type-requires c = let p = c.requires in (p.0, subst (IsType _) (sym c.word_in.ensures.0) p.1.is)
 
 pub returns : goal.returns
-returns c = let a = c.args in c.mark_type.ensures.0 ∙ ap (λ t. mark_all a.marks.now (set_in a.image.now t)) c.word_in.ensures.0
+returns c = let a = c.args in
+    c.mark_type.ensures.0 ∙ ap (λ t. mark_all a.marks.now (set_in a.image.now t)) c.word_in.ensures.0

@@ -10,12 +10,14 @@ use Rattle.decide.proofs.SourceLaws.{joins, joined_done, marking_more, marking_d
 use Rattle.decide.proofs.sets.mark_once.Goals as goal
 
 pub bounds-marks-t : goal.bounds-marks-t
-bounds-marks-t c = let p = c.requires in omega (arith, type_basic _ _ p.1.is (omega (arith, c.word_in-t.ensures.0, c.if-t-lt32768.true)), c.word_in-t.ensures.0)
+bounds-marks-t c = let p = c.requires in
+    omega (arith, type_basic _ _ p.1.is (omega (arith, c.word_in-t.ensures.0, c.if-t-lt32768.true)), c.word_in-t.ensures.0)
 
 pub returns-then-t-lt32768 : goal.returns-then-t-lt32768
 returns-then-t-lt32768 c = let p = c.requires in
     let l = c.args.image.now in
-    let e = sym (mark_basic l _ c.if-t-lt32768.true _) ∙ ap (λ t. mark_all c.args.marks.now (set_in l t)) c.word_in-t.ensures.0 in
+    let e = sym (mark_basic l _ c.if-t-lt32768.true _)
+    ∙ ap (λ t. mark_all c.args.marks.now (set_in l t)) c.word_in-t.ensures.0 in
     let s = rising_small 0 _ (set_rising l _ p.0.accepted p.1.is) in
     (joins _ _ _ p.2.all s e, marking_more _ _ _ p.2.all s e l _ p.2)
 
@@ -24,21 +26,24 @@ bounds-done-g c = let p = c.requires in group_few _ _ _ _ p.0 p.1 c.word_in-t.en
 
 pub returns-then-done-g : goal.returns-then-done-g
 returns-then-done-g c =
-    let same : group_set c.args.image.now (c.word_in-t.result - 32768) ≡ set_at c.args.image.now c.args.at = let p = c.requires in group_is _ _ _ _ p.0 p.1 c.word_in-t.ensures.0 c.if-t-lt32768.false in
+    let same : group_set c.args.image.now (c.word_in-t.result - 32768) ≡ set_at c.args.image.now c.args.at = let p =
+    c.requires in group_is _ _ _ _ p.0 p.1 c.word_in-t.ensures.0 c.if-t-lt32768.false in
     let p = c.requires in (joined_done _ _ _ _ _ p.2 c.if-done-g.true same, p.2)
 
 pub bounds-done-g-2 : goal.bounds-done-g-2
 bounds-done-g-2 c = let p = c.requires in group_few _ _ _ _ p.0 p.1 c.word_in-t.ensures.0 c.if-t-lt32768.false
 
 pub group_span-s-requires : goal.group_span-s-requires
-group_span-s-requires c = let p = c.requires in (p.0, group_number _ _ _ _ p.0 p.1 c.word_in-t.ensures.0 c.if-t-lt32768.false)
+group_span-s-requires c = let p = c.requires in
+    (p.0, group_number _ _ _ _ p.0 p.1 c.word_in-t.ensures.0 c.if-t-lt32768.false)
 
 pub mark-requires : goal.mark-requires
 mark-requires c = let s = c.group_span-s.ensures in (s.room, span_rising _ _ _ _ s)
 
 pub returns : goal.returns
 returns c =
-    let same : group_set c.args.image.now (c.word_in-t.result - 32768) ≡ set_at c.args.image.now c.args.at = let p = c.requires in group_is _ _ _ _ p.0 p.1 c.word_in-t.ensures.0 c.if-t-lt32768.false in
+    let same : group_set c.args.image.now (c.word_in-t.result - 32768) ≡ set_at c.args.image.now c.args.at = let p =
+    c.requires in group_is _ _ _ _ p.0 p.1 c.word_in-t.ensures.0 c.if-t-lt32768.false in
     let p = c.requires in
     let e = c.mark.ensures ∙ ap (mark_all _) (c.group_span-s.ensures.are ∙ same) in
     let s = rising_small 0 _ (set_rising _ _ p.0.accepted p.1.is) in

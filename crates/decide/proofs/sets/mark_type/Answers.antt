@@ -18,10 +18,12 @@ group_span-s-requires c = let p = c.requires in (p.0, type_group _ _ p.1 c.if-t-
 
 pub mark-requires : goal.mark-requires
 mark-requires c =
-    let spans : Spans c.args.image.now c.group_span-s.result.from c.group_span-s.result.count (set_in c.args.image.now c.args.t) = subst (Spans _ _ _) (group_again _ _ c.if-t-lt32768.false) c.group_span-s.ensures in
+    let spans : Spans c.args.image.now c.group_span-s.result.from c.group_span-s.result.count
+    (set_in c.args.image.now c.args.t) = subst (Spans _ _ _) (group_again _ _ c.if-t-lt32768.false) c.group_span-s.ensures in
     let s = spans in (s.room, span_rising _ _ _ _ s)
 
 pub returns : goal.returns
 returns c =
-    let spans : Spans c.args.image.now c.group_span-s.result.from c.group_span-s.result.count (set_in c.args.image.now c.args.t) = subst (Spans _ _ _) (group_again _ _ c.if-t-lt32768.false) c.group_span-s.ensures in
+    let spans : Spans c.args.image.now c.group_span-s.result.from c.group_span-s.result.count
+    (set_in c.args.image.now c.args.t) = subst (Spans _ _ _) (group_again _ _ c.if-t-lt32768.false) c.group_span-s.ensures in
     let s = spans in (c.mark.ensures ∙ ap (mark_all _) s.are, span_size _ _ _ _ s)

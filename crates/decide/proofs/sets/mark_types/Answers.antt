@@ -17,7 +17,12 @@ pub loop-left-init : goal.loop-left-init
 loop-left-init c = (c.requires.1.room, c.requires.1.are, refl)
 
 pub mark_type-requires : goal.mark_type-requires
-mark_type-requires c = let L = c.loop-left in let e : L.left ≡ suc (L.left - 1) = omega arith in (c.requires.0, subst (IsType _) (sym c.word_in.ensures.0) (types_next (λ w. IsType (count_of c.args.image.now Groups) (word_at c.args.image.now w)) _ _ _ e L.invariant.1).0)
+mark_type-requires c = let L = c.loop-left in
+    let e : L.left ≡ suc (L.left - 1) = omega arith in (
+      c.requires.0,
+      subst (IsType _) (sym c.word_in.ensures.0)
+          (types_next (λ w. IsType (count_of c.args.image.now Groups) (word_at c.args.image.now w)) _ _ _ e L.invariant.1).0,
+    )
 
 pub loop-left-preserved : goal.loop-left-preserved
 loop-left-preserved c = let L = c.loop-left in
@@ -25,7 +30,9 @@ loop-left-preserved c = let L = c.loop-left in
     let l = c.args.image.now in (
       omega arith,
       (types_next (λ w. IsType (count_of l Groups) (word_at l w)) _ _ _ e L.invariant.1).1,
-      L.invariant.2 ∙ union_next _ _ _ _ _ e ∙ ap (λ m. mark_all m (union_of (groups_in l) (words_at l (L.left - 1) (L.at + 2)))) (sym (c.mark_type.ensures.0 ∙ ap (λ w. mark_all L.marks (set_of (groups_in l) w)) c.word_in.ensures.0)),
+      L.invariant.2 ∙ union_next _ _ _ _ _ e ∙ ap
+          (λ m. mark_all m (union_of (groups_in l) (words_at l (L.left - 1) (L.at + 2))))
+          (sym (c.mark_type.ensures.0 ∙ ap (λ w. mark_all L.marks (set_of (groups_in l) w)) c.word_in.ensures.0)),
     )
 
 pub returns : goal.returns

@@ -13,7 +13,11 @@ use Rattle.decide.specs.Inner.Marks.{mark_all}
 use Rattle.decide.proofs.sets.mark_types.Given as goal
 
 abbrev pub invariant-loop-left : goal.invariant-loop-left
-invariant-loop-left l = (l.at + 2 * l.left ≤ length l.image) × ((i : ℕ) → i < l.left → IsType (count_of l.image Groups) (word_at l.image (l.at + 2 * i))) × (mark_all l.initial.marks (union_of (groups_in l.image) (words_at l.image l.count l.from)) ≡ mark_all l.marks (union_of (groups_in l.image) (words_at l.image l.left l.at)))
+invariant-loop-left l =
+    (l.at + 2 * l.left ≤ length l.image)
+    × ((i : ℕ) → i < l.left → IsType (count_of l.image Groups) (word_at l.image (l.at + 2 * i)))
+    × (mark_all l.initial.marks (union_of (groups_in l.image) (words_at l.image l.count l.from))
+    ≡ mark_all l.marks (union_of (groups_in l.image) (words_at l.image l.left l.at)))
 
 abbrev pub decreases-loop-left : goal.decreases-loop-left
 decreases-loop-left l = l.left

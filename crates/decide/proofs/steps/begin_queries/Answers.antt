@@ -7,4 +7,5 @@ use Rattle.decide.proofs.steps.begin_queries.Goals as goal
 pub returns : goal.returns
 returns c =
     let a = c.args in
-    subst (λ f. Begins a.image.now a.rows f c.begin.result) (sym (queries_fault_lem a.image.now a.rows a.slots)) c.begin.ensures
+    subst (λ f. Begins a.image.now a.rows f c.begin.result)
+    (sym (queries_fault_lem a.image.now a.rows a.slots)) c.begin.ensures

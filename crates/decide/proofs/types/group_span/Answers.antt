@@ -15,17 +15,20 @@ bounds-groups-g c = let p = c.requires in omega (arith, p.1, few_groups _ p.0.ac
 
 pub overflow_add-result : goal.overflow_add-result
 overflow_add-result c =
-    let placed : GroupAt c.args.image.now c.wide_word-at.result (get_or (groups_in c.args.image.now) c.args.g []) = let p = c.requires in rw c.wide_word-at.ensures (group_placed _ _ _ p.0 p.1) in
+    let placed : GroupAt c.args.image.now c.wide_word-at.result (get_or (groups_in c.args.image.now) c.args.g []) = let p =
+    c.requires in rw c.wide_word-at.ensures (group_placed _ _ _ p.0 p.1) in
     let g = placed in omega (arith, g.here.some, g.here.inside)
 
 pub bounds-image-at : goal.bounds-image-at
 bounds-image-at c =
-    let placed : GroupAt c.args.image.now c.wide_word-at.result (get_or (groups_in c.args.image.now) c.args.g []) = let p = c.requires in rw c.wide_word-at.ensures (group_placed _ _ _ p.0 p.1) in
+    let placed : GroupAt c.args.image.now c.wide_word-at.result (get_or (groups_in c.args.image.now) c.args.g []) = let p =
+    c.requires in rw c.wide_word-at.ensures (group_placed _ _ _ p.0 p.1) in
     let g = placed in omega (arith, g.here.some, g.here.inside)
 
 pub overflow_sub-result : goal.overflow_sub-result
 overflow_sub-result c =
-    let placed : GroupAt c.args.image.now c.wide_word-at.result (get_or (groups_in c.args.image.now) c.args.g []) = let p = c.requires in rw c.wide_word-at.ensures (group_placed _ _ _ p.0 p.1) in
+    let placed : GroupAt c.args.image.now c.wide_word-at.result (get_or (groups_in c.args.image.now) c.args.g []) = let p =
+    c.requires in rw c.wide_word-at.ensures (group_placed _ _ _ p.0 p.1) in
     let g = placed in omega (arith, g.here.some, g.here.size, c.wide.ensures.0)
 
 pub returns : goal.returns

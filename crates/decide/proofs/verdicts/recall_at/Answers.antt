@@ -1,4 +1,5 @@
--- `recall_at` meets its contract: nothing was kept, or it is right, or front and back change, or no rule names a switch. Assumes nothing.
+-- `recall_at` meets its contract: nothing was kept, or it is right, or front and back change, or no rule names a switch.
+-- Assumes nothing.
 use mathlib.Core.Path.{refl, sym, ◌∙◌}
 use Rattle.decide.proofs.VerdictLaws.{recalled_first, recalled_plain, recalled_turned}
 use Rattle.decide.proofs.verdicts.recall_at.Goals as goal

@@ -7,10 +7,12 @@ use Rattle.decide.proofs.WithinLaws.{basic_full, first_apart, last_apart}
 use Rattle.decide.proofs.within.is_within.Goals as goal
 
 pub returns-then-inner-lt32768 : goal.returns-then-inner-lt32768
-returns-then-inner-lt32768 c = let p = c.requires in c.is_among.ensures ∙ basic_full _ _ _ _ _ _ p.3 p.1 _ c.wide_word-inner.ensures c.if-inner-lt32768.true
+returns-then-inner-lt32768 c = let p = c.requires in
+    c.is_among.ensures ∙ basic_full _ _ _ _ _ _ p.3 p.1 _ c.wide_word-inner.ensures c.if-inner-lt32768.true
 
 pub group_span-span-requires : goal.group_span-span-requires
-group_span-span-requires c = let p = c.requires in (p.0, type_group _ _ (subst (IsType _) (sym c.wide_word-inner.ensures) p.2) c.if-inner-lt32768.false)
+group_span-span-requires c = let p = c.requires in
+    (p.0, type_group _ _ (subst (IsType _) (sym c.wide_word-inner.ensures) p.2) c.if-inner-lt32768.false)
 
 pub returns-then-word_in : goal.returns-then-word_in
 returns-then-word_in c =
