@@ -33,16 +33,16 @@ fn is_passing(error: &io::Error) -> bool
 }
 
 // Waits a millisecond, or less where a signal comes.
-fn wait<H: Clock>(host: &H) {
-    thread::sleep(host, Duration::from_millis(1));
+fn wait<R: Clock>(rt: &R) {
+    thread::sleep(rt, Duration::from_millis(1));
 }
 
 // After a call that failed with this error: waits a little and tells that the call may be made again, or tells that it may not.
-pub(crate) fn retry<H: Clock>(host: &H, error: &io::Error) -> bool
+pub(crate) fn retry<R: Clock>(rt: &R, error: &io::Error) -> bool
     ensures { IfSome (raw_os_error error.now) (λ e. result ≡ try_again e) }
 {
     if is_passing(error) {
-        wait(host);
+        wait(rt);
         return true;
     }
     false

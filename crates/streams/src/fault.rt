@@ -10,15 +10,15 @@ fn reason(text: &str) -> &str {
 }
 
 // Says on standard error what failed, a colon and why. A standard error that cannot be written changes nothing.
-pub(crate) fn say<H: Eprint + AllocGlobal>(host: &H, what: &[u8], error: &io::Error) {
+pub(crate) fn say<R: Eprint + AllocGlobal>(rt: &R, what: &[u8], error: &io::Error) {
     let what = what.escape_ascii();
-    match error.to_string(host.alloc()) {
+    match error.to_string(rt.alloc()) {
         Ok(text) => {
             let why = reason(text.as_str());
-            let _ = eprintln!(host; "{what}: {why}");
+            let _ = eprintln!(rt; "{what}: {why}");
         }
         Err(_) => {
-            let _ = eprintln!(host; "{what}: {error}");
+            let _ = eprintln!(rt; "{what}: {error}");
         }
     }
 }

@@ -10,10 +10,10 @@ use std::time::Clock;
 
 // Writes all of the bytes and tells that it did, or says on standard error what could not be written, and why. A write that
 // takes nothing is one that failed.
-pub fn write_all<H, W>(host: &H, output: &mut W, what: &[u8], bytes: &[u8]) -> bool
+pub fn write_all<R, O>(rt: &R, output: &mut O, what: &[u8], bytes: &[u8]) -> bool
 where
-    H: Clock + Eprint + AllocGlobal,
-    W: Write,
+    R: Clock + Eprint + AllocGlobal,
+    O: Write,
     ensures { Writes (length bytes.now) result }
 {
     if bytes.len() == 0 {
@@ -21,7 +21,7 @@ where
     }
     let mut rest = bytes;
     for _ in 0..u64::MAX {
-        let done = write_some(host, output, what, rest);
+        let done = write_some(rt, output, what, rest);
         if done == 0 {
             return false;
         }
@@ -34,22 +34,22 @@ where
 }
 
 // Writes once and tells how many bytes were taken. Where it is none, it says so on standard error, and why.
-fn write_some<H, W>(host: &H, output: &mut W, what: &[u8], bytes: &[u8]) -> usize
+fn write_some<R, O>(rt: &R, output: &mut O, what: &[u8], bytes: &[u8]) -> usize
 where
-    H: Clock + Eprint + AllocGlobal,
-    W: Write,
+    R: Clock + Eprint + AllocGlobal,
+    O: Write,
     ensures { result ≤ length bytes.now }
 {
     for _ in 0..u64::MAX {
         match output.write(bytes) {
             Ok(0) => {
-                say(host, what, &io::Error::from(ErrorKind::WriteZero));
+                say(rt, what, &io::Error::from(ErrorKind::WriteZero));
                 return 0;
             }
             Ok(done) => return done,
             Err(error) => {
-                if !retry(host, &error) {
-                    say(host, what, &error);
+                if !retry(rt, &error) {
+                    say(rt, what, &error);
                     return 0;
                 }
             }

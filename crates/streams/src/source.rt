@@ -20,18 +20,18 @@ fn brought(count: usize, part: &[u8]) -> Got
 
 // Reads once into a part, and says on standard error what could not be read, and why. No contract can say which bytes come. A
 // proved loop has to end, so it counts its tries, up to a number that no run uses up.
-pub fn read_some<H, R>(host: &H, input: &mut R, what: &[u8], part: &mut [u8]) -> Got
+pub fn read_some<R, I>(rt: &R, input: &mut I, what: &[u8], part: &mut [u8]) -> Got
 where
-    H: Clock + Eprint + AllocGlobal,
-    R: Read,
+    R: Clock + Eprint + AllocGlobal,
+    I: Read,
     ensures { Brings (length part.old) result }
 {
     for _ in 0..u64::MAX {
         match input.read(part) {
             Ok(count) => return brought(count, part),
             Err(error) => {
-                if !retry(host, &error) {
-                    say(host, what, &error);
+                if !retry(rt, &error) {
+                    say(rt, what, &error);
                     return Got::Failed;
                 }
             }
@@ -42,17 +42,17 @@ where
 
 // Reads once into a buffer, from a place up to another, and leaves the bytes before and behind. Places that are not there in
 // this order are a read that failed.
-pub fn read_between<H, R>(
-    host: &H,
-    input: &mut R,
+pub fn read_between<R, I>(
+    rt: &R,
+    input: &mut I,
     what: &[u8],
     buffer: &mut [u8],
     from: usize,
     to: usize,
 ) -> Got
 where
-    H: Clock + Eprint + AllocGlobal,
-    R: Read,
+    R: Clock + Eprint + AllocGlobal,
+    I: Read,
     ensures { ReadBetween from to buffer.old result buffer.new }
 {
     if to < from {
@@ -61,5 +61,5 @@ where
     if buffer.len() < to {
         return Got::Failed;
     }
-    read_some(host, input, what, &mut buffer[from..to])
+    read_some(rt, input, what, &mut buffer[from..to])
 }
