@@ -78,7 +78,7 @@ where
         row: 1,
         kept: 0,
     };
-    for _ in 0..TURNS {
+    for turn in 0..TURNS {
         let kept = p.kept;
         match streams::read_between(
             rt,
