@@ -1,5 +1,6 @@
-// What the C interface answers: numbers and byte slices only; the crate mungaite_c exports it to C. An answer is a number of four 16-bit parts, but for a text's, which has two:
-// 16 bits and 48. include/mungaite.h declares the functions and has the table of answers.
+// What the C interface answers: numbers and byte slices only; the crate `mungaite_c` exports it to C. An answer is a number of
+// four 16-bit parts, but for a text's, which has two: 16 bits and 48. include/mungaite.h declares the functions and has the
+// table of answers.
 #![tactic(auto)]
 
 ghost use Rattle.std.specs.Prelude.{◌≡◌, length};
