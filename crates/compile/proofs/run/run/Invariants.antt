@@ -1,5 +1,5 @@
 -- Where the program is before a turn. No place passes 64 bits.
-use Rattle.std.proofs.Common.{◌≡◌, ◌+◌, ◌*◌, ◌≤◌, ◌<◌, length}
+use Rattle.std.proofs.Common.{◌≡◌, ◌+◌, ◌*◌, ◌≤◌, ◌<◌}
 use Rattle.std.proofs.Math.Option.{none}
 use Rattle.format.specs.Check.{check_front}
 use Rattle.compile.specs.Inner.Turn.{reading_of}

@@ -1,6 +1,4 @@
-use Rattle.std.proofs.Common.{◌≡◌, ◌∙◌, get_or, ap, arith}
-use Rattle.decision.specs.Numbers.{decision_code}
-use Rattle.decision.specs.Decide.{answer}
+use Rattle.std.proofs.Common.{◌∙◌, get_or, ap, arith}
 use Rattle.decision.proofs.Rows.{rows_answered}
 use Rattle.permit.proofs.Laws.{lines_start, lines_next, lines_end}
 use Rattle.permit.proofs.answers.put_answers.Goals as goal
