@@ -190,6 +190,7 @@ def main():
     for n, to in sorted(table.items()):
         if "◌" not in n and to in everywhere and to not in names:
             print(f"stands already: {n} -> {to} ({everywhere[to]} places)")
+    clauses = {n: to for n, to in table.items() if not re.fullmatch(r"[a-z0-9_']+", n)}
     for path in every:
         text = read(path)
         kept = foreign(text)
@@ -198,7 +199,8 @@ def main():
             if path.endswith(".rt"):
                 at = line.find("//")
                 code, rest = (line, "") if at < 0 else (line[:at], line[at:])
-                code = turn(code, table, fields, kept, False) if not re.search(r'"', code) else code
+                # A word that was in snake case already may be a function's.
+                code = turn(code, clauses, fields, kept, False) if not re.search(r'"', code) else code
                 new.append(code + re.sub(r"`[^`\n]*`", lambda m: WORD.sub(lambda n: table.get(n.group(), n.group()), m.group()), rest))
             else:
                 code, rest = code_of(line)
@@ -239,6 +241,7 @@ def edits(landed, table):
                     text = re.sub(r"(?<!\S)_(\S+)_(?!\S)", r"◌\1◌", text)
                 else:
                     text = line[5:]
+                    near = {n: to for n, to in near.items() if not re.fullmatch(r"[a-z0-9_']+", n)}
                 lines[i] = line[:5] + WORD.sub(lambda m: near.get(m.group(), m.group()), text)
         with open(path, "w", encoding="utf-8") as f:
             f.write("\n".join(lines))

@@ -1,128 +1,119 @@
 // A case's line: its label and the answer. N, the steps and the rule, or N and a hyphen; P and the rule; U, the rule and the
 // constraint; R, the number and the place; or that an image is accepted.
 use format::Section;
-use libc::STDOUT_FILENO;
 use samples::SAMPLE;
+use std::io;
 
 // The query on the image that a buffer starts with, without a switch on.
 pub(crate) fn ask(
-    label: &[u8],
+    rt: &impl Print,
+    label: &str,
     buffer: &[u8],
     source: u16,
     destination: u16,
     class: u16,
     action: u16,
-) {
-    ask_on(label, buffer, source, destination, class, action, 0);
+) -> io::Result<()> {
+    ask_on(rt, label, buffer, source, destination, class, action, 0)
 }
 
 // The same under a switch word.
 pub(crate) fn ask_on(
-    label: &[u8],
+    rt: &impl Print,
+    label: &str,
     buffer: &[u8],
     source: u16,
     destination: u16,
     class: u16,
     action: u16,
     switches: u32,
-) {
+) -> io::Result<()> {
     let image = image::leading(buffer);
     line(
+        rt,
         label,
         mungaite::mungaite_decide(source, destination, class, action, switches, image),
-    );
+    )
 }
 
-pub(crate) fn check(label: &[u8], image: &[u8]) {
+pub(crate) fn check(rt: &impl Print, label: &str, image: &[u8]) -> io::Result<()> {
     let answer = mungaite::mungaite_check(image);
     if answer == 0 {
-        io::write_all(STDOUT_FILENO, label);
-        io::write_all(STDOUT_FILENO, b": accepted\n");
+        println!(rt; "{label}: accepted")
     } else {
-        line(label, answer);
+        line(rt, label, answer)
     }
 }
 
 // Whether record n of a section of the sample is given as these bytes, and none where there is no such record.
-pub(crate) fn give(label: &[u8], section: Section, n: usize, bytes: &[u8]) {
-    io::write_all(STDOUT_FILENO, label);
-    if check::same(image::record(&SAMPLE, section, n), bytes) {
-        io::write_all(STDOUT_FILENO, b": same bytes\n");
-    } else {
-        io::write_all(STDOUT_FILENO, b": other bytes\n");
-    }
+pub(crate) fn give(
+    rt: &impl Print,
+    label: &str,
+    section: Section,
+    n: usize,
+    bytes: &[u8],
+) -> io::Result<()> {
+    let record = image::record(&SAMPLE, section, n);
+    println!(rt; "{label}: {} bytes", same_or_other(record == bytes))
 }
 
 // An answer of the C interface.
-fn line(label: &[u8], answer: u64) {
-    io::write_all(STDOUT_FILENO, label);
-    io::write_all(STDOUT_FILENO, b":");
+fn line(rt: &impl Print, label: &str, answer: u64) -> io::Result<()> {
     if answer == 0xFFFF {
-        io::write_all(STDOUT_FILENO, b" N -\n");
-        return;
+        return println!(rt; "{label}: N -");
     }
+    let third = lowest(answer >> 16);
+    let fourth = lowest(answer);
     match answer >> 32 {
-        0 => number(b" N", answer >> 16),
-        1 => {
-            io::write_all(STDOUT_FILENO, b" P");
-        }
-        2 => number(b" R", answer >> 16),
-        _ => number(b" U", answer >> 16),
+        0 => println!(rt; "{label}: N {third} {fourth}"),
+        1 => println!(rt; "{label}: P {fourth}"),
+        2 => println!(rt; "{label}: R {third} {fourth}"),
+        _ => println!(rt; "{label}: U {third} {fourth}"),
     }
-    number(b"", answer);
-    io::write_all(STDOUT_FILENO, b"\n");
 }
 
 // What a run comes to.
-pub(crate) fn comes(label: &[u8], answer: u64) {
-    io::write_all(STDOUT_FILENO, label);
-    io::write_all(STDOUT_FILENO, b":");
+pub(crate) fn comes(rt: &impl Print, label: &str, answer: u64) -> io::Result<()> {
+    let third = lowest(answer >> 16);
+    let fourth = lowest(answer);
     match answer >> 32 {
-        0 => number(b" row", answer),
-        1 => {
-            io::write_all(STDOUT_FILENO, b" fit");
-        }
-        _ => {
-            number(b" R", answer >> 16);
-            number(b"", answer);
-        }
+        0 => println!(rt; "{label}: row {fourth}"),
+        1 => println!(rt; "{label}: fit"),
+        _ => println!(rt; "{label}: R {third} {fourth}"),
     }
-    io::write_all(STDOUT_FILENO, b"\n");
 }
 
 // What a text builds: the image's length, or the refusal; and whether the image is the one that is told.
-pub(crate) fn built(label: &[u8], answer: u64, same: bool) {
-    said(label, answer >> 48, answer, same);
+pub(crate) fn built(rt: &impl Print, label: &str, answer: u64, same: bool) -> io::Result<()> {
+    said(rt, label, answer >> 48, answer, same)
 }
 
 // What converting answers, and whether its bytes are those wanted: the image's length, or R, the number and the place.
-pub(crate) fn converted(label: &[u8], answer: u64, same: bool) {
-    said(label, (answer >> 16) % 65536, answer, same);
+pub(crate) fn converted(rt: &impl Print, label: &str, answer: u64, same: bool) -> io::Result<()> {
+    said(rt, label, lowest(answer >> 16), answer, same)
 }
 
 // A refusal's number, where there is one, the lowest 16 bits of an answer, and whether bytes are the same.
-fn said(label: &[u8], refusal: u64, answer: u64, same: bool) {
-    io::write_all(STDOUT_FILENO, label);
-    io::write_all(STDOUT_FILENO, b":");
-    if refusal != 0 {
-        number(b" R", refusal);
-    }
-    number(b"", answer);
-    if same {
-        io::write_all(STDOUT_FILENO, b", same bytes\n");
+fn said(rt: &impl Print, label: &str, refusal: u64, answer: u64, same: bool) -> io::Result<()> {
+    let fourth = lowest(answer);
+    let which = same_or_other(same);
+    if refusal == 0 {
+        println!(rt; "{label}: {fourth}, {which} bytes")
     } else {
-        io::write_all(STDOUT_FILENO, b", other bytes\n");
+        println!(rt; "{label}: R {refusal} {fourth}, {which} bytes")
     }
 }
 
 // What a run's slot holds.
-pub(crate) fn slot(answer: u64) {
-    line(b"- slot", answer);
+pub(crate) fn slot(rt: &impl Print, answer: u64) -> io::Result<()> {
+    line(rt, "- slot", answer)
 }
 
-// A letter, and the lowest 16 bits of a number.
-fn number(letter: &[u8], parts: u64) {
-    io::write_all(STDOUT_FILENO, letter);
-    io::write_all(STDOUT_FILENO, b" ");
-    io::print_decimal(STDOUT_FILENO, parts & 0xFFFF);
+fn same_or_other(same: bool) -> &'static str {
+    if same { "same" } else { "other" }
+}
+
+// The lowest 16 bits of a number.
+fn lowest(parts: u64) -> u64 {
+    parts & 0xFFFF
 }

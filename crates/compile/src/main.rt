@@ -14,8 +14,14 @@ mod run; // run.rt: one turn after the other
 
 use crate::run::run;
 
-fn main() {
+fn main(rt: HostRuntime) {
     let mut image = io::large_buffer();
     extend::build(b"", &mut image);
-    run(&mut image);
+    run(
+        &rt,
+        &mut rt.stdin(),
+        &mut rt.stdout(),
+        &mut rt.stderr(),
+        &mut image,
+    );
 }

@@ -9,38 +9,67 @@ ghost use Rattle.compile.specs.Inner.Due.{DueErrors, Reached, Starts};
 use crate::line::put_row_line;
 use crate::sink::{write_image, write_line};
 use crate::turn::{Ending, Place, Step, end_turns, take_turn};
-use libc::STDIN_FILENO;
 use lines::RowRefusal;
+use std::io::{Read, Write};
+use std::time::Clock;
 use streams::Got;
 
+// More reads than a run makes.
+const TURNS: u64 = 140737488355328;
+
 // Writes the line of a refused row.
-fn refuse(f: RowRefusal)
+fn refuse<R, E>(rt: &R, stderr: &mut E, f: RowRefusal)
+where
+    R: Clock + Eprint + AllocGlobal,
+    E: Write,
     requires { DueErrors (row_line f) }
 {
     let mut line = [0u8; 65];
     let end = put_row_line(f, &mut line);
-    write_line(&line[..end]);
+    write_line(rt, stderr, &line[..end]);
 }
 
 // The end of the input: writes the image, or the line of the last row.
-fn conclude(p: Place, input: &[u8], image: &mut [u8])
+fn conclude<R, O, E>(
+    rt: &R,
+    stdout: &mut O,
+    stderr: &mut E,
+    p: Place,
+    input: &[u8],
+    image: &mut [u8],
+)
+where
+    R: Clock + Eprint + AllocGlobal,
+    O: Write,
+    E: Write,
     requires { Reached (reading_of p input.now image.old) × (check_front image.old ≡ none)
         × (p.kept ≤ length input.now) × (p.at + p.kept < 2 ^ 64) × (p.row + p.kept < 2 ^ 64) }
 {
     match end_turns(p, input, image) {
         Ending::Fault(f) => {
-            refuse(f);
+            refuse(rt, stderr, f);
         }
         Ending::Image(n) => {
-            write_image(&image[..n]);
+            write_image(rt, stdout, &image[..n]);
         }
     }
 }
 
-// Takes turns until the input ends, a row is refused or an error ends it. A proved loop has to end, so it counts its turns
-// down, from a number that no run uses up: so many reads take years. As a turn goes on by at most 65,536 bytes, no place and
+// Takes turns until the input ends, a row is refused or an error ends it. A proved loop has to end, so it counts its turns,
+// up to a number that no run uses up: so many reads take years. As a turn goes on by at most 65,536 bytes, no place and
 // no number of a row passes 64 bits.
-pub(crate) fn run(image: &mut [u8])
+pub(crate) fn run<R, I, O, E>(
+    rt: &R,
+    stdin: &mut I,
+    stdout: &mut O,
+    stderr: &mut E,
+    image: &mut [u8],
+)
+where
+    R: Clock + Eprint + AllocGlobal,
+    I: Read,
+    O: Write,
+    E: Write,
     requires { Starts image.old }
 {
     let mut input = io::large_buffer();
@@ -49,11 +78,11 @@ pub(crate) fn run(image: &mut [u8])
         row: 1,
         kept: 0,
     };
-    let mut turns: u64 = 140737488355328;
-    while 0 < turns {
+    for turn in 0..TURNS {
         let kept = p.kept;
         match streams::read_between(
-            STDIN_FILENO,
+            rt,
+            stdin,
             b"compile: standard input",
             &mut input,
             kept,
@@ -63,12 +92,12 @@ pub(crate) fn run(image: &mut [u8])
                 return;
             }
             Got::Ended => {
-                conclude(p, &input, image);
+                conclude(rt, stdout, stderr, p, &input, image);
                 return;
             }
             Got::Bytes(n) => match take_turn(p, &mut input, kept + n, image) {
                 Step::Fault(f) => {
-                    refuse(f);
+                    refuse(rt, stderr, f);
                     return;
                 }
                 Step::Onward(next) => {
@@ -76,6 +105,5 @@ pub(crate) fn run(image: &mut [u8])
                 }
             },
         }
-        turns -= 1;
     }
 }

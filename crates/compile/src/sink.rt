@@ -1,18 +1,25 @@
 // Standard output and standard error.
 ghost use Rattle.compile.specs.Inner.Due.{DueOutput, DueErrors};
 
-use libc::{STDERR_FILENO, STDOUT_FILENO};
+use std::io::Write;
+use std::time::Clock;
 
 // Writes an image that is due, all of it.
-pub(crate) fn write_image(bytes: &[u8])
+pub(crate) fn write_image<R, O>(rt: &R, stdout: &mut O, bytes: &[u8])
+where
+    R: Clock + Eprint + AllocGlobal,
+    O: Write,
     requires { DueOutput bytes.now }
 {
-    streams::write_all(STDOUT_FILENO, b"compile: standard output", bytes);
+    streams::write_all(rt, stdout, b"compile: standard output", bytes);
 }
 
 // Writes the line of a refused row that is due, all of it.
-pub(crate) fn write_line(bytes: &[u8])
+pub(crate) fn write_line<R, E>(rt: &R, stderr: &mut E, bytes: &[u8])
+where
+    R: Clock + Eprint + AllocGlobal,
+    E: Write,
     requires { DueErrors bytes.now }
 {
-    streams::write_all(STDERR_FILENO, b"compile: standard error", bytes);
+    streams::write_all(rt, stderr, b"compile: standard error", bytes);
 }

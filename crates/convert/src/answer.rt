@@ -9,27 +9,36 @@ use crate::line::put_line;
 use crate::sink::{write_image, write_line};
 use conversion::Converted;
 use format::Refusal;
+use std::io::Write;
+use std::time::Clock;
 
 // Writes the line of a refused image.
-fn refuse(f: Refusal)
+fn refuse<R, E>(rt: &R, stderr: &mut E, f: Refusal)
+where
+    R: Clock + Eprint + AllocGlobal,
+    E: Write,
     requires { DueErrors (line (refused f)) }
 {
     let mut text = [0u8; 44];
     let end = put_line(f, &mut text);
-    write_line(&text[..end]);
+    write_line(rt, stderr, &text[..end]);
 }
 
 // Writes the new image, or the line. A new image is no longer than the old one, so the buffer always holds it.
-pub(crate) fn answer(input: &[u8])
+pub(crate) fn answer<R, O, E>(rt: &R, stdout: &mut O, stderr: &mut E, input: &[u8])
+where
+    R: Clock + Eprint + AllocGlobal,
+    O: Write,
+    E: Write,
     requires { (length input.now ≤ input_space) × Due (convert_output input.now) }
 {
     let mut image = io::large_buffer();
     match rewrite::convert(input, &mut image) {
         Converted::Refused(f) => {
-            refuse(f);
+            refuse(rt, stderr, f);
         }
         Converted::Length(n) => {
-            write_image(&image[..n]);
+            write_image(rt, stdout, &image[..n]);
         }
     }
 }

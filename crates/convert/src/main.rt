@@ -14,10 +14,10 @@ mod answer; // answer.rt: what is written for the bytes that were read
 use crate::answer::answer;
 use crate::source::{Taken, read_input};
 
-fn main() {
+fn main(rt: HostRuntime) {
     let mut space = io::large_buffer();
-    let Taken::Bytes(n) = read_input(&mut space) else {
+    let Taken::Bytes(n) = read_input(&rt, &mut rt.stdin(), &mut space) else {
         return;
     };
-    answer(&space[..n]);
+    answer(&rt, &mut rt.stdout(), &mut rt.stderr(), &space[..n]);
 }

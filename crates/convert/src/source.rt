@@ -2,7 +2,8 @@
 ghost use Rattle.std.specs.Prelude.{◌≡◌, length};
 ghost use Rattle.convert.specs.Inner.Input.{Took};
 
-use libc::STDIN_FILENO;
+use std::io::Read;
+use std::time::Clock;
 use streams::{Got, read_between};
 
 // What was read: so many bytes, or an error ended it.
@@ -13,13 +14,16 @@ pub(crate) enum Taken {
 }
 
 // Reads to the end of the input, or until the space is full.
-pub(crate) fn read_input(space: &mut [u8]) -> Taken
+pub(crate) fn read_input<R, I>(rt: &R, stdin: &mut I, space: &mut [u8]) -> Taken
+where
+    R: Clock + Eprint + AllocGlobal,
+    I: Read,
     requires { 65536 ≡ length space.old }
     ensures { Took result space.new }
 {
     let mut have: usize = 0;
     while have < 65536 {
-        match read_between(STDIN_FILENO, b"convert: standard input", space, have, 65536) {
+        match read_between(rt, stdin, b"convert: standard input", space, have, 65536) {
             Got::Bytes(n) => {
                 have += n;
             }

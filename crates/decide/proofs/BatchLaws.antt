@@ -1,5 +1,5 @@
 -- Laws of a run's first steps. Assumes nothing.
---     opened, opened-refused   what the sections say, from the case that they are
+--     opened, opened_refused   what the sections say, from the case that they are
 --     next_is      what a run comes to after a row, by cases
 --     step_is      a row's answer and what the run comes to after it
 use Prim.Native.Nat.{ℕ}
@@ -22,17 +22,20 @@ use Rattle.decide.specs.declared.steps.Progress.{Progress}
 use Rattle.decide.specs.Inner.Steps.{Stepped}
 
 -- an accepted image: what is left is the run's own refusal
-pub opened : (x : Sections) (s : _) (n : ℕ) (fits : Bool) (f : Option Refusal) → sections.At s ≡ x → rows_fault n fits ≡ f → run_said f ≡ run_said (open_fault (sections_outcome x) n fits)
+pub opened : (x : Sections) (s : _) (n : ℕ) (fits : Bool) (f : Option Refusal) → sections.At s ≡ x → rows_fault n fits ≡ f
+    → run_said f ≡ run_said (open_fault (sections_outcome x) n fits)
 opened x s n fits f e h = ap run_said (sym h) ∙ ap (λ y. run_said (open_fault (sections_outcome y) n fits)) e
 
-pub opened_refused : (x : Sections) (f : Refusal) (n : ℕ) (fits : Bool) → x ≡ sections.Refused f → run_said (some f) ≡ run_said (open_fault (sections_outcome x) n fits)
+pub opened_refused : (x : Sections) (f : Refusal) (n : ℕ) (fits : Bool) → x ≡ sections.Refused f
+    → run_said (some f) ≡ run_said (open_fault (sections_outcome x) n fits)
 opened_refused x f n fits e = sym (ap (λ y. run_said (open_fault (sections_outcome y) n fits)) e)
 
 -- the cases of the next answer
 pub next_is : (r r' : Run) (i : ℕ) (a a' : Answer) → r ≡ r' → a ≡ a' → next_run r' i a' ≡ next_run r i a
 next_is r r' i a a' e h = sym (ap₂ (λ x y. next_run x i y) e h)
 
-pub step_is : (l : List ℕ) (q : Query) (r : Run) (i : ℕ) (a : Answer) (p : Progress) → answer_outcome a ≡ answer l q → p.run ≡ next_run r i a → Stepped l q r i (record { answer = a; progress = p })
+pub step_is : (l : List ℕ) (q : Query) (r : Run) (i : ℕ) (a : Answer) (p : Progress) → answer_outcome a ≡ answer l q
+    → p.run ≡ next_run r i a → Stepped l q r i (record { answer = a; progress = p })
 step_is l q r i a p e h =
     let k : a ≡ row_answer l q = said_answer l q a e in
     record { answer = k; run = h ∙ ap (next_run r i) k }

@@ -50,7 +50,8 @@ module _ (S : List ℕ) (ms : List Bool) (k : Marks S ms) where
   any_outside [] = refl
   any_outside (x ∷ X) = rw (k.is x, any_outside X) (or_not (is_in x S) (within X S))
 
-reaching_is : (S : List ℕ) (ms : List Bool) → Marks S ms → (f : List ℕ → Bool) (R : Rule) → reaching_from ms f R ≡ reaches S R && f R.source
+reaching_is : (S : List ℕ) (ms : List Bool) → Marks S ms → (f : List ℕ → Bool) (R : Rule)
+    → reaching_from ms f R ≡ reaches S R && f R.source
 unfolding reaching_from reaching reaches
 reaching_is S ms k f R = rw (any_touches S ms k R.dest)
 
@@ -70,13 +71,17 @@ module _ (rs : List Rule) (C : Constraint) where
       (λ X. reaching_all C.second second h (touches X) (touches X) (λ Y. refl) rs)
       rs
 
-  pub roster_is : (second list : List Bool) → Marks C.second second → Marks C.list list → any_of (reaching_from second (any_is list false)) rs ≡ roster_broken rs C
+  pub roster_is : (second list : List Bool) → Marks C.second second → Marks C.list list
+      → any_of (reaching_from second (any_is list false)) rs ≡ roster_broken rs C
   unfolding roster_broken
-  roster_is second list k h = reaching_all C.second second k (any_is list false) (λ X. not (within X C.list)) (any_outside C.list list h) rs
+  roster_is second list k h =
+      reaching_all C.second second k (any_is list false) (λ X. not (within X C.list)) (any_outside C.list list h) rs
 
-  pub companion_is : (first second : List Bool) → Marks C.first first → Marks C.second second → not (any_of (reaching_from first (any_is second true)) rs) ≡ companion_broken rs C
+  pub companion_is : (first second : List Bool) → Marks C.first first → Marks C.second second
+      → not (any_of (reaching_from first (any_is second true)) rs) ≡ companion_broken rs C
   unfolding companion_broken
-  companion_is first second k h = ap not (reaching_all C.first first k (any_is second true) (λ X. touches X C.second) (any_touches C.second second h) rs)
+  companion_is first second k h =
+      ap not (reaching_all C.first first k (any_is second true) (λ X. touches X C.second) (any_touches C.second second h) rs)
 
 -- ---- the fields of a constraint
 
@@ -101,7 +106,8 @@ module _ (l : List ℕ) (at : ℕ) (r : List ℕ) (h : ConstraintAt l at r) wher
   unfolding constraint_of
   predicate_is = h.here.field 10 (omega (arith, h.long))
 
-  pub list_is : (n : ℕ) → n ≡ get_or l at 0 → (constraint_of (policy_of l) r).list ≡ union_of (groups_in l) (words_at l ((n - 11) / 2) (at + 11))
+  pub list_is : (n : ℕ) → n ≡ get_or l at 0
+      → (constraint_of (policy_of l) r).list ≡ union_of (groups_in l) (words_at l ((n - 11) / 2) (at + 11))
   unfolding constraint_of
   list_is n e = rw e (ap (union_of (groups_in l)) h.list)
 
@@ -129,7 +135,8 @@ module _ (rs : List Rule) (C : Constraint) where
   unfolding broken
   broken_roster e = simp (ne_eqb C.predicate 0 (omega arith), ne_eqb C.predicate 1 (omega arith), eq-eqb C.predicate 2 e)
 
-  pub broken_companion : (C.predicate ≡ 0 → ⊥) → (C.predicate ≡ 1 → ⊥) → (C.predicate ≡ 2 → ⊥) → broken rs C ≡ companion_broken rs C
+  pub broken_companion : (C.predicate ≡ 0 → ⊥) → (C.predicate ≡ 1 → ⊥) → (C.predicate ≡ 2 → ⊥)
+      → broken rs C ≡ companion_broken rs C
   unfolding broken
   broken_companion a b c = simp (ne_eqb C.predicate 0 a, ne_eqb C.predicate 1 b, ne_eqb C.predicate 2 c)
 
@@ -146,7 +153,8 @@ module _ (l : List ℕ) (at : ℕ) (r : List ℕ) (h : ConstraintAt l at r) (q :
   second? = within (set_in l q.dest) (set_at l (at + 8))
 
   fails_is :
-      fails? ≡ (eqb (word_at l (at + 2)) q.class && eqb (word_at l (at + 4)) q.action) && (first? && second?) && broken (rules_in l q.switches) (constraint_of (policy_of l) r)
+      fails? ≡ (eqb (word_at l (at + 2)) q.class && eqb (word_at l (at + 4)) q.action) && (first? && second?)
+      && broken (rules_in l q.switches) (constraint_of (policy_of l) r)
   unfolding fails applies inside request_of
   fails_is = rw (class_is l at r h, action_is l at r h, first_is l at r h, second_is l at r h) refl
 
@@ -167,5 +175,6 @@ module _ (l : List ℕ) (at : ℕ) (r : List ℕ) (h : ConstraintAt l at r) (q :
       pub fails_second : first? ≡ true → second? ≡ false → fails? ≡ false
       fails_second k n = applies_is ∙ simp (k, n)
 
-      pub fails_broken : first? ≡ true → second? ≡ true → fails? ≡ broken (rules_in l q.switches) (constraint_of (policy_of l) r)
+      pub fails_broken : first? ≡ true → second? ≡ true
+          → fails? ≡ broken (rules_in l q.switches) (constraint_of (policy_of l) r)
       fails_broken k n = applies_is ∙ simp (k, n)

@@ -90,11 +90,13 @@ module _ (l : List ℕ) (at : ℕ) (q : Query) (r : List ℕ) (h : RuleAt l at r
       go true false = refl
       go false d = refl
 
-  pub covers_yes : may? ≡ true → dest? ≡ true → source? ≡ true → covers (request_in l q) (rule_of (policy_of l) q.switches r) ≡ true
+  pub covers_yes : may? ≡ true → dest? ≡ true → source? ≡ true
+      → covers (request_in l q) (rule_of (policy_of l) q.switches r) ≡ true
   covers_yes a b c = covers_is ∙ simp (a, b, c)
 
 -- the low byte of the class
-pub low_byte : (l : List ℕ) (at x class : ℕ) → x ≡ get_or l (at + 7) 0 → x < 256 → word_at l (at + 6) ≡ class → x ≡ class % 256
+pub low_byte : (l : List ℕ) (at x class : ℕ) → x ≡ get_or l (at + 7) 0 → x < 256 → word_at l (at + 6) ≡ class
+    → x ≡ class % 256
 low_byte l at x class e few is =
     let z : at + 6 + 1 ≡ at + 7 = omega arith in
     let low = ap (λ (i : ℕ). get_or l i 0) z in
@@ -118,11 +120,13 @@ module _ (l : List ℕ) (at : ℕ) (q : Query) where
     unfolding may_at
     may_off h = simp (k, h)
 
-    pub may_class : (c : ℕ) → c ≡ word_at l (at + 6) → is_on q.switches (get_or l (at + 10) 0) ≡ true → (c ≡ q.class → ⊥) → may_at l at q ≡ false
+    pub may_class : (c : ℕ) → c ≡ word_at l (at + 6) → is_on q.switches (get_or l (at + 10) 0) ≡ true → (c ≡ q.class → ⊥)
+        → may_at l at q ≡ false
     unfolding may_at
     may_class c e o h = simp (k, o, ne_eqb (word_at l (at + 6)) q.class (λ d. h (e ∙ d)))
 
-    pub may_action : (c a : ℕ) → c ≡ word_at l (at + 6) → a ≡ word_at l (at + 8) → is_on q.switches (get_or l (at + 10) 0) ≡ true → c ≡ q.class → may_at l at q ≡ eqb a q.action
+    pub may_action : (c a : ℕ) → c ≡ word_at l (at + 6) → a ≡ word_at l (at + 8)
+        → is_on q.switches (get_or l (at + 10) 0) ≡ true → c ≡ q.class → may_at l at q ≡ eqb a q.action
     unfolding may_at
     may_action c a e f o h = rw f (simp (k, o, eq-eqb (word_at l (at + 6)) q.class (sym e ∙ h)))
 

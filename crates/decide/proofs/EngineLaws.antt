@@ -41,18 +41,26 @@ found_back (some n) = refl
 module _ (l : List ℕ) (q : Query) where
   pub engine_is :
       (a b : Found) → a ≡ first_rule l q → b ≡ first_constraint l q
-      → deciding.decision_of (nearest (request_in l q) (rules_in l q.switches)) (option_of a) (option_of b) ≡ deciding.decide (policy_of l) q
+      → deciding.decision_of (nearest (request_in l q) (rules_in l q.switches)) (option_of a) (option_of b)
+      ≡ deciding.decide (policy_of l) q
   unfolding deciding.decide deciding.judge first_rule first_constraint
-  engine_is a b e f = rw (e, f, found_back (first_at (covers (request_in l q)) 0 (rules_in l q.switches)), found_back (first_at (fails (rules_in l q.switches) (request_in l q)) 0 (constraints_of (policy_of l))))
+  engine_is a b e f = rw (
+    e,
+    f,
+    found_back (first_at (covers (request_in l q)) 0 (rules_in l q.switches)),
+    found_back (first_at (fails (rules_in l q.switches) (request_in l q)) 0 (constraints_of (policy_of l))),
+  )
 
   -- no rule was found, so none covers
   pub found_none : Nothing ≡ first_rule l q → Uncovered l q
   unfolding first_rule
-  found_none e = first_at_none (covers (request_in l q)) 0 (rules_in l q.switches) (sym (found_back _) ∙ ap option_of (sym e))
+  found_none e = first_at_none (covers (request_in l q)) 0 (rules_in l q.switches)
+      (sym (found_back _) ∙ ap option_of (sym e))
 
   -- ---- the answer
 
-  pub answer_accepted : Accepted l → deciding.answer l q ≡ outcome (deciding.query_fault (count_of l Groups) q) (deciding.decide (policy_of l) q)
+  pub answer_accepted : Accepted l → deciding.answer l q
+      ≡ outcome (deciding.query_fault (count_of l Groups) q) (deciding.decide (policy_of l) q)
   unfolding deciding.answer deciding.answer_fault
   answer_accepted e = ap (λ x. outcome x (deciding.decide (policy_of l) q)) (or_else_next _ e)
 
@@ -77,7 +85,8 @@ pub marks_after : (ms ns : List Bool) (S : List ℕ) → ns ≡ mark_all ms S �
 marks_after ms ns S e f = e ∙ ap (λ m. mark_all m S) f
 
 pub marked_type :
-    (l : List ℕ) (ms : List Bool) (size t w : ℕ) → Accepted l → IsType (count_of l Groups) w → t ≡ w → ms ≡ mark_all (replicate 1024 false) (set_in l t) → size ≡ length (set_in l t)
+    (l : List ℕ) (ms : List Bool) (size t w : ℕ) → Accepted l → IsType (count_of l Groups) w → t ≡ w
+    → ms ≡ mark_all (replicate 1024 false) (set_in l t) → size ≡ length (set_in l t)
     → Marked (set_in l w) ms size
 marked_type l ms size t w c ok is e f =
     let S = set_in l w in

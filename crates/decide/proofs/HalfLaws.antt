@@ -29,7 +29,8 @@ split l (suc h) k at =
     let z : suc h + k ≡ suc (h + k) = omega arith in
     let y : at + 2 * suc h ≡ at + 2 + 2 * h = omega arith in
     words_at_next l (suc h + k) at (h + k) z
-    ∙ ap (λ (xs : List ℕ). word_at l at ∷ xs) (split l h k (at + 2) ∙ ap (λ (a : ℕ). words_at l h (at + 2) ++ words_at l k a) (sym y))
+    ∙ ap (λ (xs : List ℕ). word_at l at ∷ xs)
+    (split l h k (at + 2) ∙ ap (λ (a : ℕ). words_at l h (at + 2) ++ words_at l k a) (sym y))
     ∙ ap (λ (xs : List ℕ). xs ++ words_at l k (at + 2 * suc h)) (sym (words_at_next l (suc h) at h refl))
 
 in_append : (x : ℕ) (a b : List ℕ) → is_in x (a ++ b) ≡ (is_in x a || is_in x b)
@@ -37,7 +38,8 @@ unfolding is_in any_of
 in_append x [] b = refl
 in_append x (y ∷ a) b = go (eqb x y) (in_append x a b)
   where
-    go : (t : Bool) → any_of (eqb x) (a ++ b) ≡ (any_of (eqb x) a || any_of (eqb x) b) → (t || any_of (eqb x) (a ++ b)) ≡ ((t || any_of (eqb x) a) || any_of (eqb x) b)
+    go : (t : Bool) → any_of (eqb x) (a ++ b) ≡ (any_of (eqb x) a || any_of (eqb x) b)
+        → (t || any_of (eqb x) (a ++ b)) ≡ ((t || any_of (eqb x) a) || any_of (eqb x) b)
     go true h = refl
     go false h = h
 
@@ -53,11 +55,13 @@ in_right x a b e = in_append x a b ∙ ap (λ (t : Bool). t || is_in x b) e
 
 rising_front : (low : ℕ) (a b : List ℕ) → Rising low (a ++ b) → Rising low a
 rising_front low [] b r = rising_nil low
-rising_front low (m ∷ a) b r = let q = rising_parts low m (a ++ b) r in rising_cons low m a q.0 q.1 (rising_front (suc m) a b q.2)
+rising_front low (m ∷ a) b r = let q = rising_parts low m (a ++ b) r in
+    rising_cons low m a q.0 q.1 (rising_front (suc m) a b q.2)
 
 rising_back : (low : ℕ) (a b : List ℕ) → Rising low (a ++ b) → Rising low b
 rising_back low [] b r = r
-rising_back low (m ∷ a) b r = let q = rising_parts low m (a ++ b) r in rising_lower (suc m) low b (omega (arith, q.0)) (rising_back (suc m) a b q.2)
+rising_back low (m ∷ a) b r = let q = rising_parts low m (a ++ b) r in
+    rising_lower (suc m) low b (omega (arith, q.0)) (rising_back (suc m) a b q.2)
 
 -- what comes up to a later member is none of those before it
 above_out : (low x v : ℕ) (a b : List ℕ) → Rising low (a ++ (v ∷ b)) → v ≤ x → is_in x a ≡ false
@@ -94,17 +98,24 @@ module _ (l : List ℕ) (at n h x : ℕ) (some : 0 < h) (room : h + h ≤ n) (r 
   up e =
       let next : n - h ≡ suc (n - h - 1) = omega arith in
       let tail = words_at l (n - h - 1) (at + 2 * h + 2) in
-      ap (is_in x) whole ∙ in_right x low high (above_out 0 x v low tail (subst (λ (ys : List ℕ). Rising 0 (low ++ ys)) (words_at_next l (n - h) (at + 2 * h) (n - h - 1) next) rising_whole) e)
+      ap (is_in x) whole ∙ in_right x low high
+      (above_out 0 x v low tail
+      (subst (λ (ys : List ℕ). Rising 0 (low ++ ys)) (words_at_next l (n - h) (at + 2 * h) (n - h - 1) next) rising_whole) e)
 
   -- none of so many from the middle on is below it
   over : (k : ℕ) → k ≤ n - h → x < v → is_in x (words_at l k (at + 2 * h)) ≡ false
   over k few e =
       let z : n - h ≡ k + (n - h - k) = omega arith in
-      let p : words_at l (n - h) (at + 2 * h) ≡ words_at l k (at + 2 * h) ++ words_at l (n - h - k) (at + 2 * h + 2 * k) = ap (λ (j : ℕ). words_at l j (at + 2 * h)) z ∙ split l k (n - h - k) (at + 2 * h) in
+      let p : words_at l (n - h) (at + 2 * h) ≡ words_at l k (at + 2 * h) ++ words_at l (n - h - k) (at + 2 * h + 2 * k) =
+      ap (λ (j : ℕ). words_at l j (at + 2 * h)) z ∙ split l k (n - h - k) (at + 2 * h) in
       let next : n - h ≡ suc (n - h - 1) = omega arith in
-      let q = rising_parts 0 v (words_at l (n - h - 1) (at + 2 * h + 2)) (subst (Rising 0) (words_at_next l (n - h) (at + 2 * h) (n - h - 1) next) up_rising) in
-      let s : Rising v (words_at l (n - h) (at + 2 * h)) = subst (Rising v) (sym (words_at_next l (n - h) (at + 2 * h) (n - h - 1) next)) (rising_cons v v (words_at l (n - h - 1) (at + 2 * h + 2)) (omega arith) q.1 q.2) in
-      below_out v x (words_at l k (at + 2 * h)) e (rising_front v (words_at l k (at + 2 * h)) (words_at l (n - h - k) (at + 2 * h + 2 * k)) (subst (Rising v) p s))
+      let q = rising_parts 0 v (words_at l (n - h - 1) (at + 2 * h + 2))
+      (subst (Rising 0) (words_at_next l (n - h) (at + 2 * h) (n - h - 1) next) up_rising) in
+      let s : Rising v (words_at l (n - h) (at + 2 * h)) =
+      subst (Rising v) (sym (words_at_next l (n - h) (at + 2 * h) (n - h - 1) next))
+      (rising_cons v v (words_at l (n - h - 1) (at + 2 * h + 2)) (omega arith) q.1 q.2) in
+      below_out v x (words_at l k (at + 2 * h)) e
+      (rising_front v (words_at l k (at + 2 * h)) (words_at l (n - h - k) (at + 2 * h + 2 * k)) (subst (Rising v) p s))
 
   front : words_at l (n - h) at ≡ low ++ words_at l (n - h - h) (at + 2 * h)
   front = let z : n - h ≡ h + (n - h - h) = omega arith in ap (λ (k : ℕ). words_at l k at) z ∙ split l h (n - h - h) at
@@ -117,7 +128,8 @@ module _ (l : List ℕ) (at n h x : ℕ) (some : 0 < h) (room : h + h ≤ n) (r 
   pub down_rising : Rising 0 (words_at l (n - h) at)
   down_rising =
       let z : n ≡ (n - h) + h = omega arith in
-      rising_front 0 (words_at l (n - h) at) (words_at l h (at + 2 * (n - h))) (subst (Rising 0) (ap (λ (k : ℕ). words_at l k at) z ∙ split l (n - h) h at) r)
+      rising_front 0 (words_at l (n - h) at) (words_at l h (at + 2 * (n - h)))
+      (subst (Rising 0) (ap (λ (k : ℕ). words_at l k at) z ∙ split l (n - h) h at) r)
 
 pub among_one : (l : List ℕ) (at n x : ℕ) → n ≡ 1 → is_in x (words_at l n at) ≡ eqb (word_at l at) x
 unfolding is_in any_of
@@ -145,14 +157,16 @@ among_next l from count x at n h to m a more half left is = go (leb (word_at l (
           some = omega arith;
           room = omega (arith, a.room);
           rising = rw (t, left) (up_rising l at n h x (omega arith) (omega arith) a.rising);
-          same = a.same ∙ rw (t, left) (up l at n h x (omega arith) (omega arith) a.rising (leb-true (word_at l (at + 2 * h)) x e));
+          same = a.same ∙ rw (t, left)
+              (up l at n h x (omega arith) (omega arith) a.rising (leb-true (word_at l (at + 2 * h)) x e));
         }
     go false e t =
         record {
           some = omega arith;
           room = omega (arith, a.room);
           rising = rw (t, left) (down_rising l at n h x (omega arith) (omega arith) a.rising);
-          same = a.same ∙ rw (t, left) (down l at n h x (omega arith) (omega arith) a.rising (leb-false (word_at l (at + 2 * h)) x e));
+          same = a.same ∙ rw (t, left)
+              (down l at n h x (omega arith) (omega arith) a.rising (leb-false (word_at l (at + 2 * h)) x e));
         }
 
 -- ---- ends
@@ -173,7 +187,8 @@ all_of_last f (x ∷ a) v e = go (f x) (all_of_last f a v e)
 last_split : (l : List ℕ) (n at : ℕ) → 0 < n → words_at l n at ≡ words_at l (n - 1) at ++ (word_at l (at + 2 * (n - 1)) ∷ [])
 last_split l n at h =
     let z : n ≡ (n - 1) + 1 = omega arith in
-    ap (λ (k : ℕ). words_at l k at) z ∙ split l (n - 1) 1 at ∙ ap (λ (xs : List ℕ). words_at l (n - 1) at ++ xs) (words_at_one l (at + 2 * (n - 1)))
+    ap (λ (k : ℕ). words_at l k at) z ∙ split l (n - 1) 1 at
+    ∙ ap (λ (xs : List ℕ). words_at l (n - 1) at ++ xs) (words_at_one l (at + 2 * (n - 1)))
 
 module _ (l : List ℕ) (from count at n : ℕ) (some : 0 < count) (more : 0 < n) (r : Rising 0 (words_at l n at)) where
   pub ends_first : word_at l from < word_at l at → within (words_at l count from) (words_at l n at) ≡ false
@@ -181,19 +196,25 @@ module _ (l : List ℕ) (from count at n : ℕ) (some : 0 < count) (more : 0 < n
   ends_first e =
       let a : count ≡ suc (count - 1) = omega arith in
       let b : n ≡ suc (n - 1) = omega arith in
-      let q = rising_parts 0 (word_at l at) (words_at l (n - 1) (at + 2)) (subst (Rising 0) (words_at_next l n at (n - 1) b) r) in
-      let s : Rising (word_at l at) (words_at l n at) = subst (Rising (word_at l at)) (sym (words_at_next l n at (n - 1) b)) (rising_cons (word_at l at) (word_at l at) (words_at l (n - 1) (at + 2)) (omega arith) q.1 q.2) in
+      let q = rising_parts 0 (word_at l at) (words_at l (n - 1) (at + 2))
+      (subst (Rising 0) (words_at_next l n at (n - 1) b) r) in
+      let s : Rising (word_at l at) (words_at l n at) =
+      subst (Rising (word_at l at)) (sym (words_at_next l n at (n - 1) b))
+      (rising_cons (word_at l at) (word_at l at) (words_at l (n - 1) (at + 2)) (omega arith) q.1 q.2) in
       rw (words_at_next l count from (count - 1) a) (simp (below_out (word_at l at) (word_at l from) (words_at l n at) e s))
 
-  pub ends_last : word_at l (at + 2 * (n - 1)) < word_at l (from + 2 * (count - 1)) → within (words_at l count from) (words_at l n at) ≡ false
+  pub ends_last : word_at l (at + 2 * (n - 1)) < word_at l (from + 2 * (count - 1))
+      → within (words_at l count from) (words_at l n at) ≡ false
   unfolding within
   ends_last e =
       let x : ℕ = word_at l (from + 2 * (count - 1)) in
       let v : ℕ = word_at l (at + 2 * (n - 1)) in
       let p = last_split l n at more in
       let low = above_out 0 x v (words_at l (n - 1) at) [] (subst (Rising 0) p r) (omega arith) in
-      let out : is_in x (words_at l n at) ≡ false = ap (is_in x) p ∙ in_right x (words_at l (n - 1) at) (v ∷ []) low ∙ one_out x v (omega arith) in
-      ap (all_of (λ y. is_in y (words_at l n at))) (last_split l count from some) ∙ all_of_last (λ y. is_in y (words_at l n at)) (words_at l (count - 1) from) x out
+      let out : is_in x (words_at l n at) ≡ false =
+      ap (is_in x) p ∙ in_right x (words_at l (n - 1) at) (v ∷ []) low ∙ one_out x v (omega arith) in
+      ap (all_of (λ y. is_in y (words_at l n at))) (last_split l count from some)
+      ∙ all_of_last (λ y. is_in y (words_at l n at)) (words_at l (count - 1) from) x out
     where
       one_out : (x v : ℕ) → v < x → is_in x (v ∷ []) ≡ false
       one_out x v h = alone x v (ne_eqb x v (omega arith))

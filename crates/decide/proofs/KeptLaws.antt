@@ -83,7 +83,8 @@ module _ (f : List ℕ → Bool) (l kept : List ℕ) (k : KeptTest f l kept) (t 
     where
       go : (b : Bool) → ltb t 32768 ≡ b → KeptTest f l (cond b kept (set kept (t - 32768) 1))
       go true h = k
-      go false h = kept_adds (λ g. f (group_set l g)) kept k (t - 32768) false (sym (ap f (same_set_lem (ltb-false t 32768 h)) ∙ n))
+      go false h = kept_adds (λ g. f (group_set l g)) kept k (t - 32768) false
+          (sym (ap f (same_set_lem (ltb-false t 32768 h)) ∙ n))
 
 -- ---- of a query's two sides
 
@@ -95,13 +96,15 @@ module _ {l : List ℕ} {q : Query} {ms ns : List Bool} {m n : ℕ} {ks kd : Lis
   with_dest k = record { source = a.source; dest = record { type = a.dest.type; marked = a.dest.marked; kept = k } }
 
 -- a basic type without a mark holds no set of some size
-unmarked_tells : (l : List ℕ) (ms : List Bool) (size w : ℕ) → 0 < size → w < 32768 → get_or ms w false ≡ false → fully_marked ms size (set_in l w) ≡ false
+unmarked_tells : (l : List ℕ) (ms : List Bool) (size w : ℕ) → 0 < size → w < 32768 → get_or ms w false ≡ false
+    → fully_marked ms size (set_in l w) ≡ false
 unfolding fully_marked tallied
 unmarked_tells l ms size w some h e = rw (set_basic l w h) (simp e (ne_eqb 0 size (omega arith)))
 
 -- what is known of a side
 pub outside_tells :
-    {l : List ℕ} {t : ℕ} {ms : List Bool} {size : ℕ} {kept : List ℕ} (d : Side l t ms size kept) → Accepted l → (x w : ℕ) → x ≡ w
+    {l : List ℕ} {t : ℕ} {ms : List Bool} {size : ℕ} {kept : List ℕ} (d : Side l t ms size kept) → Accepted l → (x w : ℕ)
+    → x ≡ w
     → outside_in ms kept x ≡ true → fully_marked ms size (set_in l w) ≡ false
 unfolding outside_in
 outside_tells {l} {t} {ms} {size} {kept} d c x w is e = go (ltb x 32768) refl e
@@ -109,12 +112,15 @@ outside_tells {l} {t} {ms} {size} {kept} d c x w is e = go (ltb x 32768) refl e
     filled : 0 < size
     filled = omega (arith, d.marked.many, types_filled l c t (subst (λ (n : ℕ). IsType n t) (sym (group_count l)) d.type))
 
-    go : (b : Bool) → ltb x 32768 ≡ b → cond b (not (get_or ms x false)) (eqb (get_or kept (x - 32768) 0) 1) ≡ true → fully_marked ms size (set_in l w) ≡ false
-    go true h e = unmarked_tells l ms size w filled (omega (arith, ltb-true x 32768 h)) (ap (λ (n : ℕ). get_or ms n false) (sym is) ∙ not-true (get_or ms x false) e)
+    go : (b : Bool) → ltb x 32768 ≡ b → cond b (not (get_or ms x false)) (eqb (get_or kept (x - 32768) 0) 1) ≡ true
+        → fully_marked ms size (set_in l w) ≡ false
+    go true h e = unmarked_tells l ms size w filled (omega (arith, ltb-true x 32768 h))
+        (ap (λ (n : ℕ). get_or ms n false) (sym is) ∙ not-true (get_or ms x false) e)
     go false h e = kept_tells (fully_marked ms size) l kept d.kept x w is (ltb-false x 32768 h) e
 
 -- a test of a side by its marks, of the type in the field at a place
 pub side_within :
-    {l : List ℕ} {t : ℕ} {ms : List Bool} {size : ℕ} {kept : List ℕ} (d : Side l t ms size kept) {at : ℕ} → Accepted l → TypeAt l at → (b : Bool)
+    {l : List ℕ} {t : ℕ} {ms : List Bool} {size : ℕ} {kept : List ℕ} (d : Side l t ms size kept) {at : ℕ} → Accepted l
+    → TypeAt l at → (b : Bool)
     → b ≡ fully_marked ms size (set_at l at) → within (set_in l t) (set_at l at) ≡ b
 side_within d c f b e = sym (e ∙ full_within _ _ _ d.marked _ (set_rising _ _ c f.is))

@@ -18,5 +18,4 @@ pub mod VerdictLaws
 pub mod EngineLaws
 pub mod RowLaws
 pub mod BatchLaws
-pub mod LentTables
 pub mod NumberLaws

@@ -49,7 +49,8 @@ module _ (ms : List Bool) (l : List ℕ) (at n : ℕ) where
     unfolding any_is any_of
     is_yes v y = rw (words_at_next l n at k more) (simp (rw is at y))
 
-    pub is_no : (v : Bool) → beq (get_or ms t false) v ≡ false → any_is ms v (words_at l n at) ≡ any_is ms v (words_at l k (at + 2))
+    pub is_no : (v : Bool) → beq (get_or ms t false) v ≡ false
+        → any_is ms v (words_at l n at) ≡ any_is ms v (words_at l k (at + 2))
     unfolding any_is any_of
     is_no v y = rw (words_at_next l n at k more) (simp (rw is at y))
 
@@ -68,13 +69,16 @@ pub hits_off : {total : ℕ} (hits : ℕ) {more : ℕ} (a b : ℕ) → total ≡
 hits_off hits a b e f g = omega arith
 
 -- whether there are any: what was found before, or is found in what is left
-module _ {total : Bool} (ms : List Bool) (l : List ℕ) (at n : ℕ) (a : Bool) (sum : total ≡ a || any_marked ms (words_at l n at)) where
+module _ {total : Bool} (ms : List Bool) (l : List ℕ) (at n : ℕ) (a : Bool)
+    (sum : total ≡ a || any_marked ms (words_at l n at)) where
   pub found_end : n ≡ 0 → total ≡ a
   found_end e = sum ∙ ap (λ b. a || b) (is_end ms l at n true e) ∙ or-false a
 
   module _ (k : ℕ) (more : n ≡ suc k) (t : ℕ) (is : t ≡ word_at l at) {b : Bool} where
     pub found_yes : get_or ms t false ≡ true → b ≡ true → total ≡ b || any_marked ms (words_at l k (at + 2))
-    found_yes y e = sum ∙ ap (λ x. a || x) (is_yes ms l at n k more t is true (ap (λ x. beq x true) y)) ∙ or-true a ∙ ap (λ x. x || any_marked ms (words_at l k (at + 2))) (sym e)
+    found_yes y e = sum ∙ ap (λ x. a || x) (is_yes ms l at n k more t is true (ap (λ x. beq x true) y)) ∙ or-true a
+        ∙ ap (λ x. x || any_marked ms (words_at l k (at + 2))) (sym e)
 
     pub found_no : get_or ms t false ≡ false → b ≡ a → total ≡ b || any_marked ms (words_at l k (at + 2))
-    found_no y e = sum ∙ ap (λ x. a || x) (is_no ms l at n k more t is true (ap (λ x. beq x true) y)) ∙ ap (λ x. x || any_marked ms (words_at l k (at + 2))) (sym e)
+    found_no y e = sum ∙ ap (λ x. a || x) (is_no ms l at n k more t is true (ap (λ x. beq x true) y))
+        ∙ ap (λ x. x || any_marked ms (words_at l k (at + 2))) (sym e)

@@ -38,12 +38,14 @@ unfolding mark_all
 mark_append ms [] ys = refl
 mark_append ms (x ∷ xs) ys = mark_append (set ms x true) xs ys
 
-pub marked_get : (ms : List Bool) (xs : List ℕ) (m : ℕ) → length ms ≡ 1024 → Small xs → get_or (mark_all ms xs) m false ≡ get_or ms m false || is_in m xs
+pub marked_get : (ms : List Bool) (xs : List ℕ) (m : ℕ) → length ms ≡ 1024 → Small xs
+    → get_or (mark_all ms xs) m false ≡ get_or ms m false || is_in m xs
 unfolding mark_all is_in any_of
 marked_get ms [] m e s = sym (or-false (get_or ms m false))
 marked_get ms (x ∷ xs) m e s = marked_get (set ms x true) xs m (length-set ms x true ∙ e) s.1 ∙ go (eqb m x) refl
   where
-    go : (b : Bool) → eqb m x ≡ b → get_or (set ms x true) m false || any_of (eqb m) xs ≡ get_or ms m false || (eqb m x || any_of (eqb m) xs)
+    go : (b : Bool) → eqb m x ≡ b → get_or (set ms x true) m false || any_of (eqb m) xs ≡ get_or ms m false
+        || (eqb m x || any_of (eqb m) xs)
     go true q =
         let r : m ≡ x = eqb-true m x q in
         let k : get_or (set ms x true) m false ≡ true = rw r (get_or-set_same ms x true false (omega (arith, s.0))) in
@@ -77,11 +79,14 @@ module _ (ms : List Bool) (l : List ℕ) (at n : ℕ) where
   unfolding mark_all union_of
   union_end e = rw (words_at_none l n at e)
 
-  pub union_next : (k : ℕ) → n ≡ suc k → mark_all ms (union_of (groups_in l) (words_at l n at)) ≡ mark_all (mark_all ms (set_of (groups_in l) (word_at l at))) (union_of (groups_in l) (words_at l k (at + 2)))
+  pub union_next : (k : ℕ) → n ≡ suc k → mark_all ms (union_of (groups_in l) (words_at l n at))
+      ≡ mark_all (mark_all ms (set_of (groups_in l) (word_at l at))) (union_of (groups_in l) (words_at l k (at + 2)))
   unfolding union_of
-  union_next k e = rw (words_at_next l n at k e) (mark_append ms (set_of (groups_in l) (word_at l at)) (union_of (groups_in l) (words_at l k (at + 2))))
+  union_next k e = rw (words_at_next l n at k e)
+      (mark_append ms (set_of (groups_in l) (word_at l at)) (union_of (groups_in l) (words_at l k (at + 2))))
 
-pub types_next : (P : ℕ → Type 0) (at n k : ℕ) → n ≡ suc k → ((i : ℕ) → i < n → P (at + 2 * i)) → P at × ((i : ℕ) → i < k → P (at + 2 + 2 * i))
+pub types_next : (P : ℕ → Type 0) (at n k : ℕ) → n ≡ suc k → ((i : ℕ) → i < n → P (at + 2 * i))
+    → P at × ((i : ℕ) → i < k → P (at + 2 + 2 * i))
 types_next P at n k e h = (subst P (omega arith) (h 0 (omega arith)), λ i j. subst P (omega arith) (h (suc i) (omega arith)))
 
 pub small_append : (xs ys : List ℕ) → Small xs → Small ys → Small (xs ++ ys)
@@ -90,10 +95,12 @@ small_append (x ∷ xs) ys s t = (s.0, small_append xs ys s.1 t)
 
 -- the sets of n types from a place on are of basic types
 pub union_small :
-    (l : List ℕ) (n at : ℕ) → Accepted l → ((i : ℕ) → i < n → IsType (count_of l Groups) (word_at l (at + 2 * i))) → Small (union_of (groups_in l) (words_at l n at))
+    (l : List ℕ) (n at : ℕ) → Accepted l → ((i : ℕ) → i < n → IsType (count_of l Groups) (word_at l (at + 2 * i)))
+    → Small (union_of (groups_in l) (words_at l n at))
 unfolding union_of
 union_small l zero at c h = rw (words_at_none l 0 at refl) tt
 union_small l (suc n) at c h =
     let q = types_next (λ w. IsType (count_of l Groups) (word_at l w)) at (suc n) n refl h in
     rw (words_at_next l (suc n) at n refl)
-    (small_append (set_of (groups_in l) (word_at l at)) (union_of (groups_in l) (words_at l n (at + 2))) (rising_small 0 _ (set_rising l (word_at l at) c q.0)) (union_small l n (at + 2) c q.1))
+    (small_append (set_of (groups_in l) (word_at l at)) (union_of (groups_in l) (words_at l n (at + 2)))
+    (rising_small 0 _ (set_rising l (word_at l at) c q.0)) (union_small l n (at + 2) c q.1))

@@ -1,9 +1,9 @@
 -- Laws of the second walk over the rules: what a rule at a place passes, and the nearest so far. Assumes nothing.
---     off_no, off-yes, other-no, other-yes, class-few .., stops-few ..   the tests of a rule at a place, one for each way that
+--     off_no, off_yes, other_no, other_yes, class_few .., stops_few ..   the tests of a rule at a place, one for each way that
 --                                they go
---     steps_source, steps-dest ..   how many steps a rule passes, by the first that fails
---     class_stops_lem, off-stops, source-stops, dest-stops   a rule that need not be walked passes no more
---     near_start, near-over, near_next, near-four, near-end   one for each way that a turn of the walk goes
+--     steps_source, steps_dest ..   how many steps a rule passes, by the first that fails
+--     class_stops_lem, off_stops, source_stops, dest_stops   a rule that need not be walked passes no more
+--     near_start, near_over, near_next, near_four, near_end   one for each way that a turn of the walk goes
 --     near_empty                    there are no rules
 use Prim.Native.Nat.{ℕ, suc, ◌+◌, ◌-◌, ◌≤◌, ◌<◌}
 use native.Mathlib.Omega.{arith}
@@ -75,7 +75,8 @@ module _ (l : List ℕ) (at : ℕ) where
     unfolding class_stops
     class_says e = go (ltb most 3) refl e
       where
-        go : (b : Bool) → ltb most 3 ≡ b → cond b false (other_class_at l at class) ≡ true → (3 ≤ most) × (other_class_at l at class ≡ true)
+        go : (b : Bool) → ltb most 3 ≡ b → cond b false (other_class_at l at class) ≡ true
+            → (3 ≤ most) × (other_class_at l at class ≡ true)
         go true h k = false_not_true k
         go false h k = (ltb-false most 3 h, k)
 
@@ -92,13 +93,15 @@ module _ (l : List ℕ) (at : ℕ) (ms : List Bool) (kept : List ℕ) (passed mo
   unfolding stops_at
   stops_says e = go (ltb most passed) refl e
     where
-      go : (b : Bool) → ltb most passed ≡ b → cond b false (outside_in ms kept (word_at l at)) ≡ true → (passed ≤ most) × (outside_in ms kept (word_at l at) ≡ true)
+      go : (b : Bool) → ltb most passed ≡ b → cond b false (outside_in ms kept (word_at l at)) ≡ true
+          → (passed ≤ most) × (outside_in ms kept (word_at l at) ≡ true)
       go true h k = false_not_true k
       go false h k = (ltb-false most passed h, k)
 
 -- a type by its two bytes: a group's number is the low one, and is below 256
 module _ (l : List ℕ) (at : ℕ) where
-  pub high_group : word_at l at < 33024 → 127 < get_or l at 0 → (32768 ≤ word_at l at) × (word_at l at - 32768 ≡ get_or l (at + 1) 0)
+  pub high_group : word_at l at < 33024 → 127 < get_or l at 0
+      → (32768 ≤ word_at l at) × (word_at l at - 32768 ≡ get_or l (at + 1) 0)
   high_group few h = (omega (arith, word_at_lem l at), omega (arith, word_at_lem l at))
 
   pub high_basic : get_or l at 0 ≤ 127 → get_or l (at + 1) 0 < 256 → word_at l at < 32768
@@ -114,7 +117,8 @@ four true true false d e = refl
 four true true true false e = refl
 four true true true true e = refl
 
-five : (a b c d e : Bool) → all_of (λ x. x) (a ∷ b ∷ c ∷ d ∷ e ∷ []) ≡ false → passes (a ∷ b ∷ c ∷ d ∷ e ∷ []) ≡ passes (take 4 (a ∷ b ∷ c ∷ d ∷ e ∷ []))
+five : (a b c d e : Bool) → all_of (λ x. x) (a ∷ b ∷ c ∷ d ∷ e ∷ []) ≡ false
+    → passes (a ∷ b ∷ c ∷ d ∷ e ∷ []) ≡ passes (take 4 (a ∷ b ∷ c ∷ d ∷ e ∷ []))
 unfolding passes all_of
 five false b c d e h = refl
 five true false c d e h = refl
@@ -126,9 +130,11 @@ five true true true true true h = false_not_true (sym h)
 -- of a rule that does not cover, the action's step does not count
 short_steps_lem : (a : Request) (r : Rule) → covers a r ≡ false → steps a r ≡ short_steps a r
 unfolding covers steps short_steps tests
-short_steps_lem a r = five r.on (within a.source r.source) (within a.dest r.dest) (asks r.class a.class) (asks r.action a.action)
+short_steps_lem a r =
+    five r.on (within a.source r.source) (within a.dest r.dest) (asks r.class a.class) (asks r.action a.action)
 
-short_is : (a : Request) (r : Rule) → short_steps a r ≡ cond r.on (cond (within a.source r.source) (cond (within a.dest r.dest) (cond (asks r.class a.class) 4 3) 2) 1) 0
+short_is : (a : Request) (r : Rule) → short_steps a r
+    ≡ cond r.on (cond (within a.source r.source) (cond (within a.dest r.dest) (cond (asks r.class a.class) 4 3) 2) 1) 0
 unfolding short_steps tests
 short_is a r = four r.on (within a.source r.source) (within a.dest r.dest) (asks r.class a.class) (asks r.action a.action)
 
@@ -140,7 +146,8 @@ at_most_four true true true false = omega arith
 at_most_four true true true true = omega arith
 
 short_few : (a : Request) (r : Rule) → short_steps a r ≤ 4
-short_few a r = rw (short_is a r) (at_most_four r.on (within a.source r.source) (within a.dest r.dest) (asks r.class a.class))
+short_few a r = rw (short_is a r)
+    (at_most_four r.on (within a.source r.source) (within a.dest r.dest) (asks r.class a.class))
 
 twice : (b : Bool) → b ≡ not (not b)
 twice true = refl
@@ -163,7 +170,8 @@ module _ (l : List ℕ) (at : ℕ) (q : Query) (r : List ℕ) (h : RuleAt l at r
       ⊎_elim
       (λ w.
       let k10 : get_or r 10 0 ≡ get_or l (at + 10) 0 = h.here.field 10 (omega (arith, w.1)) in
-      simp (k1, k10, eq-eqb (get_or l (at + 1) 0) 2 w.0, ne_eqb (get_or l (at + 1) 0) 3 (omega (arith, w.0))) (twice (is_on q.switches (get_or l (at + 10) 0))))
+      simp (k1, k10, eq-eqb (get_or l (at + 1) 0) 2 w.0, ne_eqb (get_or l (at + 1) 0) 3 (omega (arith, w.0)))
+      (twice (is_on q.switches (get_or l (at + 10) 0))))
       (λ w. simp (k1, eq-eqb (get_or l (at + 1) 0) 3 w, ne_eqb (get_or l (at + 1) 0) 2 (omega (arith, w))))
       h.kind
 
@@ -174,13 +182,16 @@ module _ (l : List ℕ) (at : ℕ) (q : Query) (r : List ℕ) (h : RuleAt l at r
       ⊎_elim
       (λ w.
       let k6 : word_at r 6 ≡ word_at l (at + 6) = stands_word l at r 6 h.here (omega (arith, w.1)) in
-      simp (k1, k6, eq-eqb (get_or l (at + 1) 0) 2 w.0, ne_eqb (get_or l (at + 1) 0) 3 (omega (arith, w.0))) (twice (eqb (word_at l (at + 6)) q.class)))
+      simp (k1, k6, eq-eqb (get_or l (at + 1) 0) 2 w.0, ne_eqb (get_or l (at + 1) 0) 3 (omega (arith, w.0)))
+      (twice (eqb (word_at l (at + 6)) q.class)))
       (λ w. simp (k1, eq-eqb (get_or l (at + 1) 0) 3 w, ne_eqb (get_or l (at + 1) 0) 2 (omega (arith, w))))
       h.kind
 
-  counted_is : counted ≡ cond (not (off_at l q.switches at)) (cond source? (cond dest? (cond (not (other_class_at l at q.class)) 4 3) 2) 1) 0
+  counted_is : counted ≡ cond (not (off_at l q.switches at))
+      (cond source? (cond dest? (cond (not (other_class_at l at q.class)) 4 3) 2) 1) 0
   unfolding request_of
-  counted_is = short_is (request_in l q) (rule_of (policy_of l) q.switches r) ∙ rw (on_is, class_is, source_is l q.switches at r h, dest_is l q.switches at r h)
+  counted_is = short_is (request_in l q) (rule_of (policy_of l) q.switches r)
+      ∙ rw (on_is, class_is, source_is l q.switches at r h, dest_is l q.switches at r h)
 
   -- a class that differs ends the count, and a condition that is off
   pub class_stops_lem : (most : ℕ) → 3 ≤ most → other_class_at l at q.class ≡ true → counted ≤ most
@@ -232,10 +243,13 @@ counts_none most s e = record { more = λ h. absurd (omega arith); less = λ h. 
 
 -- what a count of more than `most` says, and one of no more
 pub counts_more : (most s r : ℕ) → Counts most s r → most < r → r ≡ s
-counts_more most s r c h = by_test (ltb most s) (λ t. c.more (ltb-true most s t)) (λ t. absurd (omega (arith, c.less (ltb-false most s t))))
+counts_more most s r c h =
+    by_test (ltb most s) (λ t. c.more (ltb-true most s t)) (λ t. absurd (omega (arith, c.less (ltb-false most s t))))
 
 pub counts_less : (most s r : ℕ) → Counts most s r → r ≤ most → s ≤ most
-counts_less most s r c h = by_test (ltb most s) (λ t. let e = c.more (ltb-true most s t) in absurd (omega (arith, ltb-true most s t))) (λ t. ltb-false most s t)
+counts_less most s r c h =
+    by_test (ltb most s) (λ t. let e = c.more (ltb-true most s t) in absurd (omega (arith, ltb-true most s t)))
+    (λ t. ltb-false most s t)
 
 -- ---- the nearest so far
 
@@ -273,15 +287,23 @@ module _ (l : List ℕ) (q : Query) where
   pub near_empty : (count : ℕ) → count ≡ count_of l Rules → count ≡ 0 → NoRules ≡ whole
   unfolding nearest nearest_by nearest_of first_at
   near_empty count e z =
-      let none : rules_in l q.switches ≡ [] = all_rules l q.switches ∙ ap (map (rule_of (policy_of l) q.switches)) (records_none l (start_of l Rules) (count_of l Rules) (sym e ∙ z)) in
+      let none : rules_in l q.switches ≡ [] =
+      all_rules l q.switches ∙ ap (map (rule_of (policy_of l) q.switches))
+      (records_none l (start_of l Rules) (count_of l Rules) (sym e ∙ z)) in
       rw none refl
 
-  some_first : (count : ℕ) → count ≡ count_of l Rules → (count ≡ 0 → ⊥) → nearest_from (short_steps (request_in l q)) NoRules 0 (rules_in l q.switches) ≡ rest (record { steps = 0; rule = 0 }) 0 (rules_in l q.switches)
+  some_first : (count : ℕ) → count ≡ count_of l Rules → (count ≡ 0 → ⊥)
+      → nearest_from (short_steps (request_in l q)) NoRules 0 (rules_in l q.switches)
+      ≡ rest (record { steps = 0; rule = 0 }) 0 (rules_in l q.switches)
   some_first count e z =
       let next : count_of l Rules ≡ suc (count_of l Rules - 1) = omega (arith, z) in
       let at : ℕ = start_of l Rules in
-      let is : rules_in l q.switches ≡ rule_of (policy_of l) q.switches (record_at l at) ∷ map (rule_of (policy_of l) q.switches) (records_at l (at + get_or l at 0) (count_of l Rules - 1)) = all_rules l q.switches ∙ ap (map (rule_of (policy_of l) q.switches)) (records_next l at (count_of l Rules) (count_of l Rules - 1) next) in
-      rw is (from_first (short_steps (request_in l q)) (rule_of (policy_of l) q.switches (record_at l at)) (map (rule_of (policy_of l) q.switches) (records_at l (at + get_or l at 0) (count_of l Rules - 1))))
+      let is : rules_in l q.switches ≡ rule_of (policy_of l) q.switches (record_at l at) ∷ map
+      (rule_of (policy_of l) q.switches) (records_at l (at + get_or l at 0) (count_of l Rules - 1)) =
+      all_rules l q.switches ∙ ap (map (rule_of (policy_of l) q.switches))
+      (records_next l at (count_of l Rules) (count_of l Rules - 1) next) in
+      rw is (from_first (short_steps (request_in l q)) (rule_of (policy_of l) q.switches (record_at l at))
+      (map (rule_of (policy_of l) q.switches) (records_at l (at + get_or l at 0) (count_of l Rules - 1))))
 
   pub near_start :
       Uncovered l q → (from count : ℕ) → from ≡ start_of l Rules → count ≡ count_of l Rules → (count ≡ 0 → ⊥)
@@ -289,7 +311,8 @@ module _ (l : List ℕ) (q : Query) where
   unfolding nearest
   near_start u from count e c z =
       walk_start Rules (rule_of (policy_of l) q.switches) l whole (rest (record { steps = 0; rule = 0 })) from count e c
-      (nearest_same (steps (request_in l q)) (short_steps (request_in l q)) (rules_in l q.switches) (λ r m. short_steps_lem (request_in l q) r (any_of_none (covers (request_in l q)) u m))
+      (nearest_same (steps (request_in l q)) (short_steps (request_in l q)) (rules_in l q.switches)
+      (λ r m. short_steps_lem (request_in l q) r (any_of_none (covers (request_in l q)) u m))
       ∙ some_first count c z
       ∙ ap (rest (record { steps = 0; rule = 0 }) 0) (all_rules l q.switches))
 
@@ -302,7 +325,8 @@ module _ (l : List ℕ) (q : Query) where
     near_end h = sym (walk_end Rules (rule_of (policy_of l) q.switches) l whole (rest b) count n at w h)
 
     module _ (more : n < count) where
-      turn : (b' : Best) → nearer (near_of b) here n ≡ near_of b' → (rs : List Rule) → rest b n (rule_of (policy_of l) q.switches (record_at l at) ∷ rs) ≡ rest b' (n + 1) rs
+      turn : (b' : Best) → nearer (near_of b) here n ≡ near_of b' → (rs : List Rule)
+          → rest b n (rule_of (policy_of l) q.switches (record_at l at) ∷ rs) ≡ rest b' (n + 1) rs
       unfolding nearest_from
       turn b' e rs =
           let z : suc n ≡ n + 1 = omega arith in
@@ -310,16 +334,20 @@ module _ (l : List ℕ) (q : Query) where
 
       -- a rule that comes no nearer is passed over
       pub near_over : here ≤ b.steps → (to : ℕ) → to ≡ at + get_or l at 0 → AtNearest l q b count (n + 1) to
-      near_over h to = walk_next Rules (rule_of (policy_of l) q.switches) l whole (rest b) count n at w more (rest b) to (turn b (stays_best b here n h))
+      near_over h to = walk_next Rules (rule_of (policy_of l) q.switches) l whole (rest b) count n at w more (rest b) to
+          (turn b (stays_best b here n h))
 
       module _ (s : ℕ) (is : s ≡ here) (h : b.steps < s) where
         taken : nearer (near_of b) here n ≡ Near s n
         taken = ap (λ (k : ℕ). nearer (near_of b) k n) (sym is) ∙ now_best b s n h
 
         pub near_next : (to : ℕ) → to ≡ at + get_or l at 0 → AtNearest l q (record { steps = s; rule = n }) count (n + 1) to
-        near_next to = walk_next Rules (rule_of (policy_of l) q.switches) l whole (rest b) count n at w more (rest (record { steps = s; rule = n })) to (turn (record { steps = s; rule = n }) taken)
+        near_next to = walk_next Rules (rule_of (policy_of l) q.switches) l whole (rest b) count n at w more
+            (rest (record { steps = s; rule = n })) to (turn (record { steps = s; rule = n }) taken)
 
         pub near_four : s ≡ 4 → Near 4 n ≡ whole
         near_four e =
             sym (walk_hit Rules (rule_of (policy_of l) q.switches) l whole (rest b) count n at w more (Near 4 n)
-            (λ rs. turn (record { steps = s; rule = n }) taken rs ∙ ap (λ (k : ℕ). nearest_from (short_steps (request_in l q)) (Near k n) (n + 1) rs) e ∙ stays (short_steps (request_in l q)) 4 n (n + 1) rs (short_few (request_in l q))))
+            (λ rs. turn (record { steps = s; rule = n }) taken rs
+            ∙ ap (λ (k : ℕ). nearest_from (short_steps (request_in l q)) (Near k n) (n + 1) rs) e
+            ∙ stays (short_steps (request_in l q)) 4 n (n + 1) rs (short_few (request_in l q))))

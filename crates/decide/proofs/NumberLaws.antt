@@ -1,8 +1,8 @@
 -- Laws of a run over numbers. Assumes nothing.
 --     fault, codes, out, rows    its refusal, its rows' numbers, what it comes to after i rows, how many are decided
 --     begun_numbers              what it begins with
---     row_slot, row-few, row-numbers   of a row that is decided: its slot, its number, its six numbers
---     row_run, row-code          what the run comes to after it, and its slot
+--     row_slot, row_few, row_numbers   of a row that is decided: its slot, its number, its six numbers
+--     row_run, row_code          what the run comes to after it, and its slot
 use Prim.Native.Nat.{ℕ, ◌+◌, ◌*◌, ◌/◌, ◌<◌}
 use mathlib.Core.Path.{◌≡◌, sym, ap, subst, ◌∙◌}
 use mathlib.Core.Bool.{Bool}
@@ -46,9 +46,11 @@ module _ (l ns ys : List ℕ) where
   abbrev pub rows : ℕ
   rows = rows_for (run_said fault) (length (rows_of ns))
 
-  pub begun_numbers : (t : Bool) (b : Begun) → t ≡ eqb (length ns) (6 * length ys) → Begins l (length ns / 6) (run_fault l (length ns / 6) t) b → Begins l (length (rows_of ns)) fault b
+  pub begun_numbers : (t : Bool) (b : Begun) → t ≡ eqb (length ns) (6 * length ys)
+      → Begins l (length ns / 6) (run_fault l (length ns / 6) t) b → Begins l (length (rows_of ns)) fault b
   begun_numbers t b e k =
-      let f : run_fault l (length ns / 6) t ≡ fault = ap (run_fault l (length ns / 6)) e ∙ sym (numbers_fault_lem l (length ns) (length ys)) in
+      let f : run_fault l (length ns / 6) t ≡ fault =
+      ap (run_fault l (length ns / 6)) e ∙ sym (numbers_fault_lem l (length ns) (length ys)) in
       subst (λ n. Begins l n fault b) (sym (rows_many ns)) (subst (λ x. Begins l (length ns / 6) x b) f k)
 
   module _ (i r : ℕ) (e : r ≡ rows) (h : i < r) where
@@ -73,12 +75,16 @@ module _ (l ns ys : List ℕ) where
 
       pub row_run : s.progress.run ≡ out (i + 1)
       row_run =
-          z.run ∙ ap (λ (x : Query). next_run (out i) i (row_answer l x)) asked ∙ out_next l fault (rows_of ns) i no_query row_in ∙ ap out (sym (add-one i))
+          z.run ∙ ap (λ (x : Query). next_run (out i) i (row_answer l x)) asked
+          ∙ out_next l fault (rows_of ns) i no_query row_in ∙ ap out (sym (add-one i))
 
-      pub row_code_lem : (c : ℕ) → c ≡ decision_code (answer_outcome s.answer) → (zs : List ℕ) → zs ≡ fill codes ys i → set zs i c ≡ fill codes ys (i + 1)
+      pub row_code_lem : (c : ℕ) → c ≡ decision_code (answer_outcome s.answer) → (zs : List ℕ) → zs ≡ fill codes ys i
+          → set zs i c ≡ fill codes ys (i + 1)
       row_code_lem c w zs y =
-          let v : c ≡ row_code l (get_or (rows_of ns) i no_query) = w ∙ ap (λ (x : Answer). decision_code (answer_outcome x)) z.answer ∙ answer_code l q ∙ ap (row_code l) asked in
+          let v : c ≡ row_code l (get_or (rows_of ns) i no_query) =
+          w ∙ ap (λ (x : Answer). decision_code (answer_outcome x)) z.answer ∙ answer_code l q ∙ ap (row_code l) asked in
           ap (λ (x : List ℕ). set x i c) y
           ∙ ap (set (fill codes ys i) i) (v ∙ sym (get_or-map (row_code l) (rows_of ns) i no_query))
-          ∙ fill_next codes ys i (row_code l no_query) (subst (λ n. i < n) (sym (length-map (rows_of ns) (row_code l))) row_in) row_slot
+          ∙ fill_next codes ys i (row_code l no_query)
+          (subst (λ n. i < n) (sym (length-map (rows_of ns) (row_code l))) row_in) row_slot
           ∙ ap (fill codes ys) (sym (add-one i))

@@ -1,4 +1,5 @@
--- Laws of what the deciding code reads of an image: the fields of a rule and of a constraint, and where sections start. Assumes
+-- Laws of what the deciding code reads of an image: the fields of a rule and of a constraint, and where sections start.
+-- Assumes
 -- nothing.
 use Prim.Native.Nat.{ℕ, ◌+◌, ◌-◌, ◌/◌}
 use mathlib.Core.Path.{◌≡◌, ap}

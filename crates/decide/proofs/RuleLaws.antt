@@ -37,7 +37,8 @@ module _ (l : List ℕ) (w at : ℕ) (r : List ℕ) (h : RuleAt l at r) where
   unfolding rule_of
   dest_is = ap (set_of (groups_in l)) (stands_word l at r 4 h.here (omega (arith, h.long)))
 
-  pub reaching_is : (ms : List Bool) (b : Bool) → b ≡ live_at l w at → reaching ms (rule_of (policy_of l) w r) ≡ reaching_at l ms at b
+  pub reaching_is : (ms : List Bool) (b : Bool) → b ≡ live_at l w at
+      → reaching ms (rule_of (policy_of l) w r) ≡ reaching_at l ms at b
   unfolding reaching
   reaching_is ms b is = rw (live_is ∙ sym is, dest_is)
 
@@ -45,7 +46,8 @@ pub not_reaching : (ms : List Bool) (f : List ℕ → Bool) (R : Rule) → reach
 unfolding reaching_from
 not_reaching ms f R e = simp e
 
-pub reaching_source : (ms : List Bool) (f : List ℕ → Bool) (R : Rule) → reaching ms R ≡ true → reaching_from ms f R ≡ f R.source
+pub reaching_source : (ms : List Bool) (f : List ℕ → Bool) (R : Rule) → reaching ms R ≡ true
+    → reaching_from ms f R ≡ f R.source
 unfolding reaching_from
 reaching_source ms f R e = simp e
 
@@ -70,7 +72,9 @@ module _ (l : List ℕ) (at : ℕ) where
 
     -- and so has a live one
     pub live_length : (w : ℕ) (b : Bool) → b ≡ live_at l w at → b ≡ true → get_or l at 0 ≡ 11
-    live_length w b is e = ⊎_elim (λ k. omega (arith, k.1, h.here.size)) (λ k. false_not_true (sym (live_off w (allow_not k)) ∙ sym is ∙ e)) h.kind
+    live_length w b is e =
+        ⊎_elim (λ k. omega (arith, k.1, h.here.size))
+        (λ k. false_not_true (sym (live_off w (allow_not k)) ∙ sym is ∙ e)) h.kind
 
     -- its condition is 0 to 33
     pub allow_condition : allow_at l at ≡ true → get_or l (at + 10) 0 < 34

@@ -28,7 +28,8 @@ below_out low x (m ∷ ms) h r =
     let e : any_of (eqb x) ms ≡ false = below_out (suc m) x ms (omega (arith, q.0)) q.2 in
     simp (ne_eqb x m (omega (arith, q.0)), e)
 
-pub tally_cong : (f g : ℕ → Bool) (xs : List ℕ) (low : ℕ) → Rising low xs → ((x : ℕ) → x < 1024 → f x ≡ g x) → tally f xs ≡ tally g xs
+pub tally_cong : (f g : ℕ → Bool) (xs : List ℕ) (low : ℕ) → Rising low xs → ((x : ℕ) → x < 1024 → f x ≡ g x)
+    → tally f xs ≡ tally g xs
 unfolding tally
 tally_cong f g [] low r h = refl
 tally_cong f g (x ∷ xs) low r h = let q = rising_parts low x xs r in rw (h x q.1, tally_cong f g xs (suc x) q.2 h)
@@ -39,20 +40,25 @@ unfolding tally is_in any_of
 tally_one x [] low r = refl
 tally_one x (w ∷ ws) low r = go (tally_one x ws (suc w) (rising_parts low w ws r).2) (eqb x w) refl
   where
-    go : tally (eqb x) ws ≡ cond (any_of (eqb x) ws) 1 0 → (b : Bool) → eqb x w ≡ b → cond (eqb x w) 1 0 + tally (eqb x) ws ≡ cond (eqb x w || any_of (eqb x) ws) 1 0
+    go : tally (eqb x) ws ≡ cond (any_of (eqb x) ws) 1 0 → (b : Bool) → eqb x w ≡ b
+        → cond (eqb x w) 1 0 + tally (eqb x) ws ≡ cond (eqb x w || any_of (eqb x) ws) 1 0
     go k true e =
-        let o : any_of (eqb x) ws ≡ false = below_out (suc w) x ws (omega (arith, eqb-true x w e)) (rising_parts low w ws r).2 in
+        let o : any_of (eqb x) ws ≡ false =
+        below_out (suc w) x ws (omega (arith, eqb-true x w e)) (rising_parts low w ws r).2 in
         simp (e, k, o)
     go k false e = simp (e) (omega (arith, k))
 
 -- a test against a list that starts with x is one against x and one against the rest
-tally_cons : (x : ℕ) (qs ws : List ℕ) → Rising (suc x) qs → tally (λ y. is_in y (x ∷ qs)) ws ≡ tally (eqb x) ws + tally (λ y. is_in y qs) ws
+tally_cons : (x : ℕ) (qs ws : List ℕ) → Rising (suc x) qs
+    → tally (λ y. is_in y (x ∷ qs)) ws ≡ tally (eqb x) ws + tally (λ y. is_in y qs) ws
 unfolding tally is_in any_of
 tally_cons x qs [] r = refl
 tally_cons x qs (y ∷ ws) r = go (tally_cons x qs ws r) (eqb y x) refl
   where
-    go : tally (λ y. any_of (eqb y) (x ∷ qs)) ws ≡ tally (eqb x) ws + tally (λ y. any_of (eqb y) qs) ws → (b : Bool) → eqb y x ≡ b
-        → cond (eqb y x || any_of (eqb y) qs) 1 0 + tally (λ y. any_of (eqb y) (x ∷ qs)) ws ≡ (cond (eqb x y) 1 0 + tally (eqb x) ws) + (cond (any_of (eqb y) qs) 1 0 + tally (λ y. any_of (eqb y) qs) ws)
+    go : tally (λ y. any_of (eqb y) (x ∷ qs)) ws ≡ tally (eqb x) ws + tally (λ y. any_of (eqb y) qs) ws → (b : Bool)
+        → eqb y x ≡ b
+        → cond (eqb y x || any_of (eqb y) qs) 1 0 + tally (λ y. any_of (eqb y) (x ∷ qs)) ws
+        ≡ (cond (eqb x y) 1 0 + tally (eqb x) ws) + (cond (any_of (eqb y) qs) 1 0 + tally (λ y. any_of (eqb y) qs) ws)
     go rest true e =
         let o : any_of (eqb y) qs ≡ false = below_out (suc x) y qs (omega (arith, eqb-true y x e)) r in
         simp (e, eq-eqb x y (sym (eqb-true y x e)), o) (omega (arith, rest))
@@ -65,7 +71,8 @@ tally_none [] = refl
 tally_none (w ∷ ws) = omega (arith, tally_none ws)
 
 -- the hits of a rising list in another are as many as those of the other in it
-tally_swap : (qs ws : List ℕ) (low k : ℕ) → Rising low qs → Rising k ws → tally (λ y. is_in y qs) ws ≡ tally (λ x. is_in x ws) qs
+tally_swap : (qs ws : List ℕ) (low k : ℕ) → Rising low qs → Rising k ws
+    → tally (λ y. is_in y qs) ws ≡ tally (λ x. is_in x ws) qs
 unfolding tally
 tally_swap [] ws low k r s = tally_none ws
 tally_swap (q ∷ qs) ws low k r s =
@@ -91,14 +98,17 @@ unfolding tally all_of
 tally_all_of f [] = refl
 tally_all_of f (x ∷ xs) = go (tally_all_of f xs) (f x)
   where
-    go : eqb (tally f xs) (length xs) ≡ all_of f xs → (b : Bool) → eqb (cond b 1 0 + tally f xs) (suc (length xs)) ≡ (b && all_of f xs)
+    go : eqb (tally f xs) (length xs) ≡ all_of f xs → (b : Bool)
+        → eqb (cond b 1 0 + tally f xs) (suc (length xs)) ≡ (b && all_of f xs)
     go h true = (ap (λ (n : ℕ). eqb n (suc (length xs))) (one_add (tally f xs)) ∙ eqb-suc-suc (tally f xs) (length xs)) ∙ h
     go h false = ne_eqb (0 + tally f xs) (suc (length xs)) (omega (arith, tally_le f xs))
 
 -- the hits of q's marks in w are as many as q has: q is within w
-pub hits_within : (qs ws : List ℕ) (low k : ℕ) → Rising low qs → Rising k ws → eqb (tally (λ y. is_in y qs) ws) (length qs) ≡ within qs ws
+pub hits_within : (qs ws : List ℕ) (low k : ℕ) → Rising low qs → Rising k ws
+    → eqb (tally (λ y. is_in y qs) ws) (length qs) ≡ within qs ws
 unfolding within
-hits_within qs ws low k r s = ap (λ (n : ℕ). eqb n (length qs)) (tally_swap qs ws low k r s) ∙ tally_all_of (λ x. is_in x ws) qs
+hits_within qs ws low k r s =
+    ap (λ (n : ℕ). eqb n (length qs)) (tally_swap qs ws low k r s) ∙ tally_all_of (λ x. is_in x ws) qs
 
 pub hits_bound : (qs ws : List ℕ) (low k : ℕ) → Rising low qs → Rising k ws → tally (λ y. is_in y qs) ws ≤ length qs
 hits_bound qs ws low k r s = rw (tally_swap qs ws low k r s) (tally_le (λ x. is_in x ws) qs)

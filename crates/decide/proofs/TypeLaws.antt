@@ -75,16 +75,19 @@ module _ (l ps : List ℕ) (at t : ℕ) (k : Known l ps) (f : TypeAt l at) (is :
     span_group {from} {count} s = subst (Spans l from count) group_is s
 
 -- group g, where the table says
-pub group_placed : (l ps : List ℕ) (g : ℕ) → Known l ps → g < count_of l Groups → GroupAt l (get_or ps g 0) (get_or (groups_in l) g [])
+pub group_placed : (l ps : List ℕ) (g : ℕ) → Known l ps → g < count_of l Groups
+    → GroupAt l (get_or ps g 0) (get_or (groups_in l) g [])
 group_placed l ps g k h = rw (k.placed g h, group_nth l g h) (group_at l k.accepted g h)
 
 -- the members of group g
 pub group_span_is :
-    (l ps : List ℕ) (g : ℕ) → Known l ps → g < count_of l Groups → (at n : ℕ) → at ≡ get_or ps g 0 → n ≡ get_or l at 0 → Spans l (at + 2) ((n - 2) / 2) (group_set l g)
+    (l ps : List ℕ) (g : ℕ) → Known l ps → g < count_of l Groups → (at n : ℕ) → at ≡ get_or ps g 0 → n ≡ get_or l at 0
+    → Spans l (at + 2) ((n - 2) / 2) (group_set l g)
 group_span_is l ps g k h at n p e =
     let q : GroupAt l at (get_or (groups_in l) g []) = rw p (group_placed l ps g k h) in
     let z : 32768 + g - 32768 ≡ g = omega arith in
-    let s : group_set l g ≡ words (drop 2 (get_or (groups_in l) g [])) = set_group l (32768 + g) (omega arith) ∙ ap (λ x. words (drop 2 (get_or (groups_in l) x []))) z in
+    let s : group_set l g ≡ words (drop 2 (get_or (groups_in l) g [])) =
+    set_group l (32768 + g) (omega arith) ∙ ap (λ x. words (drop 2 (get_or (groups_in l) x []))) z in
     record {
       some = omega (arith, q.here.size, q.here.some);
       room = omega (arith, q.here.size, q.here.some, q.here.inside, q.even);

@@ -1,6 +1,6 @@
 -- Laws of a walk over the records of a section: what each way that a turn goes does to its one invariant. Assumes nothing.
---     walk_start, walk-next, walk-hit, walk_end   its laws
---     walk_rule, walk-constraint            what stands at the running place
+--     walk_start, walk_next, walk_hit, walk_end   its laws
+--     walk_rule, walk_constraint            what stands at the running place
 --     FirstOf, AnyOf                        a walk for the first record that passes a test, and for any
 use Prim.Native.Nat.{ℕ, ◌+◌, ◌-◌, ◌<◌}
 use mathlib.Core.Path.{◌≡◌, sym, ap, ◌∙◌}
@@ -30,7 +30,8 @@ use Rattle.decide.specs.Inner.Rules.{found_of}
 module _ {A R : Type 0} where
   module _ (s : Section) (read : List ℕ → R) (l : List ℕ) (whole : A) (rest : ℕ → List R → A) where
     pub walk_start :
-        (from count : ℕ) → from ≡ start_of l s → count ≡ count_of l s → whole ≡ rest 0 (map read (records_at l (start_of l s) (count_of l s)))
+        (from count : ℕ) → from ≡ start_of l s → count ≡ count_of l s
+        → whole ≡ rest 0 (map read (records_at l (start_of l s) (count_of l s)))
         → Walk s read l whole rest count 0 from
     walk_start from count e h w =
         let z : count - 0 ≡ count_of l s = omega arith in
@@ -48,14 +49,16 @@ module _ {A R : Type 0} where
         walk_hit x h = step ∙ h (map read (records_at l (at + get_or l at 0) (count - (n + 1))))
 
         pub walk_next :
-            (rest' : ℕ → List R → A) (to : ℕ) → ((rs : List R) → rest n (read (record_at l at) ∷ rs) ≡ rest' (n + 1) rs) → to ≡ at + get_or l at 0
+            (rest' : ℕ → List R → A) (to : ℕ) → ((rs : List R) → rest n (read (record_at l at) ∷ rs) ≡ rest' (n + 1) rs)
+            → to ≡ at + get_or l at 0
             → Walk s read l whole rest' count (n + 1) to
         walk_next rest' to h e =
             record {
               few = omega arith;
               all = w.all;
               place = e ∙ ap (λ x. x + get_or l x 0) w.place ∙ sym (place_next l s n);
-              same = step ∙ h (map read (records_at l (at + get_or l at 0) (count - (n + 1)))) ∙ ap (λ a. rest' (n + 1) (map read (records_at l a (count - (n + 1))))) (sym e);
+              same = step ∙ h (map read (records_at l (at + get_or l at 0) (count - (n + 1))))
+                  ∙ ap (λ a. rest' (n + 1) (map read (records_at l a (count - (n + 1))))) (sym e);
             }
 
 -- what stands at the running place
@@ -80,20 +83,26 @@ module _ {R : Type 0} where
   abbrev pub AnyOf : Section → (List ℕ → R) → List ℕ → (R → Bool) → Bool → ℕ → ℕ → ℕ → Type 0
   AnyOf s read l f whole = Walk s read l whole (λ n rs. any_of f rs)
 
-  module _ {s : Section} {read : List ℕ → R} {l : List ℕ} (f : R → Bool) {whole : Found} {count n at : ℕ} (w : FirstOf s read l f whole count n at) where
+  module _ {s : Section} {read : List ℕ → R} {l : List ℕ} (f : R → Bool) {whole : Found} {count n at : ℕ}
+      (w : FirstOf s read l f whole count n at) where
     pub first_end : (n < count → ⊥) → Nothing ≡ whole
     unfolding found_of first_at
     first_end h = sym (walk_end s read l whole (λ n rs. found_of (first_at f n rs)) count n at w h)
 
     pub first_hit : n < count → f (read (record_at l at)) ≡ true → At n ≡ whole
     unfolding found_of first_at
-    first_hit more y = sym (walk_hit s read l whole (λ n rs. found_of (first_at f n rs)) count n at w more (At n) (λ rs. simp y))
+    first_hit more y = sym
+        (walk_hit s read l whole (λ n rs. found_of (first_at f n rs)) count n at w more (At n) (λ rs. simp y))
 
-    pub first_next : n < count → f (read (record_at l at)) ≡ false → (to : ℕ) → to ≡ at + get_or l at 0 → FirstOf s read l f whole count (n + 1) to
+    pub first_next : n < count → f (read (record_at l at)) ≡ false → (to : ℕ) → to ≡ at + get_or l at 0
+        → FirstOf s read l f whole count (n + 1) to
     unfolding found_of first_at
-    first_next more y to = walk_next s read l whole (λ n rs. found_of (first_at f n rs)) count n at w more (λ n rs. found_of (first_at f n rs)) to (λ rs. rw add-one (simp y))
+    first_next more y to =
+        walk_next s read l whole (λ n rs. found_of (first_at f n rs)) count n at w more
+        (λ n rs. found_of (first_at f n rs)) to (λ rs. rw add-one (simp y))
 
-  module _ {s : Section} {read : List ℕ → R} {l : List ℕ} (f : R → Bool) {whole : Bool} {count n at : ℕ} (w : AnyOf s read l f whole count n at) where
+  module _ {s : Section} {read : List ℕ → R} {l : List ℕ} (f : R → Bool) {whole : Bool} {count n at : ℕ}
+      (w : AnyOf s read l f whole count n at) where
     pub any_end : (n < count → ⊥) → false ≡ whole
     unfolding any_of
     any_end h = sym (walk_end s read l whole (λ n rs. any_of f rs) count n at w h)
@@ -102,17 +111,21 @@ module _ {R : Type 0} where
     unfolding any_of
     any_hit more y = sym (walk_hit s read l whole (λ n rs. any_of f rs) count n at w more true (λ rs. simp y))
 
-    pub any_next : n < count → f (read (record_at l at)) ≡ false → (to : ℕ) → to ≡ at + get_or l at 0 → AnyOf s read l f whole count (n + 1) to
+    pub any_next : n < count → f (read (record_at l at)) ≡ false → (to : ℕ) → to ≡ at + get_or l at 0
+        → AnyOf s read l f whole count (n + 1) to
     unfolding any_of
-    any_next more y to = walk_next s read l whole (λ n rs. any_of f rs) count n at w more (λ n rs. any_of f rs) to (λ rs. simp y)
+    any_next more y to = walk_next s read l whole (λ n rs. any_of f rs) count n at w more (λ n rs. any_of f rs) to
+        (λ rs. simp y)
 
 -- ---- all rules, and all constraints
 
-pub all_rules : (l : List ℕ) (w : ℕ) → rules_in l w ≡ map (rule_of (policy_of l) w) (records_at l (start_of l Rules) (count_of l Rules))
+pub all_rules : (l : List ℕ) (w : ℕ) → rules_in l w
+    ≡ map (rule_of (policy_of l) w) (records_at l (start_of l Rules) (count_of l Rules))
 unfolding rules_of
 all_rules l w = ap (map (rule_of (policy_of l) w)) (policy_rules l)
 
-pub all_constraints : (l : List ℕ) → constraints_of (policy_of l) ≡ map (constraint_of (policy_of l)) (records_at l (start_of l Constraints) (count_of l Constraints))
+pub all_constraints : (l : List ℕ) → constraints_of (policy_of l)
+    ≡ map (constraint_of (policy_of l)) (records_at l (start_of l Constraints) (count_of l Constraints))
 unfolding constraints_of
 all_constraints l = ap (map (constraint_of (policy_of l))) (policy_constraints l)
 

@@ -20,7 +20,8 @@ one_within x W = go (is_in x W)
     go true = refl
     go false = refl
 
-module _ (l : List ℕ) (t : ℕ) (ms : List Bool) (size from count : ℕ) (m : Marked (set_in l t) ms size) (p : Part l from count) (x : ℕ) (is : x ≡ t) where
+module _ (l : List ℕ) (t : ℕ) (ms : List Bool) (size from count : ℕ) (m : Marked (set_in l t) ms size) (p : Part l from count)
+    (x : ℕ) (is : x ≡ t) where
   abbrev W : List ℕ
   W = words_at l count from
 

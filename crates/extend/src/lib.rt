@@ -1,6 +1,7 @@
 // Adding to the image that a lent buffer starts with: a record, and the rows of a text.
 #![tactic(auto)]
 
+mod bytes; // bytes.rt: bytes copied
 mod word; // word.rt: numbers in bytes
 mod plan; // plan.rt: where a record goes, or why it does not
 mod splice; // splice.rt: bytes moved up and written

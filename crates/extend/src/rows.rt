@@ -7,6 +7,7 @@ ghost use Rattle.format.specs.Sample.{empty};
 ghost use Rattle.extension.specs.Add.{overwrite};
 ghost use Rattle.extend.specs.Inner.Grow.{moved_starts, Grows, AddsEach};
 
+use crate::bytes;
 use crate::plan::{Plan, own_causes};
 use crate::row::record_at;
 use crate::splice::insert;

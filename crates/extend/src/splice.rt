@@ -3,8 +3,9 @@ ghost use Rattle.std.specs.Prelude.{◌≡◌, ◌+◌, ◌≤◌, length};
 ghost use Rattle.extension.specs.Inner.Splice.{inserted};
 ghost use Rattle.extend.specs.Inner.Moves.{moved_up, Fits};
 
+use crate::bytes;
 use crate::plan::Slot;
-use crate::word::put_word_lem;
+use crate::word::put_word;
 use format::header;
 
 // The bytes of from..to go up by so many places, the last first.
@@ -28,6 +29,6 @@ pub(crate) fn insert(buffer: &mut [u8], part: &[u8], slot: Slot)
     let at = slot.at;
     shift_up(buffer, at, slot.size, by);
     bytes::copy(part, &mut buffer[at..]);
-    put_word_lem(buffer, header::LENGTH_AT, slot.size + by);
-    put_word_lem(buffer, slot.field, slot.count + 1);
+    put_word(buffer, header::LENGTH_AT, slot.size + by);
+    put_word(buffer, slot.field, slot.count + 1);
 }

@@ -15,7 +15,7 @@ pub(crate) fn low(value: usize) -> u8
 }
 
 // A 2-byte number goes to a place.
-pub(crate) fn put_word_lem(buffer: &mut [u8], at: usize, value: usize)
+pub(crate) fn put_word(buffer: &mut [u8], at: usize, value: usize)
     requires { (at + 1 < length buffer.old) × (value < 65536) }
     ensures { buffer.new ≡ put_word_at buffer.old at value }
 {

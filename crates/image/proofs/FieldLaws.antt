@@ -1,13 +1,13 @@
 -- Laws of a record's fields, one for each way that a turn of a walk over them goes. Assumes nothing.
 use Prim.Native.Nat.{ℕ, ◌+◌, ◌≤◌, ◌<◌}
 use mathlib.Core.Path.{◌≡◌, sym, ◌∙◌}
-use mathlib.Core.Bool.{Bool, true, false, not}
+use mathlib.Core.Bool.{Bool, true, false}
 use mathlib.Core.Option.{Option, none, some}
 use mathlib.Core.List.{List}
 use native.Mathlib.Omega.{arith}
 use native.Mathlib.Numerals.{add-one}
 use lib.ListN.{length, drop}
-use borrow.Author.Tests.{lt-ltb, le-ltb, le-leb, lt-leb, not-true, not-false}
+use borrow.Author.Tests.{lt-ltb, le-ltb, le-leb, lt-leb}
 use Rattle.format.specs.declared.Read.TheVariants.{Whole, BadField}
 use Rattle.format.specs.Bytes.{word_at, words}
 use Rattle.format.specs.Refusals.{need, ◌or_else◌}
@@ -16,11 +16,11 @@ use Rattle.format.specs.Check.{read_fields}
 use Rattle.format.proofs.Bytes.{words_next, words_end}
 
 -- a negated test of what a call answered, said of the definition that the answer equals
-pub told_false : {r x : Bool} → r ≡ x → not r ≡ true → x ≡ false
-told_false e h = sym e ∙ not-true _ h
+pub told_false : {r x : Bool} → r ≡ x → r ≡ false → x ≡ false
+told_false e h = sym e ∙ h
 
-pub told_true : {r x : Bool} → r ≡ x → not r ≡ false → x ≡ true
-told_true e h = sym e ∙ not-false _ h
+pub told_true : {r x : Bool} → r ≡ x → r ≡ true → x ≡ true
+told_true e h = sym e ∙ h
 
 pub read_bad : (n : ℕ) {i : ℕ} {f : Option ℕ} → f ≡ some i → BadField i ≡ read_fields f n
 unfolding read_fields

@@ -1,5 +1,6 @@
-// The C interface: numbers and byte slices only. An answer is a number of four 16-bit parts, but for a text's, which has two:
-// 16 bits and 48. include/mungaite.h declares the functions and has the table of answers.
+// What the C interface answers: numbers and byte slices only; the crate `mungaite_c` exports it to C. An answer is a number of
+// four 16-bit parts, but for a text's, which has two: 16 bits and 48. include/mungaite.h declares the functions and has the
+// table of answers.
 #![tactic(auto)]
 
 ghost use Rattle.std.specs.Prelude.{◌≡◌, length};
@@ -24,8 +25,7 @@ use rewrite::convert;
 use text::Built;
 
 // 0 where the image is accepted, else the refusal.
-#[unsafe(no_mangle)]
-pub extern "C" fn mungaite_check(image: &[u8]) -> u64
+pub fn mungaite_check(image: &[u8]) -> u64
     ensures { result ≡ fault_code (reading.check image.now) }
 {
     match check(image) {
@@ -35,8 +35,7 @@ pub extern "C" fn mungaite_check(image: &[u8]) -> u64
 }
 
 // The engine's answer to a query under a switch word.
-#[unsafe(no_mangle)]
-pub extern "C" fn mungaite_decide(
+pub fn mungaite_decide(
     source: u16,
     destination: u16,
     class: u16,
@@ -58,8 +57,7 @@ pub extern "C" fn mungaite_decide(
 
 // A run of 1 to 64 queries, six numbers for each, the halves of its word last: the number of each answer, and 0, 1, 0, 0 where
 // every row is Permitted, else 0, 0, 0, row. A refused call leaves the answers as they were.
-#[unsafe(no_mangle)]
-pub extern "C" fn mungaite_run(queries: &[u16], answers: &mut [u64], image: &[u8]) -> u64
+pub fn mungaite_run(queries: &[u16], answers: &mut [u64], image: &[u8]) -> u64
     ensures { (result ≡ run_code (numbers_run image.now queries.now (length answers.old)))
         × (answers.new ≡ codes_after image.now queries.now answers.old) }
 {
@@ -77,8 +75,7 @@ fn record_in(image: &[u8], section: Section, n: u16) -> u64
 }
 
 // 0, 1, place, length of record n of a section: 0 groups, 1 rules, 2 constraints. No other section has a record.
-#[unsafe(no_mangle)]
-pub extern "C" fn mungaite_record(section: u16, n: u16, image: &[u8]) -> u64
+pub fn mungaite_record(section: u16, n: u16, image: &[u8]) -> u64
     ensures { result ≡ record_code image.now section n }
 {
     match section {
@@ -96,8 +93,7 @@ pub extern "C" fn mungaite_record(section: u16, n: u16, image: &[u8]) -> u64
 }
 
 // Adds a record to the image that a buffer starts with: 0, 1, 0, number of the record. A refused call changes no byte.
-#[unsafe(no_mangle)]
-pub extern "C" fn mungaite_add(buffer: &mut [u8], part: &[u8]) -> u64
+pub fn mungaite_add(buffer: &mut [u8], part: &[u8]) -> u64
     ensures { (result ≡ add_code buffer.old part.now) × (buffer.new ≡ buffer_after buffer.old part.now) }
 {
     match add(buffer, part) {
@@ -109,8 +105,7 @@ pub extern "C" fn mungaite_add(buffer: &mut [u8], part: &[u8]) -> u64
 // Builds the image of a text at the front of a buffer: 0 in the highest 16 bits and then the image's length, or the refusal's
 // number and its place in the text. A refused text leaves the image of the rows before the refused one; a buffer under 9 bytes
 // is left as it was.
-#[unsafe(no_mangle)]
-pub extern "C" fn mungaite_build(text: &[u8], buffer: &mut [u8]) -> u64
+pub fn mungaite_build(text: &[u8], buffer: &mut [u8]) -> u64
     ensures { (result ≡ build_code (built text.now buffer.old).answer)
         × (buffer.new ≡ (built text.now buffer.old).buffer) }
 {
@@ -124,8 +119,7 @@ pub extern "C" fn mungaite_build(text: &[u8], buffer: &mut [u8]) -> u64
 
 // Converts an old image, one that may have twins, into a buffer: 0, 1, 0, length of the new image. A refused call changes no
 // byte, and bytes past the new image stay.
-#[unsafe(no_mangle)]
-pub extern "C" fn mungaite_convert(image: &[u8], buffer: &mut [u8]) -> u64
+pub fn mungaite_convert(image: &[u8], buffer: &mut [u8]) -> u64
     ensures { (result ≡ convert_code image.now (length buffer.old))
         × (buffer.new ≡ buffer_converted image.now buffer.old) }
 {

@@ -15,9 +15,11 @@ use crate::serve::{refuse, serve};
 use crate::source::{Stop, read_image};
 use format::Checked;
 
-fn main() {
+fn main(rt: HostRuntime) {
+    let mut stdin = rt.stdin();
+    let mut stdout = rt.stdout();
     let mut space = io::large_buffer();
-    let taken = read_image(&mut space);
+    let taken = read_image(&rt, &mut stdin, &mut space);
     let why = taken.why;
     if let Stop::Failed = why {
         return;
@@ -26,10 +28,10 @@ fn main() {
     let image = image::leading(&space[..have]);
     match image::check(image) {
         Checked::Refused(f) => {
-            refuse(f);
+            refuse(&rt, &mut stdout, f);
         }
         Checked::Accepted => {
-            serve(image);
+            serve(&rt, &mut stdin, &mut stdout, image);
         }
     }
 }

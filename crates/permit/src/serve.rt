@@ -7,7 +7,8 @@ ghost use Rattle.permit.specs.Inner.Turn.{came, Turned, Faulty};
 use crate::answers::{put_answers, put_ending, put_refusal};
 use crate::sink::write_due;
 use format::Refusal;
-use libc::STDIN_FILENO;
+use std::io::{Read, Write};
+use std::time::Clock;
 use streams::{Got, keep_rest, read_between};
 
 // What a turn leaves: how many bytes of the input are kept, and how many of the output are to be written.
@@ -69,26 +70,23 @@ fn output_space() -> [u8; 98304]
 }
 
 // Takes turns until the input ends, an error ends it, or the output cannot be written. A proved loop has to end, so it
-// counts its turns down, from a number that no run uses up.
-pub(crate) fn serve(image: &[u8])
+// counts its turns, up to a number that no run uses up.
+pub(crate) fn serve<R, I, O>(rt: &R, stdin: &mut I, stdout: &mut O, image: &[u8])
+where
+    R: Clock + Eprint + AllocGlobal,
+    I: Read,
+    O: Write,
     requires { Accepted image.now }
 {
     let mut input = input_space();
     let mut numbers = number_space();
     let mut output = output_space();
     let mut kept: usize = 0;
-    let mut turns = u64::MAX;
-    while 0 < turns {
-        let got = read_between(
-            STDIN_FILENO,
-            b"permit: standard input",
-            &mut input,
-            kept,
-            24576,
-        );
+    for _ in 0..u64::MAX {
+        let got = read_between(rt, stdin, b"permit: standard input", &mut input, kept, 24576);
         let t = take_turn(image, got, &mut input, kept, &mut numbers, &mut output);
         let end = t.end;
-        if !write_due(&output[..end]) {
+        if !write_due(rt, stdout, &output[..end]) {
             return;
         }
         match got {
@@ -99,15 +97,17 @@ pub(crate) fn serve(image: &[u8])
                 return;
             }
         }
-        turns -= 1;
     }
 }
 
 // Writes the line of an image's refusal.
-pub(crate) fn refuse(f: Refusal)
+pub(crate) fn refuse<R, O>(rt: &R, stdout: &mut O, f: Refusal)
+where
+    R: Clock + Eprint + AllocGlobal,
+    O: Write,
     requires { Faulty f }
 {
     let mut text = [0u8; 44];
     let end = put_refusal(f, &mut text);
-    write_due(&text[..end]);
+    write_due(rt, stdout, &text[..end]);
 }

@@ -1,11 +1,15 @@
 // Standard output.
 ghost use Rattle.permit.specs.Inner.Turn.{Due};
 
-use libc::STDOUT_FILENO;
+use std::io::Write;
+use std::time::Clock;
 
 // Writes what is due, all of it, and tells that it did.
-pub(crate) fn write_due(bytes: &[u8]) -> bool
+pub(crate) fn write_due<R, O>(rt: &R, stdout: &mut O, bytes: &[u8]) -> bool
+where
+    R: Clock + Eprint + AllocGlobal,
+    O: Write,
     requires { Due bytes.now }
 {
-    streams::write_all(STDOUT_FILENO, b"permit: standard output", bytes)
+    streams::write_all(rt, stdout, b"permit: standard output", bytes)
 }

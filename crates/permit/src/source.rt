@@ -4,7 +4,8 @@ ghost use Rattle.lines.specs.Output.{image_size};
 ghost use Rattle.permit.specs.Inner.Input.{ImageRead};
 
 use format::header;
-use libc::STDIN_FILENO;
+use std::io::Read;
+use std::time::Clock;
 use streams::{Got, read_between};
 
 // Why the reading of an image stopped.
@@ -37,7 +38,10 @@ fn image_size(bytes: &[u8]) -> usize
 }
 
 // Reads the image and no byte past it: first the header, then what the length field tells.
-pub(crate) fn read_image(space: &mut [u8]) -> Taken
+pub(crate) fn read_image<R, I>(rt: &R, stdin: &mut I, space: &mut [u8]) -> Taken
+where
+    R: Clock + Eprint + AllocGlobal,
+    I: Read,
     requires { 65536 ≡ length space.old }
     ensures { ImageRead space.new result }
 {
@@ -50,7 +54,7 @@ pub(crate) fn read_image(space: &mut [u8]) -> Taken
                 why: Stop::Whole,
             };
         }
-        match read_between(STDIN_FILENO, b"permit: standard input", space, have, size) {
+        match read_between(rt, stdin, b"permit: standard input", space, have, size) {
             Got::Bytes(n) => {
                 have += n;
             }

@@ -7,6 +7,7 @@ ghost use Rattle.conversion.specs.Convert.{converted_image, Converts};
 ghost use Rattle.rewrite.specs.Inner.Put.{Wrote};
 ghost use Rattle.rewrite.specs.Inner.Settle.{Alike, Ready};
 
+use crate::bytes;
 use crate::put::{copy, put_header};
 use crate::retype::retype_records;
 use crate::section::{kept_length, put_kept};

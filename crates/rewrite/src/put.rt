@@ -3,6 +3,7 @@ ghost use Rattle.std.specs.Prelude.{[], ◌∷◌, ◌+◌, ◌≤◌, ◌<◌, 
 ghost use Rattle.format.specs.Bytes.{put_word};
 ghost use Rattle.rewrite.specs.Inner.Put.{Wrote};
 
+use crate::bytes;
 use crate::word::low;
 
 // The bytes of a part go to a place; the answer is the place past them.

@@ -1,15 +1,16 @@
 -- Bytes that are put into a buffer. Assumes nothing.
---     placed_one, placed-then, placed-copied, decimal-digits   what puts them in place: a store, two parts, a copy, digits
+--     placed_one, placed_then, placed_put, decimal_digits   what puts them in place: a store, two parts, a lent part, digits
 --     puts_room, puts_none                                     a call that has room for the longest, and one that has not
 --     put_room, put_then, put_front                            what such a call has put; a second behind it; all from the front
-use Prim.Native.Nat.{ℕ, ◌+◌, ◌-◌, ◌^◌, ◌≤◌, ◌<◌}
+use Prim.Native.Nat.{ℕ, ◌+◌, ◌^◌, ◌≤◌, ◌<◌}
 use native.Mathlib.Numerals.{add-one}
 use native.Mathlib.Omega.{arith}
 use mathlib.Core.Path.{◌≡◌, refl, sym, ap, ◌∙◌}
-use mathlib.Core.List.{List, [], ◌∷◌, ◌++◌, append_assoc, append-nil}
-use lib.ListN.{length, set, take, drop, length-append, length-drop, drop_of_length-le}
-use lib.Seq.{set_split, take-append-add, take-length, take_all, length-take-le, take_at, drop-append-add, drop-drop}
+use mathlib.Core.List.{List, [], ◌∷◌, ◌++◌, append_assoc}
+use lib.ListN.{length, set, take, drop, length-append}
+use lib.Seq.{set_split, take-append-add, length-take-le, take_at, drop-append-add, drop-drop}
 use borrow.Author.Tests.{le-leb, lt-leb}
+use borrow.Rule.Slice.PartMut.{put_mid}
 use Rattle.io.specs.Digits.{last_digits, IsDigitCount}
 use Rattle.lines.specs.Lines.{width, decimal, field}
 use Rattle.lines.proofs.Numbers.{decimal_fewest, fewest_same, fewest_most, digits_length}
@@ -45,23 +46,14 @@ placed_then at s t l h =
     ∙ ap (λ x. take at l ++ (s ++ (t ++ x))) past
     ∙ ap (λ x. take at l ++ x) (sym (append_assoc s t (drop (at + length (s ++ t)) l)))
 
--- the part of a buffer from a place on, as it is lent
-pub mid_long : (at : ℕ) (l : List ℕ) → length (take (length l - at) (drop at l)) ≡ length l - at
-mid_long at l = length-take-le (length l - at) (drop at l) (omega (arith, length-drop at l))
-
--- and where s was copied to its front
-pub placed_copied :
-    (at : ℕ) (s l x part : List ℕ) → at ≤ length l → x ≡ s → part ≡ take (length x) x ++ drop (length x) (take (length l - at) (drop at l))
-    → take at l ++ (part ++ drop (length l - at) (drop at l)) ≡ placed at s l
+-- the part of a buffer that is lent is now s
+pub placed_put :
+    (at : ℕ) (s l part : List ℕ) (k : ℕ) → at + k ≤ length l → part ≡ s → k ≡ length s → put_mid at k l part ≡ placed at s l
 unfolding placed
-placed_copied at s l x part h e is =
-    let all : take (length l - at) (drop at l) ≡ drop at l = take_all (length l - at) (drop at l) (omega (arith, length-drop at l)) in
-    let none : drop (length l - at) (drop at l) ≡ [] = drop_of_length-le (drop at l) {i = length l - at} (omega (arith, length-drop at l)) in
-    ap (λ y. take at l ++ (part ++ y)) none
-    ∙ ap (λ y. take at l ++ y) (append-nil part ∙ is ∙ ap (λ y. y ++ drop (length x) (take (length l - at) (drop at l))) (take-length x))
-    ∙ ap (λ y. take at l ++ (x ++ drop (length x) y)) all
-    ∙ ap (λ y. take at l ++ (x ++ y)) (drop-drop (length x) at l)
-    ∙ ap (λ y. take at l ++ (y ++ drop (at + length y) l)) e
+placed_put at s l part k h e n =
+    ap (λ x. take at l ++ (x ++ drop k (drop at l))) e
+    ∙ ap (λ x. take at l ++ (s ++ x)) (drop-drop k at l)
+    ∙ ap (λ i. take at l ++ (s ++ drop (at + i) l)) n
 
 -- a number, where its digits are the fewest
 pub decimal_digits : (n k : ℕ) → n < 10 ^ 20 → IsDigitCount 10 1 n k → last_digits 10 k n ≡ decimal n

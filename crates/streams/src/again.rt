@@ -1,37 +1,48 @@
-// A call of the C library that failed: whether to make it again.
-ghost use Rattle.std.specs.Prelude.{◌≡◌};
+// A read or a write that failed: whether to make it again, and what is said of it.
+ghost use Rattle.std.specs.Prelude.{◌≡◌, IfSome};
+ghost use Rattle.std.specs.IoError.{raw_os_error};
 ghost use Rattle.streams.specs.Input.{try_again};
+
+use std::io::ErrorKind;
+use std::time::{Clock, Duration};
+use std::{io, thread};
+
+// The system's numbers of the two errors after which a call is made again.
+const EINTR: i32 = 4;
+
+const EAGAIN: i32 = 11;
 
 // An interrupted call is made again, and so is one that found nothing there yet.
 fn is_again(error: i32) -> bool
     ensures { result ≡ try_again error }
 {
-    if error == libc::EINTR {
+    if error == EINTR {
         return true;
     }
-    error == libc::EAGAIN
+    error == EAGAIN
 }
 
-// Waits a millisecond, or less where a signal comes. It lends structs by reference, as the C library's nanosleep asks for: its
-// proof walks the code by hand.
-fn wait() {
-    let asked = libc::types::timespec {
-        tv_sec: 0,
-        tv_nsec: 1000000,
-    };
-    let mut left = libc::types::timespec {
-        tv_sec: 0,
-        tv_nsec: 0,
-    };
-    libc::nanosleep(&asked, &mut left);
+// The same of an error that a reader or a writer gives, which has the system's number if the system gave it.
+fn is_passing(error: &io::Error) -> bool
+    ensures { IfSome (raw_os_error error.now) (λ e. result ≡ try_again e) }
+{
+    match error.raw_os_error() {
+        Some(number) => is_again(number),
+        None => matches!(error.kind(), ErrorKind::Interrupted | ErrorKind::WouldBlock),
+    }
+}
+
+// Waits a millisecond, or less where a signal comes.
+fn wait<R: Clock>(rt: &R) {
+    thread::sleep(rt, Duration::from_millis(1));
 }
 
 // After a call that failed with this error: waits a little and tells that the call may be made again, or tells that it may not.
-pub(crate) fn retry(error: i32) -> bool
-    ensures { result ≡ try_again error }
+pub(crate) fn retry<R: Clock>(rt: &R, error: &io::Error) -> bool
+    ensures { IfSome (raw_os_error error.now) (λ e. result ≡ try_again e) }
 {
-    if is_again(error) {
-        wait();
+    if is_passing(error) {
+        wait(rt);
         return true;
     }
     false

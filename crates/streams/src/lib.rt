@@ -1,8 +1,9 @@
-// What the programs do: reads and writes that are made again where the C library says so, numbers put into a buffer, and what
-// is kept of a read.
+// What the programs do: reads and writes that are made again where the system says so, numbers put into a buffer, and what is
+// kept of a read.
 #![tactic(auto)]
 
-mod again; // again.rt: a call that failed
+mod again; // again.rt: a call that is made again
+mod fault; // fault.rt: what is said of a call that failed
 mod source; // source.rt: a read
 mod sink; // sink.rt: a write
 mod number; // number.rt: bytes and numbers, from a place of a buffer on

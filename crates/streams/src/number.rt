@@ -26,7 +26,9 @@ fn put_number(n: usize, output: &mut [u8], at: usize) -> usize
     }
     let mut digits = [0u8; 20];
     let count = io::decimal(n as u64, &mut digits);
-    at + bytes::copy(&digits[..count], &mut output[at..])
+    let end = at + count;
+    output[at..end].copy_from_slice(&digits[..count]);
+    end
 }
 
 // A space and a number: at most 21 bytes.

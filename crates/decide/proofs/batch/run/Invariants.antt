@@ -1,0 +1,25 @@
+-- `run` meets its contract: after i rows the slots are filled so far, and the run comes to what the rows so far say.
+use Rattle.std.proofs.Common.{ℕ, ◌-◌, ◌≤◌, ◌≡◌, Bool, List, map, length}
+use Rattle.decision.specs.declared.Query.{Query}
+use Rattle.decision.specs.declared.Answer.{Answer}
+use Rattle.runs.specs.Runs.{queries_fault, row_answer}
+use Rattle.runs.proofs.Fill.{fill}
+use Rattle.runs.proofs.Progress.{out_at}
+use Rattle.decide.specs.declared.steps.Progress.{Progress}
+use Rattle.decide.specs.Inner.Verdicts.{RowTables}
+use Rattle.decide.proofs.batch.run.Given as goal
+
+-- i rows are decided, of `many`
+pub record Rows (l : List ℕ) (qs : List Query) (ys : List Answer) (many : ℕ) (slots : List Answer) (progress : Progress)
+    (verdicts : List ℕ) (source dest : List Bool) (i : ℕ) : Type 0 where
+  pub few : i ≤ many
+  pub ran : progress.run ≡ out_at l (queries_fault l (length qs) (length ys)) qs i
+  pub are : slots ≡ fill (map (row_answer l) qs) ys i
+  pub kept : RowTables l progress.held verdicts source dest
+
+abbrev pub invariant-loop-i : goal.invariant-loop-i
+invariant-loop-i l =
+    Rows l.image l.queries l.initial.answers l.rows l.answers l.progress l.verdicts l.source l.dest l.i
+
+abbrev pub decreases-loop-i : goal.decreases-loop-i
+decreases-loop-i l = l.rows - l.i

@@ -1,0 +1,102 @@
+-- `decide_surveyed` meets its contract: the source is looked at before the destination, and both before the decision.
+-- Assumes nothing.
+use native.Mathlib.Omega.{arith}
+use mathlib.Core.Path.{◌≡◌, sym, ap, ◌∙◌}
+use mathlib.Core.Bool.{true}
+use Rattle.format.specs.declared.Section.TheVariants.{Groups}
+use Rattle.format.specs.Format.{count_of, is_type}
+use Rattle.format.specs.Answers.{sections_outcome}
+use Rattle.format.proofs.Accepted.{accepted_header}
+use Rattle.format.proofs.ByCase.{count_groups}
+use Rattle.format.proofs.Chain.{outcome_gives, outcome_refused}
+use Rattle.decision.proofs.Answers.{image_refused}
+use Rattle.decide.specs.Inner.Parts.{Ready}
+use Rattle.decide.proofs.VerdictLaws.{left_same}
+use Rattle.decide.proofs.EngineLaws.{query_source, query_dest, query_valid, type_told, outcome_some, outcome_none, answer_accepted}
+use Rattle.decide.proofs.engine.decide_surveyed.Goals as goal
+
+pub word_in-count-requires : goal.word_in-count-requires
+word_in-count-requires c =
+    let ready : Ready c.args.image.now c.args.groups.now c.in-At.s = let p = c.requires.0 in
+    let k = outcome_gives _ _ (sym (ap sections_outcome c.in-At.is) ∙ p.sections) in
+    record { known = record { accepted = k.0; placed = p.placed k.0 }; starting = k.1 } in
+    omega (arith, (accepted_header _ ready.known.accepted).long)
+
+pub returns-then-not-is_type : goal.returns-then-not-is_type
+returns-then-not-is_type c =
+    let ready : Ready c.args.image.now c.args.groups.now c.in-At.s = let p = c.requires.0 in
+    let k = outcome_gives _ _ (sym (ap sections_outcome c.in-At.is) ∙ p.sections) in
+    record { known = record { accepted = k.0; placed = p.placed k.0 }; starting = k.1 } in
+    let counted : c.word_in-count.result ≡ count_of c.args.image.now Groups =
+    c.word_in-count.ensures.0 ∙ sym (count_groups _) in
+    let source_told : is_type (count_of c.args.image.now Groups) c.args.q.source ≡ c.is_type.result =
+    type_told _ _ _ _ _ c.is_type.ensures counted c.wide_word.ensures in
+    let k = ready in
+    record {
+      is = outcome_some _ _ _ (query_source _ _ (source_told ∙ c.if-not-is_type.true))
+          ∙ sym (answer_accepted _ _ k.known.accepted);
+      kept = left_same _ _ _ _ _ c.requires.1;
+    }
+
+pub returns-then-not-is_type-2 : goal.returns-then-not-is_type-2
+returns-then-not-is_type-2 c =
+    let ready : Ready c.args.image.now c.args.groups.now c.in-At.s = let p = c.requires.0 in
+    let k = outcome_gives _ _ (sym (ap sections_outcome c.in-At.is) ∙ p.sections) in
+    record { known = record { accepted = k.0; placed = p.placed k.0 }; starting = k.1 } in
+    let counted : c.word_in-count.result ≡ count_of c.args.image.now Groups =
+    c.word_in-count.ensures.0 ∙ sym (count_groups _) in
+    let dest_told : is_type (count_of c.args.image.now Groups) c.args.q.dest ≡ c.is_type-in-At.result =
+    type_told _ _ _ _ _ c.is_type-in-At.ensures counted c.wide_word-in-At.ensures in
+    let source_told : is_type (count_of c.args.image.now Groups) c.args.q.source ≡ c.is_type.result =
+    type_told _ _ _ _ _ c.is_type.ensures counted c.wide_word.ensures in
+    let source_yes : is_type (count_of c.args.image.now Groups) c.args.q.source ≡ true =
+    source_told ∙ c.if-not-is_type.false in
+    let k = ready in
+    record {
+      is = outcome_some _ _ _ (query_dest _ _ source_yes (dest_told ∙ c.if-not-is_type-2.true))
+          ∙ sym (answer_accepted _ _ k.known.accepted);
+      kept = left_same _ _ _ _ _ c.requires.1;
+    }
+
+pub judge-requires : goal.judge-requires
+judge-requires c =
+    let ready : Ready c.args.image.now c.args.groups.now c.in-At.s = let p = c.requires.0 in
+    let k = outcome_gives _ _ (sym (ap sections_outcome c.in-At.is) ∙ p.sections) in
+    record { known = record { accepted = k.0; placed = p.placed k.0 }; starting = k.1 } in
+    let counted : c.word_in-count.result ≡ count_of c.args.image.now Groups =
+    c.word_in-count.ensures.0 ∙ sym (count_groups _) in
+    let source_told : is_type (count_of c.args.image.now Groups) c.args.q.source ≡ c.is_type.result =
+    type_told _ _ _ _ _ c.is_type.ensures counted c.wide_word.ensures in
+    let source_yes : is_type (count_of c.args.image.now Groups) c.args.q.source ≡ true =
+    source_told ∙ c.if-not-is_type.false in
+    let dest_told : is_type (count_of c.args.image.now Groups) c.args.q.dest ≡ c.is_type-in-At.result =
+    type_told _ _ _ _ _ c.is_type-in-At.ensures counted c.wide_word-in-At.ensures in
+    let dest_yes : is_type (count_of c.args.image.now Groups) c.args.q.dest ≡ true = dest_told ∙ c.if-not-is_type-2.false in
+    (ready, (source_yes, dest_yes), c.requires.1)
+
+pub returns-in-Refused : goal.returns-in-Refused
+returns-in-Refused c = let p = c.requires in
+    record {
+      is = sym (image_refused _ _ _ (outcome_refused _ _ (sym (ap sections_outcome c.in-Refused.is) ∙ p.0.sections)));
+      kept = left_same _ _ _ _ _ p.1;
+    }
+
+pub returns-else-not-is_type-2 : goal.returns-else-not-is_type-2
+returns-else-not-is_type-2 c =
+    let ready : Ready c.args.image.now c.args.groups.now c.in-At.s = let p = c.requires.0 in
+    let k = outcome_gives _ _ (sym (ap sections_outcome c.in-At.is) ∙ p.sections) in
+    record { known = record { accepted = k.0; placed = p.placed k.0 }; starting = k.1 } in
+    let counted : c.word_in-count.result ≡ count_of c.args.image.now Groups =
+    c.word_in-count.ensures.0 ∙ sym (count_groups _) in
+    let source_told : is_type (count_of c.args.image.now Groups) c.args.q.source ≡ c.is_type.result =
+    type_told _ _ _ _ _ c.is_type.ensures counted c.wide_word.ensures in
+    let source_yes : is_type (count_of c.args.image.now Groups) c.args.q.source ≡ true =
+    source_told ∙ c.if-not-is_type.false in
+    let dest_told : is_type (count_of c.args.image.now Groups) c.args.q.dest ≡ c.is_type-in-At.result =
+    type_told _ _ _ _ _ c.is_type-in-At.ensures counted c.wide_word-in-At.ensures in
+    let dest_yes : is_type (count_of c.args.image.now Groups) c.args.q.dest ≡ true = dest_told ∙ c.if-not-is_type-2.false in
+    let r = c.judge.ensures in
+    record {
+      is = r.is ∙ outcome_none _ _ (query_valid _ _ source_yes dest_yes) ∙ sym (answer_accepted _ _ ready.known.accepted);
+      kept = r.kept;
+    }

@@ -1,0 +1,13 @@
+-- `type_list` meets its contract. The walk comes to a place: what is bad from there on is what is bad in all. Assumes nothing.
+use Prim.Native.Nat.{◌≤◌, ◌-◌}
+use mathlib.Core.Path.{◌≡◌}
+use lib.ListN.{length, drop}
+use Rattle.format.specs.Bytes.{words}
+use Rattle.format.specs.Format.{bad_type}
+use Rattle.image.proofs.fields.type_list.Given as goal
+
+abbrev pub invariant-loop-at : goal.invariant-loop-at
+invariant-loop-at l = (l.at ≤ length l.part) × (bad_type l.groups l.from (words (drop l.from l.part)) ≡ bad_type l.groups l.at (words (drop l.at l.part)))
+
+abbrev pub decreases-loop-at : goal.decreases-loop-at
+decreases-loop-at l = length l.part - l.at

@@ -1,0 +1,22 @@
+-- `mungaite_record` meets its contract: a case for each section. Assumes nothing.
+use Rattle.std.proofs.Common.{arith}
+use mathlib.Core.Path.{sym, ap, ◌∙◌}
+use Rattle.format.specs.Answers.{refusal_of}
+use Rattle.mungaite.specs.Code.{fault_code}
+use Rattle.mungaite.proofs.CodeLaws.{record_groups, record_rules, record_constraints, record_nowhere, no_section_accepted, no_section_refused}
+use Rattle.mungaite.proofs.mungaite_record.Goals as goal
+
+pub returns-in-0 : goal.returns-in-0
+returns-in-0 c = c.record_in.ensures ∙ sym (record_groups _ _ _ c.in-0.is)
+
+pub returns-in-1 : goal.returns-in-1
+returns-in-1 c = c.record_in-in-1.ensures ∙ sym (record_rules _ _ _ c.in-1.is)
+
+pub returns-in-2 : goal.returns-in-2
+returns-in-2 c = c.record_in-in-2.ensures ∙ sym (record_constraints _ _ _ c.in-2.is)
+
+pub returns-in-Accepted : goal.returns-in-Accepted
+returns-in-Accepted c = c.refused.ensures ∙ sym (record_nowhere _ _ _ (λ e. absurd (omega arith)) (λ e. absurd (omega arith)) (λ e. absurd (omega arith)) ∙ ap fault_code (no_section_accepted _ (sym (ap refusal_of c.in-Accepted.is) ∙ c.check.ensures)))
+
+pub returns-in-Refused : goal.returns-in-Refused
+returns-in-Refused c = c.refused-in-Refused.ensures ∙ sym (record_nowhere _ _ _ (λ e. absurd (omega arith)) (λ e. absurd (omega arith)) (λ e. absurd (omega arith)) ∙ ap fault_code (no_section_refused _ _ (sym (ap refusal_of c.in-Refused.is) ∙ c.check.ensures)))

@@ -1,0 +1,21 @@
+-- `parts` meets its contract. Assumes nothing.
+use native.Mathlib.Omega.{arith}
+use Rattle.decision.specs.Numbers.{parts_of}
+use borrow.Author.Rules.{rules}
+use Rattle.numbers.proofs.parts.Goals as goal
+
+pub overflow_mul-result : goal.overflow_mul-result
+overflow_mul-result c = search rules
+
+pub overflow_mul-result-2 : goal.overflow_mul-result-2
+overflow_mul-result-2 c = search rules
+
+pub overflow_add-result : goal.overflow_add-result
+overflow_add-result c = search rules
+
+pub overflow_add-result-2 : goal.overflow_add-result-2
+overflow_add-result-2 c = search rules
+
+pub returns : goal.returns
+unfolding parts_of
+returns c = omega arith

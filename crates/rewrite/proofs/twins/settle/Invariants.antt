@@ -1,0 +1,15 @@
+-- `settle` meets its contract: the groups before g are settled. Assumes nothing.
+use Prim.Native.Nat.{ℕ, ◌-◌, ◌≤◌}
+use mathlib.Core.Path.{◌≡◌}
+use mathlib.Core.List.{List}
+use lib.ListN.{length}
+use Rattle.rewrite.specs.Inner.Settle.{Alike, Settled}
+use Rattle.rewrite.proofs.twins.settle.Given as goal
+
+abbrev pub invariant-loop-g : goal.invariant-loop-g
+invariant-loop-g l =
+    (l.g ≤ l.count) × (l.next ≤ l.g) × (length l.to ≡ 256) × (length l.keep ≡ 1024)
+    × ((gs : List (List ℕ)) → Alike gs l.count l.alike → Settled gs l.g l.to l.keep l.next)
+
+abbrev pub decreases-loop-g : goal.decreases-loop-g
+decreases-loop-g l = l.count - l.g
