@@ -83,7 +83,14 @@ where
     let mut output = output_space();
     let mut kept: usize = 0;
     for _ in 0..u64::MAX {
-        let got = read_between(rt, stdin, b"permit: standard input", &mut input, kept, 24576);
+        let got = read_between(
+            rt,
+            stdin,
+            b"permit: standard input",
+            &mut input,
+            kept,
+            24576,
+        );
         let t = take_turn(image, got, &mut input, kept, &mut numbers, &mut output);
         let end = t.end;
         if !write_due(rt, stdout, &output[..end]) {

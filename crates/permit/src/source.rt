@@ -24,6 +24,7 @@ pub(crate) struct Taken {
 }
 
 // How many bytes the image takes, as far as these tell.
+#[tactic(auto, using(lines::proofs::Image::size_none, lines::proofs::Image::size_short, lines::proofs::Image::size_whole))]
 fn image_size(bytes: &[u8]) -> usize
     ensures { (result ≡ image_size bytes.now) × (result < 65536) }
 {

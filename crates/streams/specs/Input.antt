@@ -1,4 +1,4 @@
--- What a call of the C library's `read` or `write` came to, and what an error means.
+-- What a read or a write came to, and what an error of the system means.
 --     brought_by z most    what the answer z says, where room for so many bytes was lent
 --     try_again e          the error says that the call may be made again: EINTR, EAGAIN
 --     Brings most g       what is known of a read: 1 to so many bytes, where there are any

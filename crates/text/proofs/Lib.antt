@@ -1,8 +1,11 @@
 pub mod Cases
 pub mod Parts
 pub mod Words
+pub mod Digits
 pub mod Conditions
 pub mod Records
+pub mod Fields
+pub mod Spelling
 pub mod Rows
 pub mod Follow
 pub mod Buffers

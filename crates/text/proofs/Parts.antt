@@ -5,16 +5,18 @@
 --     split_append            the parts of two texts with an s between them
 --     run_alone, run-part     the first part alone, and what stands behind it
 --     width_split             the bytes that parts take
+--     Solid, words_split, words_joined   words without a space, in a row, and read from it
 use Prim.Native.Nat.{ℕ, suc, ◌≤◌, ◌<◌}
-use mathlib.Core.Path.{◌≡◌, refl, ap}
+use mathlib.Core.Path.{◌≡◌, refl, ap, ap₂, ◌∙◌}
 use mathlib.Core.Bool.{Bool, true, false, cond}
-use mathlib.Core.List.{List, [], ◌∷◌, ◌++◌}
+use mathlib.Core.List.{List, [], ◌∷◌, ◌++◌, append-nil}
 use native.Mathlib.Omega.{arith}
 use lib.ListN.{length, get_or, take, drop}
 use lib.Seq.{drop-cons}
 use lib.Dec.{eqb}
 use borrow.Author.Tests.{eq-eqb, ne_eqb, eqb-true}
-use Rattle.text.specs.Words.{split_step, split}
+use Rattle.text.specs.Words.{ascii, split_step, split}
+use Rattle.text.specs.Spelling.{spaced}
 use Rattle.text.specs.Inner.Parts.{run_of, rest, width}
 
 pub run_most : (s : ℕ) (l : List ℕ) → run_of s l ≤ length l
@@ -110,3 +112,24 @@ width_split s (c ∷ l) = rw (split_run s l) (step (eqb c s) (rw (split_run s l)
       → width (split_step t c (take (run_of s l) l ∷ rest s l)) ≡ suc (suc (length l))
   step true h = omega arith
   step false h = omega arith
+
+-- ---- the words of a row
+
+abbrev pub Solid : List (List ℕ) → Type 0
+Solid [] = Unit
+Solid (w ∷ ws) = (split 32 w ≡ w ∷ []) × Solid ws
+
+pub words_split : (w : List ℕ) (ws : List (List ℕ)) → Solid (w ∷ ws) → split 32 (w ++ spaced ws) ≡ w ∷ ws
+unfolding spaced ascii
+words_split w [] s = ap (split 32) (append-nil w) ∙ s.0
+words_split w (v ∷ ws) s = split_append 32 w (v ++ spaced ws) ∙ ap₂ ◌++◌ s.0 (words_split v ws s.1)
+
+pub words_joined : (l : List ℕ) → l ≡ take (run_of 32 l) l ++ spaced (rest 32 l)
+unfolding run_of rest spaced ascii
+words_joined [] = refl
+words_joined (c ∷ l) = step (eqb c 32) refl (words_joined l) where
+  step :
+      (t : Bool) → eqb c 32 ≡ t → l ≡ take (run_of 32 l) l ++ spaced (rest 32 l)
+      → c ∷ l ≡ take (cond t 0 (suc (run_of 32 l))) (c ∷ l) ++ spaced (cond t (split 32 l) (rest 32 l))
+  step true e h = rw (split_run 32 l) (ap₂ ◌∷◌ (eqb-true c 32 e) h)
+  step false e h = ap (λ (x : List ℕ). c ∷ x) h

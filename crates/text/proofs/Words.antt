@@ -33,18 +33,18 @@ chosen : {A C : Type 0} (t : Bool) (o : Option A) (x : A) → cond t o none ≡ 
 chosen true o x e f = f refl e
 chosen false o x e f = some_not_none (sym e)
 
-refused_choice : {A C : Type 0} (t : Bool) (o : Option A) (x : A) → cond t none o ≡ some x → (t ≡ false → o ≡ some x → C) → C
+pub refused_choice : {A C : Type 0} (t : Bool) (o : Option A) (x : A) → cond t none o ≡ some x → (t ≡ false → o ≡ some x → C) → C
 refused_choice true o x e f = some_not_none (sym e)
 refused_choice false o x e f = f refl e
 
 -- ---- digits
 
-record Digit (n c : ℕ) (w : List ℕ) (m : ℕ) : Type 0 where
-  least : 48 ≤ c
-  most : c ≤ 57
-  rest : digits_from (n * 10 + (c - 48)) w ≡ some m
+pub record Digit (n c : ℕ) (w : List ℕ) (m : ℕ) : Type 0 where
+  pub least : 48 ≤ c
+  pub most : c ≤ 57
+  pub rest : digits_from (n * 10 + (c - 48)) w ≡ some m
 
-digit_first : (n c : ℕ) (w : List ℕ) (m : ℕ) → digits_from n (c ∷ w) ≡ some m → Digit n c w m
+pub digit_first : (n c : ℕ) (w : List ℕ) (m : ℕ) → digits_from n (c ∷ w) ≡ some m → Digit n c w m
 unfolding digits_from is_digit
 digit_first n c w m e =
     chosen (is_digit c) (digits_from (n * 10 + (c - 48)) w) m e
@@ -67,7 +67,7 @@ digits_five n m c₁ c₂ c₃ c₄ c₅ w e =
     let k = digits_least w _ m d₅.rest in
     omega arith
 
-decimal_short : (w : List ℕ) (n : ℕ) → number_of w ≡ some n → n ≤ 65535 → length w ≤ 5
+pub decimal_short : (w : List ℕ) (n : ℕ) → number_of w ≡ some n → n ≤ 65535 → length w ≤ 5
 unfolding number_of
 decimal_short [] n e h = omega arith
 decimal_short (_ ∷ []) n e h = omega arith

@@ -3,4 +3,5 @@ pub mod Rows
 pub mod Build
 pub mod Cases
 pub mod Claims
+pub mod Spelling
 pub mod Inner

@@ -1,9 +1,8 @@
 use Rattle.std.proofs.Common.{◌≤◌, take, arith}
 use Rattle.std.proofs.Math.Seq.{length-take-le}
-use Rattle.lines.specs.Compiled.{cut}
 use Rattle.lines.proofs.Feeds.{cut_is}
 use Rattle.streams.proofs.Rests.{kept_bytes}
-use Rattle.compile.proofs.Turns.{rests_full, rests_kept}
+use Rattle.compile.proofs.Turns.{rests_kept}
 use Rattle.compile.proofs.turn.go_on.Goals as goal
 
 pub overflow_sub-have : goal.overflow_sub-have
