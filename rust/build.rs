@@ -16,7 +16,7 @@ fn main() {
     println!("cargo:rerun-if-changed={}", archive.display());
     if !archive.is_file() {
         eprintln!("{} is absent.", archive.display());
-        eprintln!("Run `rt staticlib mungaite` in the repository, or set MUNGAITE_LIB to the folder that holds it.");
+        eprintln!("Run `tools/build mungaite` in the repository, or set MUNGAITE_LIB to the folder that holds it.");
         process::exit(1);
     }
     println!("cargo:rustc-link-search=native={}", folder.display());
