@@ -1,21 +1,24 @@
 // A read.
-ghost use Rattle.std.specs.Prelude.{◌≡◌, length, pos};
+ghost use Rattle.std.specs.Prelude.{◌≡◌, length, pos, negsuc, IfOk, OnErr};
 ghost use Rattle.streams.specs.Input.{brought_by, Brings, ReadBetween};
 
 use crate::Got;
 use crate::again::retry;
 use crate::fault::say;
+use std::io;
 use std::io::Read;
 use std::time::Clock;
 
-// What it says that a read brought so many bytes.
-fn brought(count: usize, part: &[u8]) -> Got
-    ensures { result ≡ brought_by (pos count) (length part.now) }
+// What an answer of `read` says, where a count is a number from 0 on and an error is -1, as the system answers.
+fn brought(answer: &io::Result<usize>, part: &[u8]) -> Got
+    ensures count { IfOk answer.now (λ n. result ≡ brought_by (pos n) (length part.now)) }
+    ensures error { OnErr answer.now (result ≡ brought_by (negsuc 0) (length part.now)) }
 {
-    if count == 0 {
-        return Got::Ended;
+    match answer {
+        Ok(0) => Got::Ended,
+        Ok(count) => Got::Bytes((*count).min(part.len())),
+        Err(_) => Got::Failed,
     }
-    Got::Bytes(count.min(part.len()))
 }
 
 // Reads once into a part, and says on standard error what could not be read, and why. No contract can say which bytes come. A
@@ -27,12 +30,14 @@ where
     ensures { Brings (length part.old) result }
 {
     for _ in 0..u64::MAX {
-        match input.read(part) {
-            Ok(count) => return brought(count, part),
+        let answer = input.read(part);
+        let got = brought(&answer, part);
+        match answer {
+            Ok(_) => return got,
             Err(error) => {
                 if !retry(rt, &error) {
                     say(rt, what, &error);
-                    return Got::Failed;
+                    return got;
                 }
             }
         }
