@@ -87,7 +87,8 @@ impl Filter {
         self.gives_up(child, "standard output: No space left on device")
     }
 
-    /// Nobody reads the output: the program is ended by the signal, and says nothing.
+    /// Nobody reads the output: the program is ended by the signal, and says nothing. Today's toolchain has each program
+    /// ignore that signal from its start: it then says why it stops.
     fn closed_output(&self) -> Outcome {
         let mut child = self.start(Stdio::piped(), Stdio::piped())?;
         drop(child.stdout.take());
@@ -95,6 +96,7 @@ impl Filter {
         let status = ended(&mut child)?;
         match (told(&mut child).as_str(), status.signal()) {
             ("", Some(SIGPIPE)) => Ok(()),
+            (said, None) if status.success() && said == self.says("standard output: Broken pipe") => Ok(()),
             (said, _) => Err(format!("{said:?} on standard error, {status}")),
         }
     }
@@ -105,7 +107,12 @@ impl Filter {
 
     /// The program writes nothing, and says why.
     fn gives_up(&self, child: Child, why: &str) -> Outcome {
-        ends(child, &[], &format!("{}: {why}\n", self.name))
+        ends(child, &[], &self.says(why))
+    }
+
+    /// The line that the program says why it stops in.
+    fn says(&self, why: &str) -> String {
+        format!("{}: {why}\n", self.name)
     }
 }
 
