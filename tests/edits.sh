@@ -7,7 +7,11 @@ cd "$(dirname "$0")/.." || exit 2
 log=$(mktemp) || exit 2
 trap 'rm -f "$log"' EXIT
 bad=0
-rt must-fail > "$log" 2>&1 || bad=1
+rt must-fail > "$log" 2>&1 || {
+    echo "rt must-fail ended with $?:"
+    grep -av ': refused, as it must be' "$log" | tail -n 20
+    bad=1
+}
 
 for edit in crates/*/must-fail/*.edit; do
     crate=${edit#crates/}
