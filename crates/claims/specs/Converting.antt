@@ -1,5 +1,5 @@
 -- What meets the terms of request 7's claims (Terms.antt says what that is for).
---     old_image, newImage   the images of the worked case's two policies
+--     old_image, new_image   the images of the worked case's two policies
 --     sample_group          the sample's group
 --     ConvertingMet        what is met, claim by claim
 use Rattle.std.specs.Prelude.{ℕ, ◌+◌, ◌≤◌, ◌<◌, ◌≡◌, length, get_or, take, drop, set, replicate}

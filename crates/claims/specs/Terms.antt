@@ -10,7 +10,7 @@
 --     by_bytes b           reads that bring one byte each
 --     sample_bytes, trans  document 01's sample as text, and a row by itself
 --     left text b         what a text leaves of the buffer b
---     cut_sample, longSample, bad_sample   the sample cut, with a byte behind it, with a condition that is none
+--     cut_sample, long_sample, bad_sample   the sample cut, with a byte behind it, with a condition that is none
 --     Pass l s k, AllPass l s   the first k records of a section pass, all do
 --     LongestAt s k p     a walk over the longest image reaches the place p past k records of a section
 --     outside_behind n     n line feeds and one more, and a row outside the form

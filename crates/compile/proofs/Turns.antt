@@ -1,8 +1,8 @@
 -- A turn and the end of the input, for each way that they go. Assumes nothing.
---     added_gives, added-refuses   what adding rows answered
---     rests_full, rests-kept       the bytes behind the last line feed
---     turn_fault_lem, turn-rests       a turn
---     ends_fault, ends-image       the end of the input
+--     added_gives, added_refuses   what adding rows answered
+--     rests_full, rests_kept       the bytes behind the last line feed
+--     turn_fault_lem, turn_rests       a turn
+--     ends_fault, ends_image       the end of the input
 use Prim.Native.Nat.{ℕ, ◌+◌, ◌-◌, ◌≤◌, ◌<◌}
 use native.Mathlib.Omega.{arith}
 use mathlib.Core.Path.{◌≡◌, sym, subst, ap, ◌∙◌}

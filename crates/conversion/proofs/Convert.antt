@@ -3,11 +3,11 @@
 --     converted_formed     the converted policy is well formed
 --     converted_same       a policy without twins stays as it is
 --     converted_apart      the converted policy has no twins
---     rules_read, constraints-read, converted-decides   it reads and decides as the old one
+--     rules_read, constraints_read, converted_decides   it reads and decides as the old one
 --     body_length          the bytes of a policy's records
---     flatten_as_long, rules-as-long, constraints-as-long   moved records have as many bytes as the old ones
+--     flatten_as_long, rules_as_long, constraints_as_long   moved records have as many bytes as the old ones
 --     image_is             the new image is that of the converted policy
---     converted_length, length-converted   the new image's length: the header, the groups kept, and the old rules and constraints
+--     converted_length, length_converted   the new image's length: the header, the groups kept, and the old rules and constraints
 use Prim.Native.Nat.{ℕ, ◌+◌, ◌≤◌}
 use native.Mathlib.Omega.{arith}
 use mathlib.Core.Path.{◌≡◌, refl, sym, subst, ap, ◌∙◌}

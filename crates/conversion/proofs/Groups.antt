@@ -1,15 +1,15 @@
 -- Laws of groups without twins, and of where a type field goes. Claim GroupsStay. Assumes nothing.
 --     by_last                        by the last group
---     number_front, number-snoc      a group's number stays as more groups come, and a new one gets the next
+--     number_front, number_snoc      a group's number stays as more groups come, and a new one gets the next
 --     with_append                    groups one list after the other
 --     distinct_nil, distinct_snoc    no groups, and one group more: it is kept unless it is listed
 --     distinct_held, distinct_from   each group is kept, and each one kept is one of the groups
 --     distinct_listed                so a group is listed among the ones kept as it was
---     distinct_count, distinct-bytes no more groups, and no more bytes
+--     distinct_count, distinct_bytes no more groups, and no more bytes
 --     distinct_apart                 there are no twins
 --     distinct_same                  groups without twins stay as they are
---     moved_basic, moved-group       where a basic type goes, and a group's number
---     moved_set, moved-type          where each old group is a new one, a valid type stands for its set and is valid
+--     moved_basic, moved_group       where a basic type goes, and a group's number
+--     moved_set, moved_type          where each old group is a new one, a valid type stands for its set and is valid
 --     moved_same                     where there are no twins, nothing moves
 use Prim.Native.Nat.{ℕ, suc, ◌+◌, ◌-◌, ◌≤◌, ◌<◌}
 use native.Mathlib.Omega.{arith}

@@ -1,11 +1,11 @@
 -- A well-formed policy's records over the groups of another policy, among which are all of its own. Assumes nothing.
 --     RuleTypes, ConstraintTypes         the types of a record that is well formed
---     rule_at, constraint-at             those of a policy's rule, and of a constraint
---     rule_record_at, constraint-record-at, rule-bytes-at, constraint-bytes-at   that they are well formed, and of bytes
---     rules_alike, constraints-alike     over the new groups, the moved records read as they did
+--     rule_at, constraint_at             those of a policy's rule, and of a constraint
+--     rule_record_at, constraint_record_at, rule_bytes_at, constraint_bytes_at   that they are well formed, and of bytes
+--     rules_alike, constraints_alike     over the new groups, the moved records read as they did
 --     request_moved                      and a query whose types are moved asks what it asked
---     rules_formed, constraints-formed   the moved records are well formed over the new groups
---     rules_bytes, constraints-bytes     and of bytes
+--     rules_formed, constraints_formed   the moved records are well formed over the new groups
+--     rules_bytes, constraints_bytes     and of bytes
 use Prim.Native.Nat.{ℕ, ◌+◌, ◌*◌, ◌≤◌, ◌<◌}
 use native.Mathlib.Omega.{arith}
 use mathlib.Core.Path.{◌≡◌, refl, sym, subst, ap, ◌∙◌}

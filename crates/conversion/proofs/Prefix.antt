@@ -1,10 +1,10 @@
 -- The groups kept of the first k, and the new numbers, group by group, for the code that goes through them. Assumes nothing.
 --     first_or_twin        group k is the first with its record, or has a lower one's
 --     distinct_start       of no group none is kept
---     distinct_first, distinct-twin   group k is kept where it is the first with its record, and only there
+--     distinct_first, distinct_twin   group k is kept where it is the first with its record, and only there
 --     distinct_whole       of all groups, what is kept of them
---     bytes_first, bytes-twin         the same for the bytes of the groups kept
---     distinct_front, distinct-few    what is kept of the first k stands at the front of what is kept, and is no more
+--     bytes_first, bytes_twin         the same for the bytes of the groups kept
+--     distinct_front, distinct_few    what is kept of the first k stands at the front of what is kept, and is no more
 --     number_first         a group that is kept gets the next number
 --     number_twin          a twin gets the number of the first with its record
 use Prim.Native.Nat.{ℕ, ◌+◌, ◌≤◌, ◌<◌}

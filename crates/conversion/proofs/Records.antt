@@ -1,8 +1,8 @@
 -- Records and types after conversion. Claims RecordsStay, TypesFollow. Assumes nothing.
---     version_is, groups-are, rules-are, constraints-are   the parts of the converted policy
+--     version_is, groups_are, rules_are, constraints_are   the parts of the converted policy
 --     follow_is                        types move to the number of their group among the new ones
 --     groups_held                      each old group is a new one
---     follow_basic, follow-group       where a basic type goes, and a group's number
+--     follow_basic, follow_group       where a basic type goes, and a group's number
 --     follow_type                      a valid type stays valid
 --     records_kept                     the records of a well-formed policy
 use Prim.Native.Nat.{ℕ, ◌+◌, ◌≤◌, ◌<◌}

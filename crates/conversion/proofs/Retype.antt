@@ -1,12 +1,12 @@
 -- Laws of records with their types moved. Assumes nothing.
 --     RuleFields f r s, ConstraintFields f r s   s has the fields of r, with f of its types
---     rule_fields, constraint-fields             the moved record has
---     rule_is, constraint-is                     it is the record with the bytes of the moved types, written out
---     rule_length, constraint-length             it is as long
+--     rule_fields, constraint_fields             the moved record has
+--     rule_is, constraint_is                     it is the record with the bytes of the moved types, written out
+--     rule_length, constraint_length             it is as long
 --     list_moved                                 the types of the moved list
---     rule_formed, constraint-formed             it is well formed where its types go to valid types
---     rule_bytes, constraint-bytes               it is of bytes
---     rule_same, constraint-same                 where no type moves, it is the record itself
+--     rule_formed, constraint_formed             it is well formed where its types go to valid types
+--     rule_bytes, constraint_bytes               it is of bytes
+--     rule_same, constraint_same                 where no type moves, it is the record itself
 --     map_nth                                    element i of a list that is mapped
 use Prim.Native.Nat.{ℕ, zero, suc, ◌+◌, ◌-◌, ◌*◌, ◌/◌, ◌%◌, ◌≤◌, ◌<◌}
 use native.Mathlib.Omega.{arith}

@@ -1,6 +1,6 @@
 -- The new image byte by byte, and record by record, for the code that writes it. Assumes nothing.
 --     image_written        the header's nine bytes, then the groups kept, the moved rules and the moved constraints
---     rules_front, constraints-front   the first k moved records have as many bytes as the first k old ones
+--     rules_front, constraints_front   the first k moved records have as many bytes as the first k old ones
 --     records_next         the bytes of the first k + 1 moved records
 use Prim.Native.Nat.{ℕ, ◌+◌, ◌/◌, ◌%◌, ◌<◌}
 use native.Mathlib.Numerals.{add-one}

@@ -1,8 +1,8 @@
 -- What the reads have brought, and what is due for it. Assumes nothing.
---     gathered_first, gathered-read, gathered-more   no byte; a read that leaves those that were there; and one that brings more
---     due_ended, due-full             the end of the input, and a full space
+--     gathered_first, gathered_read, gathered_more   no byte; a read that leaves those that were there; and one that brings more
+--     due_ended, due_full             the end of the input, and a full space
 --     took_whole                      what was read, where no error ended it
---     due_line, due-image             what the conversion answered
+--     due_line, due_image             what the conversion answered
 --     new_fits                        the new image stands at the front of its buffer
 use Prim.Native.Nat.{ℕ, ◌+◌, ◌≤◌, ◌<◌}
 use native.Mathlib.Omega.{arith}

@@ -1,5 +1,5 @@
 -- The order rule over rules, constraints and queries as they are read, whatever their records. Assumes nothing.
---     height_denied, height-permitted, height-unknown, height-most   the height of a decision
+--     height_denied, height_permitted, height_unknown, height_most   the height of a decision
 --     judge_says        what a decision says is told by whether some rule covers and some constraint fails
 --     Above             the order rule's terms: of the rules, those that are on
 --     judge_order       the order rule

@@ -1,7 +1,7 @@
 -- What an answer can hold, for the layers above. Assumes nothing.
 --     answer_refused       a refusal is the check's, or 8 or 9 with the place 0
 --     image_refused        and the check's is every query's
---     denied_inside, permitted-inside, unknown-inside   the numbers that a decision names are below the sections' counts, and
+--     denied_inside, permitted_inside, unknown_inside   the numbers that a decision names are below the sections' counts, and
 --                                steps are at most 4
 --     decide_alike         policies and queries that are read the same are decided the same
 --     answer_gives         on an accepted image a query with valid types is answered with the decision

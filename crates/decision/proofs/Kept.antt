@@ -1,12 +1,12 @@
 -- What a record reads as in two policies, the second with the first's groups. Assumes nothing.
 --     set_kept            a type's set
 --     Typed p             the records of a policy are well formed; `accepted_typed`: an accepted image's are
---     rule_kept, constraint-kept    a record that reads the same
---     set_basic, set-group          the set of a type field, and of a group's number
+--     rule_kept, constraint_kept    a record that reads the same
+--     set_basic, set_group          the set of a type field, and of a group's number
 --     union_moved                   the union of types that are moved
 --     RuleAlike, ConstraintAlike    two records of a policy each, with types that stand for the same sets and all else equal
---     rule_alike, constraint-alike  such records read the same; request-alike, such queries
---     rules_mapped, constraints-mapped   a policy's rules and constraints, record by record
+--     rule_alike, constraint_alike  such records read the same; request_alike, such queries
+--     rules_mapped, constraints_mapped   a policy's rules and constraints, record by record
 use Prim.Native.Nat.{ℕ, suc, ◌+◌, ◌-◌, ◌<◌, ◌≤◌}
 use native.Mathlib.Omega.{arith}
 use mathlib.Core.Path.{◌≡◌, refl, sym, subst, ap, ap₂}

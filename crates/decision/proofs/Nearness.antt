@@ -1,7 +1,7 @@
 -- Laws of the nearest: the greatest number that an element has, and the first element that has it. Assumes nothing.
---     greatest_le, greatest-attained   no element has more, and one has it
+--     greatest_le, greatest_attained   no element has more, and one has it
 --     nearest_says      what the nearest says of the list
---     most_nearest      and nothing else says it; most-lowest: the element is the lowest with its number
+--     most_nearest      and nothing else says it; most_lowest: the element is the lowest with its number
 --     nearest_from_lem      it is found in one pass
 --     nearest_same      two functions that agree on the list
 use Prim.Native.Nat.{ℕ, zero, suc, ◌+◌, ◌≤◌, ◌<◌, max}

@@ -1,8 +1,8 @@
 -- The number of an answer: claims DecideWhole, PartsWhole, PartsRead, DecideRead. Assumes nothing.
 --     check_fits      the check's refusal fits, by the law that says how large one is
 --     known_fits      so does a refusal that is known
---     refused_kind, refused-back   what a host reads from the number of a refusal that fits
---     host_permitted, host-refused, host-unknown, host-none   what a host reads, by the kind; host-no-rules, host-near: of the
+--     refused_kind, refused_back   what a host reads from the number of a refusal that fits
+--     host_permitted, host_refused, host_unknown, host_none   what a host reads, by the kind; host_no_rules, host_near: of the
 --                                nearest
 --     accepted_read   what a host reads from the number of an answer on an accepted image is the answer
 use Prim.Native.Nat.{ℕ, ◌≤◌, ◌<◌}

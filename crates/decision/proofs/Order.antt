@@ -1,6 +1,6 @@
 -- The order rule: an extension never decides lower. Claims OrderRule, QueryOrder, NonDecreasing, Decided, DecidedOnly. Assumes nothing.
 --     order                            for two policies
---     answer_accepted, answer-types    what an answer that is no refusal says of the image and of the query
+--     answer_accepted, answer_types    what an answer that is no refusal says of the image and of the query
 --     grown_order                      one query, on a policy and on one that it grows to
 use Prim.Native.Nat.{ℕ, ◌-◌, ◌≤◌, ◌<◌}
 use native.Mathlib.Omega.{arith}

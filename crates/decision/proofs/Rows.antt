@@ -1,7 +1,7 @@
 -- Laws of rows and their numbers. Assumes nothing.
 --     numbers_length   a number for each whole row
 --     numbers_at       the number of a row is its answer's
---     rows_whole, rows-answered, slots-stay, row-alone, query-read   the claims
+--     rows_whole, rows_answered, slots_stay, row_alone, query_read   the claims
 use Prim.Native.Nat.{ℕ, zero, suc, ◌+◌, ◌-◌, ◌*◌, ◌/◌, ◌%◌, ◌<◌, ◌≤◌}
 use native.Mathlib.Omega.{arith}
 use mathlib.Core.Path.{◌≡◌, refl, sym, ap, ◌∙◌}

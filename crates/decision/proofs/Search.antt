@@ -1,16 +1,16 @@
 -- Laws of searching a list: whether some element passes a test, whether each does, which is the first. Assumes nothing.
---     any_of_intro, anyOf-elim     some element passes: both ways
---     any_of_none, anyOf-none-intro   none passes: both ways
---     all_of_intro, allOf-elim     each passes: both ways
---     first_at_some, firstAt-some-intro   the first is the lowest: both ways
---     lowest_inside, lowest-at, lowest-intro   the lowest is one of the list, and passes: by its place, both ways
---     none_at, none-intro         none of the first n passes: by their places, both ways
---     first_at_nil, firstAt-next   the first of none, and of one element more
+--     any_of_intro, any_of_elim     some element passes: both ways
+--     any_of_none, any_of_none_intro   none passes: both ways
+--     all_of_intro, all_of_elim     each passes: both ways
+--     first_at_some, first_at_some_intro   the first is the lowest: both ways
+--     lowest_inside, lowest_at, lowest_intro   the lowest is one of the list, and passes: by its place, both ways
+--     none_at, none_intro         none of the first n passes: by their places, both ways
+--     first_at_nil, first_at_next   the first of none, and of one element more
 --     or_now o i b                 what is found, where it was o before and the element i passes or not
 --     first_at_any                 there is a first where some element passes
---     first_at_none, firstAt-none-intro   there is no first: both ways
---     any_of_map, firstAt-map      over a map
---     any_of_same, firstAt-same    two tests that agree
+--     first_at_none, first_at_none_intro   there is no first: both ways
+--     any_of_map, first_at_map      over a map
+--     any_of_same, first_at_same    two tests that agree
 --     by_test                     by what a test says
 --     member_at                   element n is one of the list
 use Prim.Native.Nat.{ℕ, zero, suc, ◌+◌, ◌<◌}

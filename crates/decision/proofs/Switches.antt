@@ -1,7 +1,7 @@
 -- What switches do. Claims ConditionMeans, WordUnread, SwitchesAdd, SwitchOrder. Assumes nothing.
 --     by_switch                 condition 2 + k is switch k
 --     none_on                   the word 0 has no switch on
---     plain_rule, plain-rules   a rule that names no switch, and such rules, read the same under every word
+--     plain_rule, plain_rules   a rule that names no switch, and such rules, read the same under every word
 use Prim.Native.Nat.{ℕ, ◌+◌, ◌*◌, ◌-◌, ◌%◌, ◌<◌, ◌^◌}
 use native.Mathlib.Nat.{zero-div}
 use native.Mathlib.Omega.{arith}

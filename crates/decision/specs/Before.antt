@@ -1,7 +1,7 @@
 -- The decision as it was before request [2], without steps: "The three decisions do not change." A rule is put to a query by its
 -- record, as the paper's evaluation has it (`permits`); what a constraint says is shared with `judge`, so a separation is request [5]'s
 -- (`Separation` has the one of before).
---     Bare, bareOf          the three decisions, from the rule and the constraint that were found
+--     Bare, bare_of          the three decisions, from the rule and the constraint that were found
 --     decide_before p q      the decision as it was
 --     answer_before l q      the engine's answer as it was
 --     without_steps d, barely o   a decision, and an answer, with the steps and the nearest rule forgotten

@@ -6,7 +6,7 @@
 --     extended l r      the buffer after adding r to it
 --     Case, ask         a row: image, query without a switch on, and the answer that the documents give; ask_on w: under a word
 --     cases             the table
---     given, expectedOf what the definitions give, and the row's answer
+--     given, expected_of what the definitions give, and the row's answer
 --     MarkedCases       the definitions give these answers
 --     MarkedAdds        and the adds in it are accepted
 --     MarkedOrder       the sample and a rule more, and a query on group 0 and one on its member, meet the order rule's terms;

@@ -1,6 +1,6 @@
 -- Clauses of document 01 that no marked case meets, as a second table, and refusals 1 to 7, 10, 11 and 13. Worked out by hand from the
 -- clauses; `tests/` runs these and more.
---     allow_group, companionOfGroup, roster_of_group, back_transition, long_roster   records
+--     allow_group, companion_of_group, roster_of_group, back_transition, long_roster   records
 --     clause_cases       a ban; a companion and a roster that touch; 9, 8 before 9, 1 before both; a transition that is not live; a list of
 --                       two types, and of a group; a source of which a part is listed; a companion's rule to elsewhere;
 --                       a rule and a ban of another class, and of another action (`Separation` has the cases of separations)

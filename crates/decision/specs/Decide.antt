@@ -11,9 +11,9 @@
 --     fails rs a c        the constraint applies to the query, and its predicate is false
 --     first_at f n l       the number, counted from n, of the first element that passes a test
 --     greatest f l        the greatest number that f gives for an element
---     nearest_of, nearestBy f l   that number, and the first element that has it; of no element, that there are none
+--     nearest_of, nearest_by f l   that number, and the first element that has it; of no element, that there are none
 --     nearest a rs        the greatest number of steps, and the lowest rule that has it; or that there are no rules
---     Decision, decisionOf   the three decisions, from the nearest rule, and the rule and the constraint that were found
+--     Decision, decision_of   the three decisions, from the nearest rule, and the rule and the constraint that were found
 --     judge rs cs a       the decision: the lowest rule that covers the query, the lowest constraint that fails; the nearest rule
 --                         where none covers
 --     decide p q          the decision of a policy: its rules are read under the query's word, for cover and for every predicate

@@ -7,7 +7,7 @@
 --     given_code d             a decision: NotPermitted; 0, 1, 0, rule Permitted; 0, 3, rule, constraint UnKnown
 --     decision_code o          an answer: a decision, or the refusal
 -- How a host reads it: the macros of include/mungaite.h, and the same in the Rust crate.
---     kind_part, thirdPart, fourth_part   MUNGAITE_KIND, MUNGAITE_THIRD, MUNGAITE_FOURTH
+--     kind_part, third_part, fourth_part   MUNGAITE_KIND, MUNGAITE_THIRD, MUNGAITE_FOURTH
 --     host_refusal n           the refusal that a number of kind 2 holds
 --     host_nearest s r         the nearest that the third and the fourth part of a number of kind 0 hold: no rule has the number
 --                             65535

@@ -8,7 +8,7 @@
 --     SeparationKept      where it is false, it stays so with more live rules, and with wider ones
 --     same_set a b         two types stand for the same set
 --     separation_was rs c  a separation as document 01 had it: the two sources are the same set
---     broken_was, failsWas, decide_was, answer_was   a predicate, a constraint, a decision and an answer as they were
+--     broken_was, fails_was, decide_was, answer_was   a predicate, a constraint, a decision and an answer as they were
 --     OneType rs          the source of each live rule is one basic type
 --     SeparationStays     then a separation is what it was
 --     AnswersStay         and so is each answer
@@ -23,7 +23,7 @@
 --                         that touch an argument; a destination that touches an argument in part, and one that does not; a query
 --                         within the arguments, and one that is not (READINGS.md [5])
 --     SharedCases         the definitions give these answers
---     was_cases, givenWas, SharedWas   what the old meaning let pass, and what it did not
+--     was_cases, given_was, SharedWas   what the old meaning let pass, and what it did not
 use Rattle.std.specs.Prelude.{ℕ, ◌<◌, ◌≡◌, ◌⊎◌, Bool, true, ◌&&◌, cond, get_or, eqb}
 use mathlib.Core.List.{List, [], ◌∷◌, map, Memᴰ}
 use Rattle.format.specs.Bytes.{word_at}

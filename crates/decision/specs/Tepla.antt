@@ -1,7 +1,7 @@
 -- TEpla's own evaluation (source document 000, algorithms 2 and 3 and figure 1; 001 where 000 leaves a function out), with
 -- document 01's sets, predicates (a separation as in request [5]), transitions and conditions (switches as in request [6]) for
 -- what the paper leaves to parameters. Lines of the two documents' texts are cited as 000:149.
---     Dcs, compareDecisions, maximal_dcs, maximum   decisions without numbers, their order, the greater, the greatest
+--     Dcs, compare_decisions, maximal_dcs, maximum   decisions without numbers, their order, the greater, the greatest
 --     types_within, allows      what a rule's record asks of a query: a transition's the first, an allow rule's the second
 --     permits p q r            what the record asks, by its kind
 --     eval_rule p q r           a query against a rule's record: R_EvalTE

@@ -1,7 +1,7 @@
 -- Laws of the walk over rows. Assumes nothing.
 --     rows_past            nothing is left
 --     rows_feed            a line feed is an empty row
---     rows_outside, rows-refused, rows-added   a row, by what comes of it
+--     rows_outside, rows_refused, rows_added_lem   a row, by what comes of it
 use Prim.Native.Nat.{ℕ, suc, ◌+◌, ◌≤◌, ◌<◌}
 use mathlib.Core.Path.{◌≡◌, refl, sym, ap, ap₂, ◌∙◌}
 use mathlib.Core.Bool.{Bool, true, false}

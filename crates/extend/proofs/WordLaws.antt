@@ -5,7 +5,7 @@
 --     upto-..           a number in its range
 --     says-..           what a word says, and the place past it
 --     decimal-..        by how many digits there are, and the first
---     letter-.., other_none, says-behind   by the first byte: a letter, or another
+--     letter-.., other_none, says_behind   by the first byte: a letter, or another
 --     word_is           the bytes up to the place past a word are that word
 use Prim.Native.Nat.{ℕ, zero, suc, ◌+◌, ◌-◌, ◌*◌, ◌≤◌, ◌<◌}
 use mathlib.Core.Path.{◌≡◌, refl, sym, ap, ◌∙◌}

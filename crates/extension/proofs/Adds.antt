@@ -1,13 +1,13 @@
 -- Laws of adding. Assumes nothing.
 --     section_of_lem           the section that a formed record is of
 --     OwnPasses            what it says that none of the call's own causes applies
---     own_refused, add-refused   a refusal's number and place, and whose it is
+--     own_refused, add_refused   a refusal's number and place, and whose it is
 --     number_few           the new record's number is below its section's limit
 --     buffer_refused       a refused call leaves the buffer
 --     with_sound           a sound policy with one formed record more, which is no twin, is sound
 --     add_image            adding to an image with bytes behind it
 --     buffer_inserted      the buffer after adding, as the bytes are moved and written
---     added_accepted, number-named, groups-kept, rest-stays, refused-unchanged   claims AddedAccepted, NumberNamed, GroupsKept,
+--     added_accepted, number_named, groups_kept, rest_stays, refused_unchanged   claims AddedAccepted, NumberNamed, GroupsKept,
 --                          RestStays, RefusedUnchanged
 use Prim.Native.Nat.{ℕ, ◌+◌, ◌≤◌, ◌<◌}
 use mathlib.Core.Path.{◌≡◌, refl, sym, subst, ap, ◌∙◌}

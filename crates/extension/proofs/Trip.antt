@@ -1,6 +1,6 @@
 -- The round trip: an accepted policy's records, added in order to the empty policy, give it back. Assumes nothing.
 --     add_section      a section's records added one after the other
---     round_trip, round-trip-exact   claims RoundTrip and RoundTripExact
+--     round_trip, round_trip_exact   claims RoundTrip and RoundTripExact
 use Prim.Native.Nat.{ℕ, ◌+◌, ◌≤◌, ◌<◌}
 use mathlib.Core.Path.{◌≡◌, refl, sym, subst, ap, ap₂, ◌∙◌}
 use mathlib.Core.Bool.{false}

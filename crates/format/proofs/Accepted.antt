@@ -1,18 +1,18 @@
 -- What acceptance says of an image, for the layers above, which never open the check. Assumes nothing.
 --     Header l            the header of an accepted image
---     header_holds, holds-header   no refusal from 1 to 4, and its parts
---     laid_header, laid-length, laid-body, laid_end, laid-formed, laid-stands   of an image that passes 1 to 7: the header
+--     header_holds, holds_header   no refusal from 1 to 4, and its parts
+--     laid_header, laid_length, laid_body, laid_end, laid_formed, laid_stands   of an image that passes 1 to 7: the header
 --                         holds, with the length field; the last record ends where the image does; each record of a section
 --                         is formed, and lies in the image, at its place
---     accepted_laid, accepted-twins, laid-accepted, accepted-means   accepted is that and no twins: claim AcceptedMeans
---     accepted_header, accepted-length, accepted-body, accepted-end, record-formed, record-stands   the same of an accepted one
---     twins_none, none-twins, twin-fault-some, rest-is, check-split   the twins' refusal, and where it stands
---     place_first, place-next   the first record's place, and the next
+--     accepted_laid, accepted_twins, laid_accepted, accepted_means   accepted is that and no twins: claim AcceptedMeans
+--     accepted_header, accepted_length, accepted_body, accepted_end, record_formed, record_stands   the same of an accepted one
+--     twins_none, none_twins, twin_fault_some, rest_is, check_split   the twins' refusal, and where it stands
+--     place_first, place_next   the first record's place, and the next
 --     start_least   no section starts before 9
---     policy_rules, policy-constraints   the records of an image's policy
---     record_nth, group-nth   record n of a section of the policy, and of the groups
+--     policy_rules, policy_constraints   the records of an image's policy
+--     record_nth, group_nth   record n of a section of the policy, and of the groups
 --     records_count       the section of the policy has as many records as the header counts
---     records_given, all-given, none-given, empty-tells   claims RecordsGiven, AllGiven, NoneGiven, EmptyTells
+--     records_given, all_given, none_given, empty_tells   claims RecordsGiven, AllGiven, NoneGiven, EmptyTells
 use Prim.Native.Nat.{ℕ, zero, suc, ◌+◌, ◌≤◌, ◌<◌}
 use mathlib.Core.Path.{◌≡◌, refl, sym, ap, ap₂, ◌∙◌}
 use mathlib.Core.Bool.{Bool, true, ◌&&◌}

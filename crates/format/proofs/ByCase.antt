@@ -1,9 +1,9 @@
 -- What the definitions by section and by kind say, case by case. Assumes nothing.
---     limit_groups, limit-rules, limit-constraints, limit-most   limit_of
---     count_place_groups, .., count-place-most   count_place
---     count_at, count-groups, count-rules, count-constraints   count_of
---     records_of_groups, records-of-rules, records-of-constraints   records_of
---     kind_groups, kind-rules, kind-constraints; groups-kind, rules-kind, constraints-kind   kind_in, both ways
+--     limit_groups, limit_rules, limit_constraints, limit_most   limit_of
+--     count_place_groups, .., count_place_most   count_place
+--     count_at, count_groups, count_rules, count_constraints   count_of
+--     records_of_groups, records_of_rules, records_of_constraints   records_of
+--     kind_groups, kind_rules, kind_constraints; groups_kind, rules_kind, constraints_kind   kind_in, both ways
 --     known_version_lem       known_version
 use Prim.Native.Nat.{ℕ, ◌≤◌}
 use mathlib.Core.Path.{◌≡◌, refl}

@@ -1,9 +1,9 @@
 -- Laws of the refusals' chain: none where each link has none, and a refusal is that of a link. Assumes nothing.
---     or_else_split, orElse-none, need-true, need-none   nothing is refused
---     or_else_next, orElse-first, need-some              what is refused, link by link
---     or_else_refuses, need-refuses                      what holds of each link's refusal holds of the chain's
---     unless_accepted, unless-refused                   `unless_refused`
---     outcome_gives, outcome-refused                    `outcome`
+--     or_else_split, or_else_none, need_true, need_none   nothing is refused
+--     or_else_next, or_else_first, need_some              what is refused, link by link
+--     or_else_refuses, need_refuses                      what holds of each link's refusal holds of the chain's
+--     unless_accepted, unless_refused_lem                   `unless_refused`
+--     outcome_gives, outcome_refused                    `outcome`
 use Prim.Native.Nat.{ℕ}
 use mathlib.Core.Path.{◌≡◌, refl, sym, subst}
 use mathlib.Core.Bool.{Bool, true, false}

@@ -1,12 +1,12 @@
 -- The check's tests of a record, and the same in plain numbers (`IsRecord`), both ways. Assumes nothing.
---     type_is, is-type          is_type and IsType
---     rising_nil, rising-cons, rising-one, rising-parts   a rising list, by its first element
---     members_rising, rising-members    bad_member finds none in such a list, and in no other
---     formed_is, is-formed      Formed and IsRecord
---     record_rule, record-constraint    IsRecord, of a rule and of a constraint
+--     type_is, is_type_lem          is_type and IsType
+--     rising_nil, rising_cons, rising_one, rising_parts   a rising list, by its first element
+--     members_rising, rising_members    bad_member finds none in such a list, and in no other
+--     formed_is, is_formed      Formed and IsRecord
+--     record_rule, record_constraint    IsRecord, of a rule and of a constraint
 --     field_inside              a bad field lies within its record
 --     formed_more               a record stays one where there are more groups
---     group_record, constraint-record   a group's record and a constraint's, from their parts
+--     group_record, constraint_record   a group's record and a constraint's, from their parts
 use Prim.Native.Nat.{ℕ, zero, suc, ◌+◌, ◌-◌, ◌*◌, ◌/◌, ◌%◌, ◌≤◌, ◌<◌}
 use mathlib.Core.Path.{◌≡◌, refl, sym, ap, ◌∙◌}
 use mathlib.Core.Logic.{◌⊎◌, inl, inr}

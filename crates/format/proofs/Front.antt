@@ -5,8 +5,8 @@
 --     front_length        and as many as that field says
 --     front_count         with the buffer's own counts
 --     leading_check       the check of the leading bytes is the check of the front
---     leading_taken, leading-whole, leading-short   of the bytes that an image takes, or of a header alone
---     front_of, image-in-of   an accepted image with bytes behind it is an accepted front, and that image
+--     leading_taken, leading_whole, leading_short   of the bytes that an image takes, or of a header alone
+--     front_of, image_in_of   an accepted image with bytes behind it is an accepted front, and that image
 use Prim.Native.Nat.{ℕ, ◌+◌, ◌≤◌, ◌<◌}
 use mathlib.Core.Path.{◌≡◌, refl, sym, ap, ◌∙◌}
 use mathlib.Core.Bool.{Bool, true, false, ◌&&◌}

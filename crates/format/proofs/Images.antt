@@ -2,9 +2,9 @@
 -- WellFormedIsLaidOut. Assumes nothing.
 --     Regular p              a policy that passes 1 to 7: one that is well formed, and no other
 --     Sound p                a policy that passes the check: that, and no twins
---     laid_is_policy         an image that passes 1 to 7 is the image of its policy; image-of-policy, of an accepted one
+--     laid_is_policy         an image that passes 1 to 7 is the image of its policy; image_of_policy, of an accepted one
 --     policy_of_image        the policy of a regular policy's image is that policy
---     image_laid             and that image passes 1 to 7; image-accepted, where the policy is sound
+--     image_laid             and that image passes 1 to 7; image_accepted, where the policy is sound
 --     policy_formed          each record of an accepted image's policy is formed
 use Prim.Native.Nat.{ℕ, suc, ◌+◌, ◌≤◌, ◌<◌}
 use mathlib.Core.Path.{◌≡◌, refl, sym, subst, ap, ◌∙◌}

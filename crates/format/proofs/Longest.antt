@@ -1,5 +1,5 @@
 -- The longest image that the limits allow is accepted: claim LongestReached. Assumes nothing.
---     group_length, rule-length, constraint-length   how long its records are
+--     group_length, rule_length, constraint_length   how long its records are
 --     longest_full       each section has as many records as it may
 --     longest_sound      the policy `longest` passes the check's tests
 use Prim.Native.Nat.{ℕ, zero, suc, ◌+◌, ◌-◌, ◌*◌, ◌≤◌, ◌<◌}

@@ -1,6 +1,6 @@
 -- What stands at the places of an accepted image, for code that reads there. Assumes nothing.
---     words_at_none, words-at-next, words-at-one, words-at-length, words-at-nth   words from a place on
---     group_at, rule-at, constraint-at   each record of an accepted image is so
+--     words_at_none, words_at_next, words_at_one, words_at_length, words_at_nth   words from a place on
+--     group_at, rule_at, constraint_at   each record of an accepted image is so
 use Prim.Native.Nat.{ℕ, zero, suc, ◌+◌, ◌-◌, ◌*◌, ◌/◌, ◌<◌}
 use mathlib.Core.Path.{◌≡◌, refl, sym, subst, ap, ◌∙◌}
 use mathlib.Core.Logic.{◌⊎◌, inl, inr}

@@ -1,10 +1,10 @@
 -- How far a walk over the records reaches: claims PlacesBounded and LongestImage. Assumes nothing.
---     longest_of s        the greatest length of a record of a section (record-most)
---     before_groups, before-rules, before-constraints   what stands before a section passes
---     reached_most       a place that a walk reaches, by section; most-further, most-whole: as many lengths further, and in all
---     laid_reaches, laid-bounded, laid-longest   a walk over an image that passes 1 to 7 reaches every record, and the place
---                        past the last; accepted-reaches, accepted-bounded of an accepted one
---     most_groups, most-rules, most-constraints   the bound of each section, written out
+--     longest_of s        the greatest length of a record of a section (record_most)
+--     before_groups, before_rules, before_constraints   what stands before a section passes
+--     reached_most       a place that a walk reaches, by section; most_further, most_whole: as many lengths further, and in all
+--     laid_reaches, laid_bounded, laid_longest   a walk over an image that passes 1 to 7 reaches every record, and the place
+--                        past the last; accepted_reaches, accepted_bounded of an accepted one
+--     most_groups, most_rules, most_constraints   the bound of each section, written out
 use Prim.Native.Nat.{ℕ, zero, suc, ◌+◌, ◌*◌, ◌≤◌, ◌<◌}
 use mathlib.Core.Path.{◌≡◌, refl}
 use mathlib.Core.Bool.{true}

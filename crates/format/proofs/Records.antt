@@ -1,5 +1,5 @@
 -- Laws of records one after the other, from a place of an image on. Assumes nothing.
---     records_none, records-next, place-snoc, records-length, records-nth, records-mem, records-flatten   of `place_after` and `records_at`
+--     records_none, records_next, place_snoc, records_length, records_nth, records_mem, records_flatten   of `place_after` and `records_at`
 --     section_prefix        a section without a refusal has none in its first records
 --     section_formed        and each of its records is formed
 --     Runs l at rs e        the records rs lie in l from a place on, and end at e

@@ -1,5 +1,5 @@
 -- The type fields of a record: claim ReferencesHeld. Assumes nothing.
---     rule_types, constraint-types   the type fields of a rule and of a constraint, by the kind byte
+--     rule_types, constraint_types   the type fields of a rule and of a constraint, by the kind byte
 use Prim.Native.Nat.{ℕ, suc, ◌<◌}
 use mathlib.Core.Path.{◌≡◌, sym, subst, ◌∙◌}
 use mathlib.Core.Logic.{◌⊎◌, inl, inr, ⊎_elim}

@@ -3,8 +3,8 @@
 --     length_cases        the four kinds, with their lengths
 --     shape_most          no record is longer than 130 bytes
 --     first_whole         a record whose length byte is its length is the one that it starts with
---     read_whole, whole-read   the reader finds a whole record where the record is formed, and nowhere else
---     read_malformed, read-bad-field   what the other answers say
+--     read_whole, whole_read   the reader finds a whole record where the record is formed, and nowhere else
+--     read_malformed, read_bad_field   what the other answers say
 use Prim.Native.Nat.{ℕ, ◌+◌, ◌%◌, ◌≤◌, ◌<◌}
 use mathlib.Core.Path.{◌≡◌, refl, sym, ap, ◌∙◌}
 use mathlib.Core.Bool.{Bool, true, false, ◌&&◌, cond}

@@ -1,9 +1,9 @@
 -- Laws of twin groups, and claims NoTwinsMeans and FirstTwin. Assumes nothing.
---     same_bytes_lem, bytes_same, listed-mem, mem-listed, listed_nil, listed_cons, listed-append   what the tests say
---     twin_fresh, twin-rest, twin-none, twin-snoc   no twins, group by group
+--     same_bytes_lem, bytes_same, listed_mem, mem_listed, listed_nil, listed_cons, listed_append   what the tests say
+--     twin_fresh, twin_rest, twin_none, twin_snoc   no twins, group by group
 --     no_twins_snoc         and with one group more, which none has
 --     no_twins_front        no twins among the first groups
---     number_get, number-own, number-least   `number_of` finds the record, its own number where there are no twins, and no
+--     number_get, number_own, number_least   `number_of` finds the record, its own number where there are no twins, and no
 --                           higher number than another group that has the record
 --     twin-less             a twin's number is above the first with its record
 use Prim.Native.Nat.{ℕ, zero, suc, ◌+◌, ◌≤◌, ◌<◌}

@@ -1,7 +1,7 @@
 -- The bytes of a policy's image, and the image of the empty policy. Assumes nothing.
 --     body_parts           the records' bytes, section after section
 --     image_nine           the nine bytes of the header, and those
---     image_empty, length-empty, sound_empty   the empty policy's image has nine bytes, and the policy is sound
+--     image_empty, length_empty, sound_empty   the empty policy's image has nine bytes, and the policy is sound
 use Prim.Native.Nat.{ℕ, ◌+◌, ◌/◌, ◌%◌, ◌≤◌}
 use mathlib.Core.Path.{◌≡◌, refl}
 use mathlib.Core.List.Memᴰ

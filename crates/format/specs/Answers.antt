@@ -2,7 +2,7 @@
 --     Outcome A        a refusal, with its number and place, or what the call gives
 --     outcome f a      a, unless there is the refusal f
 --     refusal_of c      what a `Checked` says: the refusal, where there is one
---     sections_outcome, foundOutcome   what a `Sections` and a `Found` say
+--     sections_outcome, found_outcome   what a `Sections` and a `Found` say
 --     starts l, extent l s n          what they hold where nothing is refused
 -- The cases of `Read` get their numbers from `read_fault` (5 and 6).
 use Rattle.std.specs.Prelude.{ℕ, List, length}

@@ -1,12 +1,12 @@
 -- Laws of the search for alike groups. Assumes nothing.
 --     same_apart, same_byte, same_next, same_end   two records compared byte by byte
 --     placed-*           a group's record at its place
---     filed_none, filed-next   the groups filed by their keys, one more each time
+--     filed_none, filed_next   the groups filed by their keys, one more each time
 --     looks-*            the search among those with one key, from the last to the first
 --     settled_is         the first group alike to a group, by an earlier one that is
---     fills_none, fills-next, filled   the table of alike groups
---     own_none, own-some, off_next   the first group that is not the first of its kind
---     twins_end, twins-here, twins-few   and what it says of twins
+--     fills_none, fills_next, filled   the table of alike groups
+--     own_none, own_some, off_next   the first group that is not the first of its kind
+--     twins_end, twins_here, twins_few   and what it says of twins
 use Prim.Native.Nat.{ℕ, zero, suc, ◌+◌, ◌-◌, ◌≤◌, ◌<◌}
 use mathlib.Core.Path.{◌≡◌, refl, sym, subst, ap, ◌∙◌}
 use mathlib.Core.Bool.{Bool, true, false, ◌&&◌, cond}

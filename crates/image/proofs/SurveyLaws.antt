@@ -2,9 +2,9 @@
 --     noted_slot       slot i of a walk's records
 --     tabled, slot_placed   the groups' places, slot by slot
 --     survey_placed    where the image is accepted, each group's place is in its slot
---     checks_refused, checks-laid, checks-groups, checks-placed   what 1 to 7 answer, and the table
---     check_refused, check-twin, check-few   the twins behind them
---     alike_refused, alike-filled, alike-slot   the table of alike groups
+--     checks_refused, checks_laid, checks_groups, checks_placed   what 1 to 7 answer, and the table
+--     check_refused, check_twin, check_few   the twins behind them
+--     alike_refused, alike_filled, alike_slot_lem   the table of alike groups
 use Prim.Native.Nat.{ℕ, zero, suc, ◌+◌, ◌≤◌, ◌<◌}
 use mathlib.Core.Path.{◌≡◌, refl, sym, ap, ◌∙◌}
 use mathlib.Core.Bool.{Bool, true, false, cond}

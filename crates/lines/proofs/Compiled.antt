@@ -2,9 +2,9 @@
 --     said at row t b    what is written for the text t, which starts at a place with the row of this number, added to b
 --     said_refused       where it is refused
 --     said_moved         where the whole rows of its first bytes are not: what is written for the text behind them
---     turn_faulty, turn-full, turn-goes   what a turn refuses: a row, one that fills the space, or none
+--     turn_faulty, turn_full, turn_goes   what a turn refuses: a row, one that fills the space, or none
 --     read_on            a turn, and then what is written for the rest
---     begun_is, turned-is, reads_on, reads-stop, reads-refused, reads-image   what the program does, read by read
+--     begun_is, turned_is, reads_on, reads_stop, reads_refused, reads_image   what the program does, read by read
 --     reads_all          all turns
 use Prim.Native.Nat.{ℕ, ◌+◌, ◌≤◌, ◌<◌}
 use native.Mathlib.Omega.{arith}

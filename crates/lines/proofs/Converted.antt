@@ -1,7 +1,7 @@
 -- What the program `convert` writes. Claims AnyConverted, OldWritten, AcceptedWritten, RefusedWritten and OneWritten. Assumes
 -- nothing.
---     output_new, output-refused   what is written for an input that the space holds
---     gathers_on, gathers-full, gathers-ended   a read, a full space, and the end of the input
+--     output_new, output_refused   what is written for an input that the space holds
+--     gathers_on, gathers_full, gathers_ended   a read, a full space, and the end of the input
 use Prim.Native.Nat.{ℕ, ◌≤◌, ◌<◌}
 use native.Mathlib.Omega.{arith}
 use mathlib.Core.Path.{◌≡◌, refl, sym, ap, ◌∙◌}

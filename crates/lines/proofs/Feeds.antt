@@ -1,10 +1,10 @@
 -- Line feeds, and where the last one stands. Assumes nothing.
---     feeds_append, feeds-most   the line feeds of two parts, and that there are no more than bytes
---     one_feed, no-feed          those of one byte
---     no_feeds, feeds-from       those of no byte, and from a place on
+--     feeds_append, feeds_most   the line feeds of two parts, and that there are no more than bytes
+--     one_feed, no_feed          those of one byte
+--     no_feeds, feeds_from       those of no byte, and from a place on
 --     Whole l n                  the first n bytes of l are none, or end with a line feed
 --     cut_is                     what `cut` finds: whole rows, and behind them no line feed
---     cut_here, cut-before       the bytes up to a place, by the byte before it
+--     cut_here, cut_before       the bytes up to a place, by the byte before it
 use Prim.Native.Nat.{ℕ, zero, suc, ◌+◌, ◌≤◌, ◌<◌}
 use native.Mathlib.Omega.{arith}
 use mathlib.Core.Path.{◌≡◌, refl, ap, ◌∙◌}

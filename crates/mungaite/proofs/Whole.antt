@@ -1,5 +1,5 @@
 -- No part of an answer is cut: claims CheckWhole, RecordWhole, AddWhole, ConvertWhole, RunWhole. Assumes nothing.
---     give_fits, add-fits, convert-fits, run_fits   a refusal fits, by the laws that say how large one is
+--     give_fits, add_fits, convert_fits, run_fits   a refusal fits, by the laws that say how large one is
 use Prim.Native.Nat.{ℕ}
 use mathlib.Core.Path.{◌≡◌, refl, sym, subst}
 use mathlib.Core.Logic.{⊎_elim}

@@ -4,7 +4,7 @@
 --     groups_few           there are at most 256 groups
 --     all_kept             where all groups stay, the new image is the old one
 --     zeros_bytes          a table of zeros is of bytes
---     converts_refused, converts-short, converts-whole, converts-same   the four ways out of a call
+--     converts_refused, converts_short, converts_whole, converts_same   the four ways out of a call
 use Prim.Native.Nat.{ℕ, zero, suc, ◌+◌, ◌≤◌, ◌<◌}
 use native.Mathlib.Omega.{arith}
 use mathlib.Core.Path.{◌≡◌, refl, sym, subst, ap, ◌∙◌}

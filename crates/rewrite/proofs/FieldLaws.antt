@@ -1,7 +1,7 @@
 -- Laws of type fields changed in place, by the turns of the loops. Assumes nothing.
---     low_basic, low-group           the second byte of a type field
---     fields_none, fields-next, fields-turn   no field, and one field more
---     record_ends, record-goes-on    a record, without a list and with one
+--     low_basic, low_group           the second byte of a type field
+--     fields_none, fields_next, fields_turn   no field, and one field more
+--     record_ends, record_goes_on    a record, without a list and with one
 --     records_none                   no record
 --     record_lies                    the first of the records that lie in a buffer
 --     records_turn                   a turn of the loop over records

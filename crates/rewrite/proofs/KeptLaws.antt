@@ -1,7 +1,7 @@
 -- Laws of the records of a section, by the turns of a walk over them. Assumes nothing.
 --     rows_here, rows_next              the first of the records that stand from a place on, and the others
 --     row_part                          its bytes are a part of the image
---     pick_bytes, pick-room, pick-size, pick_end   what is still to come of those whose mark is set
+--     pick_bytes, pick_room, pick_size, pick_end   what is still to come of those whose mark is set
 use Prim.Native.Nat.{ℕ, suc, ◌+◌, ◌-◌, ◌≤◌}
 use mathlib.Core.Path.{◌≡◌, refl, sym, ap, ◌∙◌}
 use mathlib.Core.Bool.{Bool, true, false, cond}

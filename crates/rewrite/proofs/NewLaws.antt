@@ -1,10 +1,10 @@
 -- Laws of the new image, by the parts that are written. Assumes nothing.
 --     field_follows       a type field that is looked up goes where references go
---     rules_as, constraints-as   so the records with their fields changed are the new policy's
---     each_rule, each-constraint   each record becomes the new one where it stands
---     nine, image-split   an image: the nine bytes of its header, and its records
+--     rules_as, constraints_as   so the records with their fields changed are the new policy's
+--     each_rule, each_constraint   each record becomes the new one where it stands
+--     nine, image_split   an image: the nine bytes of its header, and its records
 --     Planned, planned    what the code relies on before it writes, at its counts and places
---     rules_step, constraints-step, whole-step   the buffer after the copy, and after each of the two loops over records
+--     rules_step, constraints_step, whole_step   the buffer after the copy, and after each of the two loops over records
 use Prim.Native.Nat.{ℕ, ◌+◌, ◌-◌, ◌*◌, ◌/◌, ◌%◌, ◌≤◌, ◌<◌}
 use native.Mathlib.Omega.{arith}
 use mathlib.Core.Path.{◌≡◌, refl, sym, ap, ap₂, ◌∙◌}

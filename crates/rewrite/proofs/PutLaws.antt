@@ -1,10 +1,10 @@
 -- Laws of bytes put one after the other. Assumes nothing.
---     put_nothing, put-append   nothing put, and two parts put one behind the other
+--     put_nothing, put_append   nothing put, and two parts put one behind the other
 --     put_length                a buffer keeps its length
 --     put_copied                a part copied over what stands from a place on
---     front_put, header-bytes, header-length   a part copied to the front, and the header, byte by byte
+--     front_put, header_bytes, header_length_lem   a part copied to the front, and the header, byte by byte
 --     wrote_then, wrote_as      two writers, one after the other; and what is written, by another name
---     writing_start, writing-put, writing-end   a loop of writers, by its turns
+--     writing_start, writing_put, writing_end   a loop of writers, by its turns
 use Prim.Native.Nat.{ℕ, ◌+◌, ◌-◌, ◌/◌, ◌%◌, ◌≤◌}
 use mathlib.Core.Path.{◌≡◌, refl, sym, ap, ◌∙◌}
 use mathlib.Core.List.{List, [], ◌∷◌, ◌++◌, append_assoc}

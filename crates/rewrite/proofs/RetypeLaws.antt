@@ -1,9 +1,9 @@
 -- What type fields changed in place come to: records, one after the other, with their references rewritten. Assumes nothing.
---     renumbered_basic, renumbered-group   a type field, by what it is
+--     renumbered_basic, renumbered_group   a type field, by what it is
 --     low_put          its two bytes, the second changed
 --     field_put, list_put   the type field behind some bytes, and those of a list
 --     Put              a record that becomes another where its type fields are changed, behind some bytes
---     rule_put, constraint-put   a rule and a constraint so, with their references rewritten
+--     rule_put, constraint_put   a rule and a constraint so, with their references rewritten
 --     records_put      records one after the other, and that they lie in the buffer
 use Prim.Native.Nat.{ℕ, zero, suc, ◌+◌, ◌-◌, ◌*◌, ◌/◌, ◌%◌, ◌<◌, ◌≤◌}
 use mathlib.Core.Path.{◌≡◌, refl, sym, ap, ap₂, ◌∙◌}

@@ -1,10 +1,10 @@
 -- Laws of a run's refusals. Assumes nothing.
---     rows_few, rows-many, rows-slots, rows_none   16, 17, or none, whatever the rows are
---     fault_fits, fault-rows           a run that is not refused: its answers' list fits, and it has at most 64 rows
---     queries_fault_lem, same-lengths      the refusal of queries, by their rows; as many slots as queries
---     numbers_fault_lem, numbers-named     the refusal of numbers, by their rows; it is the check's, 16 or 17
---     same_count, few-numbers          six numbers for each slot, and at most 64 rows of them
---     run_faults, numbers-faults       the claims
+--     rows_few, rows_many, rows_slots, rows_none   16, 17, or none, whatever the rows are
+--     fault_fits, fault_rows           a run that is not refused: its answers' list fits, and it has at most 64 rows
+--     queries_fault_lem, same_lengths      the refusal of queries, by their rows; as many slots as queries
+--     numbers_fault_lem, numbers_named     the refusal of numbers, by their rows; it is the check's, 16 or 17
+--     same_count, few_numbers          six numbers for each slot, and at most 64 rows of them
+--     run_faults, numbers_faults       the claims
 use Prim.Native.Nat.{ℕ, ◌*◌, ◌/◌, ◌≤◌, ◌<◌}
 use mathlib.Core.Path.{◌≡◌, refl, ◌∙◌}
 use mathlib.Core.Bool.{Bool, true, false, ◌&&◌}

@@ -1,6 +1,6 @@
 -- A list that is written over from the front. Assumes nothing.
 --     fill xs ys i     ys, whose first i elements are those of xs
---     length_fill, fill-next, fill-all   as long as ys; one element more; all of them
+--     length_fill, fill_next, fill_all   as long as ys; one element more; all of them
 --     fill_is          it is the front of xs before the rest of ys
 use Prim.Native.Nat.{ℕ, zero, suc, ◌≤◌, ◌<◌}
 use mathlib.Core.Path.{◌≡◌, refl, ap}

@@ -1,8 +1,8 @@
 -- A run after its first i rows. Assumes nothing.
 --     out_at l f qs i          what it comes to, where f is its refusal
---     out_none, out-next      before the first row, and one row more
---     rows_most, rows-decided   at most all rows are decided, and one is only where nothing is refused
---     ran, wrote              after the last: what it comes to, and its slots; ran-queries, wrote-queries, ran-numbers, wrote-numbers
+--     out_none, out_next      before the first row, and one row more
+--     rows_most, rows_decided   at most all rows are decided, and one is only where nothing is refused
+--     ran, wrote              after the last: what it comes to, and its slots; ran_queries, wrote_queries, ran_numbers, wrote_numbers
 --     open_fault_lem              the refusal, from what the check gave
 use Prim.Native.Nat.{ℕ, suc, ◌≤◌, ◌<◌}
 use mathlib.Core.Path.{◌≡◌, refl, sym, ap, ◌∙◌}

@@ -1,6 +1,6 @@
 -- The bytes from a place up to another, moved to the front of a buffer. Assumes nothing.
---     rest_none, rest-next                    none is moved yet, and one more
---     rest_past, rest-crossed, rest-moved     what a call leaves: places that are not there, or not in this order; all are moved
+--     rest_none, rest_next                    none is moved yet, and one more
+--     rest_past, rest_crossed, rest_moved     what a call leaves: places that are not there, or not in this order; all are moved
 --     kept_bytes                              what then stands at the front
 use Prim.Native.Nat.{ℕ, suc, ◌+◌, ◌-◌, ◌≤◌, ◌<◌}
 use native.Mathlib.Omega.{arith}

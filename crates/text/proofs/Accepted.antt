@@ -1,8 +1,8 @@
 -- Claims BuiltAccepted, EachRowAdded, LastRowCounts, OwnNumbers: what a text leaves is accepted, with a record for each row,
 -- and what can be refused then. Assumes nothing.
 --     built_imaged              what a text leaves: the image of a sound policy with the old bytes behind it
---     RowsAdded, rows-added     rows that are not refused, and the records that they add
---     OwnNumber, row-numbers    the numbers of a row's refusals
+--     RowsAdded, rows_added_lem     rows that are not refused, and the records that they add
+--     OwnNumber, row_numbers    the numbers of a row's refusals
 use Prim.Native.Nat.{ℕ, suc, ◌+◌, ◌≤◌, ◌<◌}
 use mathlib.Core.Path.{◌≡◌, refl, sym, subst, ap, ◌∙◌}
 use mathlib.Core.Bool.{true, ◌||◌}

@@ -1,10 +1,10 @@
 -- Each row keeps the buffer the image of a sound policy with the old bytes behind it. Assumes nothing.
 --     Imaged b₀ b               b is such an image with the bytes of b₀ behind it
---     imaged_front, imaged-empty            where that holds first; `count_empty`: there is no record yet
---     imaged_accepted, imaged-length, imaged-bytes, imaged-count, imaged-size, imaged-counts   what it says
---     imaged_formed, imaged-few, imaged-with   and of a record that has its shape and its place
---     OneAdded, add-one         a record added keeps it, and is one record more
---     imaged_row, imaged-rows   rows keep it
+--     imaged_front, imaged_empty            where that holds first; `count_empty`: there is no record yet
+--     imaged_accepted, imaged_length, imaged_bytes, imaged_count, imaged_size, imaged_counts   what it says
+--     imaged_formed, imaged_few, imaged_with   and of a record that has its shape and its place
+--     OneAdded, add_one         a record added keeps it, and is one record more
+--     imaged_row, imaged_rows   rows keep it
 --     rows_accepted             rows keep an accepted front accepted, of bytes, and as long as it was
 use Prim.Native.Nat.{ℕ, suc, ◌+◌, ◌≤◌, ◌<◌}
 use mathlib.Core.Path.{◌≡◌, refl, sym, subst, ap, ◌∙◌}

@@ -4,7 +4,7 @@
 --     by_length               whether it does
 --     built_complete          a text that is not refused answers the length of the image that it leaves
 --     rows_none               the text without a byte
---     Stopped, rows-stopped   the place of a refused row, and what the rows before it leave
+--     Stopped, rows_stopped   the place of a refused row, and what the rows before it leave
 --     rows_place              that place lies within the rows
 --     rows_all                rows whose records are added without a refusal are not refused
 use Prim.Native.Nat.{ℕ, zero, suc, ◌+◌, ◌≤◌, ◌<◌}

@@ -1,9 +1,9 @@
 -- Laws of the parts of a text. Assumes nothing.
 --     split_run               a text is its first part and the rest
 --     rest_end, rest_more     the rest, where there is no s, and where there is one
---     run_most, run-next, run-stop   the first part: how long, byte by byte, and what stands behind it
+--     run_most, run_next, run_stop   the first part: how long, byte by byte, and what stands behind it
 --     split_append            the parts of two texts with an s between them
---     run_alone, run-part     the first part alone, and what stands behind it
+--     run_alone, run_part     the first part alone, and what stands behind it
 --     width_split             the bytes that parts take
 --     Solid, words_split, words_joined   words without a space, in a row, and read from it
 use Prim.Native.Nat.{ℕ, suc, ◌≤◌, ◌<◌}

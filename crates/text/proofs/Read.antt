@@ -1,6 +1,6 @@
 -- Laws of a text as it is read, word by word. Assumes nothing.
 --     word_most                  a word is within what is left
---     word_none, word-stop       no word: at the end, and at a space or a line feed
+--     word_none, word_stop       no word: at the end, and at a space or a line feed
 --     word_next                  a byte of a word, and the word behind it
 --     words_more                 behind a space, the row goes on with its next word
 --     words_last                 at a line feed and at the end, the word was the row's last

@@ -1,14 +1,14 @@
 -- Laws of one row, and of rows one after the other. Assumes nothing.
---     row_fault_place, row-fault-some   a row's refusal has the row's place, and an empty row has none
+--     row_fault_place, row_fault_some   a row's refusal has the row's place, and an empty row has none
 --     row_record                  a row that is not empty, by its record
---     RowAdded, row-added         what it says that such a row is not refused
+--     RowAdded, row_added         what it says that such a row is not refused
 --     row_long                    a row of more than 460 bytes is refused with 18
 --     rows_kept                   a refused row leaves the buffer
---     rows_first_added, rows-first-refused, rows-first   the first of several rows, and which of the two it is
+--     rows_first_added, rows_first_refused, rows_first   the first of several rows, and which of the two it is
 --     rows_complete               rows that are not refused answer the length of the image that they leave
---     rows_append_gives, rows-append-refused   rows behind other rows
---     rows_chain_gives, rows-chain-refused     a text behind another and a line feed
---     row_moved, rows-moved       rows further behind in their text
+--     rows_append_gives, rows_append_refused   rows behind other rows
+--     rows_chain_gives, rows_chain_refused     a text behind another and a line feed
+--     row_moved, rows_moved       rows further behind in their text
 use Prim.Native.Nat.{ℕ, suc, ◌+◌, ◌<◌}
 use mathlib.Core.Path.{◌≡◌, refl, sym, ap, ◌∙◌}
 use mathlib.Core.Option.{Option, none, some}

@@ -1,11 +1,11 @@
 -- Laws of what a word can say. Assumes nothing.
 --     same_equal              words that the test says are the same are
---     number_is, number-most  a number in its range is one, and at most what it may be
+--     number_is, number_most  a number in its range is one, and at most what it may be
 --     number_short            and its word has at most 5 bytes, where that is at most 65535
 --     number_digits           a number below 100 is written by its digits alone
 --     digits_number           and they write it
---     Lettered, lettered-is   a letter, and a number behind it
---     lettered_most, lettered-short   its most, and its word's length
+--     Lettered, lettered_is   a letter, and a number behind it
+--     lettered_most, lettered_short   its most, and its word's length
 --     named_is                the word of a name, and its value
 use Prim.Native.Nat.{ℕ, ◌+◌, ◌-◌, ◌*◌, ◌/◌, ◌%◌, ◌≤◌, ◌<◌}
 use mathlib.Core.Path.{◌≡◌, refl, sym, ap, ◌∙◌}

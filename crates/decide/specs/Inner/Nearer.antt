@@ -1,6 +1,6 @@
 -- What the second walk over the rules looks for, where no rule covers the query.
 --     Uncovered l q         no rule of the image covers the query
---     off_at, otherClassAt   the rule at a place is an allow rule that is off under a switch word; one of another class
+--     off_at, other_class_at   the rule at a place is an allow rule that is off under a switch word; one of another class
 --     class_stops l at c most   so it passes no more than `most` steps, three or more, whatever its types
 --     stops_at l at ms kept passed most   nor does it where the type in a field, of which it is known, stops it after `passed` steps
 --     short_steps a r        the steps, but for the action's, which is asked of no rule: at most 4
