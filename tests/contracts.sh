@@ -6,7 +6,7 @@ cd "$(dirname "$0")/.." || exit 2
 # Names each public function of the source on standard input, with what is wrong with its contract.
 look() {
     LC_ALL=C awk '
-        # The source without comments, those in clauses too, strings and characters: what is left are words, brackets and braces.
+        # The source without comments, those in clauses too, strings and characters: words, brackets and braces are left.
         function plain(text,    kept, found) {
             kept = ""
             while (match(text, /\/\/[^\n]*|\/\*|[ \n]-- [^\n]*|"([^"\\]|\\.)*"|'\''([^'\''\\]|\\[^'\'']*)'\''/)) {

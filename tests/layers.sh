@@ -2,13 +2,13 @@
 # The layers are what README.md says:
 # - a contract and a definition name no definition of a proof file;
 # - what stands in specs/ rests on nothing of specs/Inner, and no public contract names anything of it;
-# - a proof opens (`unfolding`, `unfold`, and in a source `#[tactic(.., unfolding(..))]`) no definition of another crate, but for
-#   the code that meets the definitions of its own layer: image those of format, extend of extension and text, decide and numbers
-#   of decision, permit, compile and streams of lines. All else is cited by laws.
-#   Free are the words of the library, values that are written out (the sample, the empty policy, the marked cases' records), and
-#   the tables of worked cases, whose proof is that they are computed.
-# - what meets the claims' terms (crates/claims/proofs, *Terms.antt, Cases.antt and Worked.antt) cites no claim's own proof, but the
-#   statement's fields.
+# - a proof opens (`unfolding`, `unfold`, and in a source `#[tactic(.., unfolding(..))]`) no definition of another crate, but
+#   for the code that meets the definitions of its own layer: image those of format, extend of extension and text, decide and
+#   numbers of decision, rewrite of conversion, permit, compile and streams of lines. All else is cited by laws.
+#   Free are the words of the library, values that are written out (the sample, the empty policy, the marked cases' records),
+#   and the tables of worked cases, whose proof is that they are computed.
+# - what meets the claims' terms (crates/claims/proofs, *Terms.antt, Cases.antt and Worked.antt) cites no claim's own proof, but
+#   the statement's fields.
 # Prints file:line for each place that breaks one of these.
 cd "$(dirname "$0")/.." || exit 2
 bad=0
@@ -55,7 +55,14 @@ brought='
             within[names[i]] = inner
         }
     }
-    FNR == 1 { split("", from); split("", within); own = FILENAME; sub(/^crates\//, "", own); sub(/\/.*$/, "", own); open = clause = 0 }
+    FNR == 1 {
+        split("", from)
+        split("", within)
+        own = FILENAME
+        sub(/^crates\//, "", own)
+        sub(/\/.*$/, "", own)
+        open = clause = 0
+    }
     /^ *(ghost )?use Rattle\./ { bring($0); next }
 '
 
