@@ -20,7 +20,7 @@ const TURNS: u64 = 140737488355328;
 // Writes the line of a refused row.
 fn refuse<R, E>(rt: &R, stderr: &mut E, f: RowRefusal)
 where
-    R: Clock + Eprint + AllocGlobal,
+    R: Clock + Eprint,
     E: Write,
     requires { DueErrors (row_line f) }
 {
@@ -39,7 +39,7 @@ fn conclude<R, O, E>(
     image: &mut [u8],
 )
 where
-    R: Clock + Eprint + AllocGlobal,
+    R: Clock + Eprint,
     O: Write,
     E: Write,
     requires { Reached (reading_of p input.now image.old) × (check_front image.old ≡ none)
@@ -66,7 +66,7 @@ pub(crate) fn run<R, I, O, E>(
     image: &mut [u8],
 )
 where
-    R: Clock + Eprint + AllocGlobal,
+    R: Clock + Eprint,
     I: Read,
     O: Write,
     E: Write,

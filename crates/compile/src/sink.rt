@@ -7,7 +7,7 @@ use std::time::Clock;
 // Writes an image that is due, all of it.
 pub(crate) fn write_image<R, O>(rt: &R, stdout: &mut O, bytes: &[u8])
 where
-    R: Clock + Eprint + AllocGlobal,
+    R: Clock + Eprint,
     O: Write,
     requires { DueOutput bytes.now }
 {
@@ -17,7 +17,7 @@ where
 // Writes the line of a refused row that is due, all of it.
 pub(crate) fn write_line<R, E>(rt: &R, stderr: &mut E, bytes: &[u8])
 where
-    R: Clock + Eprint + AllocGlobal,
+    R: Clock + Eprint,
     E: Write,
     requires { DueErrors bytes.now }
 {

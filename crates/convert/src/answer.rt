@@ -15,7 +15,7 @@ use std::time::Clock;
 // Writes the line of a refused image.
 fn refuse<R, E>(rt: &R, stderr: &mut E, f: Refusal)
 where
-    R: Clock + Eprint + AllocGlobal,
+    R: Clock + Eprint,
     E: Write,
     requires { DueErrors (line (refused f)) }
 {
@@ -27,7 +27,7 @@ where
 // Writes the new image, or the line. A new image is no longer than the old one, so the buffer always holds it.
 pub(crate) fn answer<R, O, E>(rt: &R, stdout: &mut O, stderr: &mut E, input: &[u8])
 where
-    R: Clock + Eprint + AllocGlobal,
+    R: Clock + Eprint,
     O: Write,
     E: Write,
     requires { (length input.now ≤ input_space) × Due (convert_output input.now) }

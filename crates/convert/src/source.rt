@@ -16,7 +16,7 @@ pub(crate) enum Taken {
 // Reads to the end of the input, or until the space is full.
 pub(crate) fn read_input<R, I>(rt: &R, stdin: &mut I, space: &mut [u8]) -> Taken
 where
-    R: Clock + Eprint + AllocGlobal,
+    R: Clock + Eprint,
     I: Read,
     requires { 65536 ≡ length space.old }
     ensures { Took result space.new }

@@ -73,7 +73,7 @@ fn output_space() -> [u8; 98304]
 // counts its turns, up to a number that no run uses up.
 pub(crate) fn serve<R, I, O>(rt: &R, stdin: &mut I, stdout: &mut O, image: &[u8])
 where
-    R: Clock + Eprint + AllocGlobal,
+    R: Clock + Eprint,
     I: Read,
     O: Write,
     requires { Accepted image.now }
@@ -110,7 +110,7 @@ where
 // Writes the line of an image's refusal.
 pub(crate) fn refuse<R, O>(rt: &R, stdout: &mut O, f: Refusal)
 where
-    R: Clock + Eprint + AllocGlobal,
+    R: Clock + Eprint,
     O: Write,
     requires { Faulty f }
 {

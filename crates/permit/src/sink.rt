@@ -7,7 +7,7 @@ use std::time::Clock;
 // Writes what is due, all of it, and tells that it did.
 pub(crate) fn write_due<R, O>(rt: &R, stdout: &mut O, bytes: &[u8]) -> bool
 where
-    R: Clock + Eprint + AllocGlobal,
+    R: Clock + Eprint,
     O: Write,
     requires { Due bytes.now }
 {

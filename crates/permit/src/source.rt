@@ -41,7 +41,7 @@ fn image_size(bytes: &[u8]) -> usize
 // Reads the image and no byte past it: first the header, then what the length field tells.
 pub(crate) fn read_image<R, I>(rt: &R, stdin: &mut I, space: &mut [u8]) -> Taken
 where
-    R: Clock + Eprint + AllocGlobal,
+    R: Clock + Eprint,
     I: Read,
     requires { 65536 ≡ length space.old }
     ensures { ImageRead space.new result }

@@ -1,4 +1,4 @@
-// A read or a write that failed: whether to make it again, and what is said of it.
+// A read or a write that failed: whether to make it again.
 ghost use Rattle.std.specs.Prelude.{◌≡◌, IfSome};
 ghost use Rattle.std.specs.IoError.{raw_os_error};
 ghost use Rattle.streams.specs.Input.{try_again};
@@ -32,7 +32,7 @@ fn is_passing(error: &io::Error) -> bool
     }
 }
 
-// Waits a millisecond, or less where a signal comes.
+// Waits a millisecond.
 fn wait<R: Clock>(rt: &R) {
     thread::sleep(rt, Duration::from_millis(1));
 }

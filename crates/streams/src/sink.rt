@@ -12,7 +12,7 @@ use std::time::Clock;
 // takes nothing is one that failed.
 pub fn write_all<R, O>(rt: &R, output: &mut O, what: &[u8], bytes: &[u8]) -> bool
 where
-    R: Clock + Eprint + AllocGlobal,
+    R: Clock + Eprint,
     O: Write,
     ensures { Writes (length bytes.now) result }
 {
@@ -36,7 +36,7 @@ where
 // Writes once and tells how many bytes were taken. Where it is none, it says so on standard error, and why.
 fn write_some<R, O>(rt: &R, output: &mut O, what: &[u8], bytes: &[u8]) -> usize
 where
-    R: Clock + Eprint + AllocGlobal,
+    R: Clock + Eprint,
     O: Write,
     ensures { result ≤ length bytes.now }
 {

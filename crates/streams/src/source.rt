@@ -25,7 +25,7 @@ fn brought(answer: &io::Result<usize>, part: &[u8]) -> Got
 // proved loop has to end, so it counts its tries, up to a number that no run uses up.
 pub fn read_some<R, I>(rt: &R, input: &mut I, what: &[u8], part: &mut [u8]) -> Got
 where
-    R: Clock + Eprint + AllocGlobal,
+    R: Clock + Eprint,
     I: Read,
     ensures { Brings (length part.old) result }
 {
@@ -56,7 +56,7 @@ pub fn read_between<R, I>(
     to: usize,
 ) -> Got
 where
-    R: Clock + Eprint + AllocGlobal,
+    R: Clock + Eprint,
     I: Read,
     ensures { ReadBetween from to buffer.old result buffer.new }
 {

@@ -31,6 +31,7 @@ use Rattle.text.proofs.Conditions.{condition_words}
 use Rattle.text.proofs.Digits.{switch_spelled, number_word_solid, number_spelled, word_number}
 use Rattle.text.proofs.Digits.{letter_no_number, lettered_word, word_lettered}
 use Rattle.text.proofs.Records.{value_most, value_most_lem}
+use Rattle.text.proofs.Put.{put_none, put_more}
 
 -- ---- one field
 
@@ -141,6 +142,17 @@ Wide f = (n : ℕ) → field_bytes f n ≡ put_word n []
 abbrev pub Sayable : Field → List ℕ → Type 0
 Sayable f ns = (n : ℕ) → Memᴰ n ns → n ≤ value_most f
 
+value_small : (f : Field) → value_most f < 65536
+unfolding value_most
+value_small Member = omega arith
+value_small AnyType = omega arith
+value_small Number = omega arith
+value_small Predicate = omega arith
+value_small Condition = omega arith
+
+sayable_small : (f : Field) (ns : List ℕ) → Sayable f ns → (n : ℕ) → Memᴰ n ns → n < 65536
+sayable_small f ns h n m = omega (arith, h n m, value_small f)
+
 -- a value for each field, and the words and bytes of these before others
 abbrev pub Values : List Field → Type 0
 Values [] = Unit
@@ -166,21 +178,30 @@ pub fields_read :
     (fs : List Field) (f : Field) (k : ℕ) (ws : List (List ℕ)) (l : List ℕ) → Wide f
     → fields_of fs (replicate k f) ws ≡ some l
     → Read fs f k ws l
-unfolding fields_of put_words put_word
+unfolding fields_of
 fields_read [] f k [] l wide e =
     let h : [] ≡ l = cc in
-    record { values = tt; more = []; few = omega arith; most = λ n m. absurd (Memᴰ.not-nil m); words = refl; bytes = sym h }
+    record {
+      values = tt;
+      more = [];
+      few = omega arith;
+      most = λ n m. absurd (Memᴰ.not-nil m);
+      words = refl;
+      bytes = sym h ∙ sym put_none;
+    }
 fields_read [] f zero (w ∷ ws) l wide e = some_not_none (sym e)
 fields_read [] f (suc k) (w ∷ ws) l wide e =
     let a = first_field f w (fields_of [] (replicate k f) ws) l e in
     let b = fields_read [] f k ws a.back wide a.rest in
+    let most : Sayable f (a.value ∷ b.more) =
+    λ n m. ⊎_elim (λ i. omega (arith, i, a.most)) (b.most n) (Memᴰ.cases_cons m) in
     record {
       values = tt;
       more = a.value ∷ b.more;
       few = omega (arith, b.few);
-      most = λ n m. ⊎_elim (λ i. omega (arith, i, a.most)) (b.most n) (Memᴰ.cases_cons m);
+      most = most;
       words = ap₂ ◌∷◌ a.word b.words;
-      bytes = a.bytes ∙ ap₂ ◌++◌ (wide a.value) b.bytes;
+      bytes = a.bytes ∙ ap₂ ◌++◌ (wide a.value) b.bytes ∙ sym (put_more a.value b.more (sayable_small f _ most));
     }
 fields_read (g ∷ fs) f k [] l wide e = some_not_none (sym e)
 fields_read (g ∷ fs) f k (w ∷ ws) l wide e =
@@ -204,13 +225,16 @@ pub record Written (fs more : List Field) (ws : List (List ℕ)) (l : List ℕ) 
 pub fields_written :
     (fs : List Field) (f : Field) (k : ℕ) (v : Values fs) (ns : List ℕ) → Wide f → length ns ≤ k → Sayable f ns
     → Written fs (replicate k f) (words_for fs v (map (word_for f) ns)) (bytes_for fs v (put_words ns))
-unfolding fields_of joined as_bytes put_words put_word
-fields_written [] f k v [] wide h m = record { fields = refl; solid = tt }
+unfolding fields_of joined as_bytes
+fields_written [] f k v [] wide h m = record { fields = ap some (sym put_none); solid = tt }
 fields_written [] f zero v (n ∷ ns) wide h m = absurd (omega arith)
 fields_written [] f (suc k) v (n ∷ ns) wide h m =
     let r = fields_written [] f k v ns wide (omega arith) (λ x i. m x (Memᴰ.tail i)) in
     let b = m n (Memᴰ.head refl) in
-    record { fields = rw (word_says f n b, r.fields, wide n); solid = (word_solid f n b, r.solid) }
+    record {
+      fields = rw (word_says f n b, r.fields, wide n) (ap some (sym (put_more n ns (sayable_small f (n ∷ ns) m))));
+      solid = (word_solid f n b, r.solid);
+    }
 fields_written (g ∷ fs) f k v ns wide h m =
     let r = fields_written fs f k v.2 ns wide h m in
     record { fields = rw (word_says g v.0 v.1, r.fields); solid = (word_solid g v.0 v.1, r.solid) }

@@ -4,6 +4,7 @@ pub mod Words
 pub mod Digits
 pub mod Conditions
 pub mod Records
+pub mod Put
 pub mod Fields
 pub mod Spelling
 pub mod Rows

@@ -1,5 +1,5 @@
 -- Claim OneSpelling, form by form. Assumes nothing.
-use Prim.Native.Nat.{ℕ, suc, ◌+◌, ◌-◌, ◌*◌, ◌/◌, ◌%◌, ◌≤◌}
+use Prim.Native.Nat.{ℕ, ◌+◌, ◌-◌, ◌*◌, ◌/◌, ◌%◌, ◌≤◌}
 use mathlib.Core.Path.{◌≡◌, refl, sym, subst, subst₂, ap, ap₂, ◌∙◌}
 use mathlib.Core.Bool.{true}
 use mathlib.Core.Option.{some}
@@ -11,8 +11,8 @@ use lib.ListN.{length, get_or, replicate, take, drop, length-drop, drop_of_lengt
 use lib.Seq.{drop-cons}
 use Rattle.format.specs.Bytes.{Bytes, word_at, words, put_word, put_words}
 use Rattle.format.specs.Format.{shape_ok}
-use Rattle.format.proofs.Bytes.{bytes_drop, word_bytes, word_back, word_small}
-use Rattle.format.proofs.Bytes.{words_next, words_put, length_words, put_words_lem}
+use Rattle.format.proofs.Bytes.{bytes_drop, put_word_lem, word_small}
+use Rattle.format.proofs.Bytes.{words_next, words_end, words_put, length_words, put_words_lem}
 use Rattle.format.proofs.Shapes.{length_cases, length_least, shape_length, shape_kind}
 use Rattle.text.specs.declared.Field.{Field}
 use Rattle.text.specs.declared.Field.TheVariants.{Member, AnyType}
@@ -23,6 +23,7 @@ use Rattle.text.specs.Spelling.{Spellable, OneSpelling}
 use Rattle.text.specs.Inner.Parts.{run_of, rest}
 use Rattle.text.proofs.Parts.{split_run, words_joined}
 use Rattle.text.proofs.Records.{value_most, RecordBy, record_cases, record_shape, record_bytes}
+use Rattle.text.proofs.Put.{word_here, words_more, word_front, put_none}
 use Rattle.text.proofs.Fields.{word_for, Wide, Sayable, Values, words_for, bytes_for, fields_read, Written, fields_written}
 use Rattle.text.proofs.Fields.{ByWord, group_word, allow_word, transition_word, constraint_word, form_read}
 
@@ -68,11 +69,12 @@ by_values f g k wide more spells w ws r b =
 group_spells :
     (v : Values group.fields) (ns : List ℕ) → length ns ≤ 63 → Sayable Member ns
     → Spelt (row_in group Member v ns) (record_in group v ns)
-unfolding bytes_in record_in row_in group value_most field_bytes put_word put_words spelling group_row words
+unfolding bytes_in record_in row_in group value_most field_bytes spelling group_row
 group_spells v ns h m =
     let all : (x : ℕ) → Memᴰ x (v.0 ∷ ns) → x ≤ 32767 =
     λ x i. ⊎_elim (λ e. omega (arith, e, v.1)) (m x) (Memᴰ.cases_cons i) in
-    let is : words (drop 2 (record_in group v ns)) ≡ v.0 ∷ ns = ap₂ ◌∷◌ (word_back v.0) (words_put ns) in
+    let is : words (drop 2 (record_in group v ns)) ≡ v.0 ∷ ns =
+    words_more v.0 (put_words ns) ∙ ap (λ (x : List ℕ). v.0 ∷ x) (words_put ns) in
     record {
       members = λ e x i. all x (subst (Memᴰ x) is i);
       condition = λ e. absurd (omega (arith, e));
@@ -82,36 +84,50 @@ group_spells v ns h m =
 allow_spells :
     (v : Values allow.fields) (ns : List ℕ) → length ns ≤ 0 → Sayable Member ns
     → Spelt (row_in allow Member v ns) (record_in allow v ns)
-unfolding bytes_in record_in row_in allow value_most field_bytes put_word put_words word_at spelling allow_row
+unfolding bytes_in record_in row_in allow value_most field_bytes spelling allow_row
 allow_spells v (n ∷ ns) h m = absurd (omega arith)
 allow_spells v [] h m =
+    rw (put_word_lem v.0, put_word_lem v.2.0, put_word_lem v.2.2.0, put_word_lem v.2.2.2.0, put_none)
     record {
       members = λ e. absurd (omega (arith, e));
       condition = λ e. omega (arith, v.2.2.2.2.1);
-      is = rw (word_back v.0, word_back v.2.0, word_back v.2.2.0, word_back v.2.2.2.0) refl;
+      is = rw (
+        word_here _ 2 v.0 refl refl,
+        word_here _ 4 v.2.0 refl refl,
+        word_here _ 6 v.2.2.0 refl refl,
+        word_here _ 8 v.2.2.2.0 refl refl,
+      ) refl;
     }
 
 transition_spells :
     (v : Values transition.fields) (ns : List ℕ) → length ns ≤ 0 → Sayable Member ns
     → Spelt (row_in transition Member v ns) (record_in transition v ns)
-unfolding bytes_in record_in row_in transition value_most field_bytes put_word put_words word_at spelling transition_row
+unfolding bytes_in record_in row_in transition value_most field_bytes spelling transition_row
 transition_spells v (n ∷ ns) h m = absurd (omega arith)
 transition_spells v [] h m =
+    rw (put_word_lem v.0, put_word_lem v.2.0, put_word_lem v.2.2.0, put_none)
     record {
       members = λ e. absurd (omega (arith, e));
       condition = λ e. absurd (omega (arith, e));
-      is = rw (word_back v.0, word_back v.2.0, word_back v.2.2.0) refl;
+      is = rw (word_here _ 2 v.0 refl refl, word_here _ 4 v.2.0 refl refl, word_here _ 6 v.2.2.0 refl refl) refl;
     }
 
 constraint_spells :
     (v : Values constraint.fields) (ns : List ℕ) → length ns ≤ 16 → Sayable AnyType ns
     → Spelt (row_in constraint AnyType v ns) (record_in constraint v ns)
-unfolding bytes_in record_in row_in constraint value_most field_bytes put_word word_at spelling constraint_row
+unfolding bytes_in record_in row_in constraint value_most field_bytes spelling constraint_row
 constraint_spells v ns h m =
+    rw (put_word_lem v.0, put_word_lem v.2.0, put_word_lem v.2.2.0, put_word_lem v.2.2.2.0)
     record {
       members = λ e. absurd (omega (arith, e));
       condition = λ e. absurd (omega (arith, e));
-      is = rw (word_back v.0, word_back v.2.0, word_back v.2.2.0, word_back v.2.2.2.0, words_put ns) refl;
+      is = rw (
+        word_here _ 2 v.0 refl refl,
+        word_here _ 4 v.2.0 refl refl,
+        word_here _ 6 v.2.2.0 refl refl,
+        word_here _ 8 v.2.2.2.0 refl refl,
+        words_put ns,
+      ) refl;
     }
 
 row_spelt : (row r : List ℕ) → record_of_row row ≡ some r → Spelt row r
@@ -134,20 +150,12 @@ only_spelling row r e =
 
 -- ---- and the spelling
 
-word_front : (r : List ℕ) → Bytes r → (at : ℕ) → at + 2 ≤ length r → drop at r ≡ put_word (word_at r at) (drop (at + 2) r)
-word_front r b at h =
-    let i : suc at ≡ at + 1 = omega arith in
-    let j : suc (suc at) ≡ at + 2 = omega arith in
-    drop-cons r at 0 (omega arith)
-    ∙ ap (λ (x : List ℕ). get_or r at 0 ∷ x) (drop-cons r (suc at) 0 (omega arith) ∙ rw (j, i) refl)
-    ∙ sym (word_bytes r b at (drop (at + 2) r))
-
 words_small : (l : List ℕ) → Bytes l → (n : ℕ) → Memᴰ n (words l) → n ≤ 65535
-unfolding words
-words_small [] b n m = absurd (Memᴰ.not-nil m)
-words_small (x ∷ []) b n m = absurd (Memᴰ.not-nil m)
+words_small [] b n m = absurd (Memᴰ.not-nil (subst (Memᴰ n) (words_end [] 0 (omega arith)) m))
+words_small (x ∷ []) b n m = absurd (Memᴰ.not-nil (subst (Memᴰ n) (words_end (x ∷ []) 0 (omega arith)) m))
 words_small (x ∷ y ∷ l) b n m =
-    ⊎_elim (λ e. omega (arith, e, b 0, b 1)) (words_small l (bytes_drop 2 (x ∷ y ∷ l) b) n) (Memᴰ.cases_cons m)
+    ⊎_elim (λ e. omega (arith, e, word_small (x ∷ y ∷ l) b 0)) (words_small l (bytes_drop 2 (x ∷ y ∷ l) b) n)
+    (Memᴰ.cases_cons (subst (Memᴰ n) (words_next (x ∷ y ∷ l) 0 (omega arith)) m))
 
 record_whole : (r l : List ℕ) (k : ℕ) → shape_ok r ≡ true → get_or r 1 0 ≡ k → drop 2 r ≡ l → (2 + length l) ∷ k ∷ l ≡ r
 record_whole [] l k s e d = absurd (omega (arith, length_least _ _ (shape_kind [] s)))
@@ -172,14 +180,14 @@ module _ (r : List ℕ) (s : Spellable r) where
   small : (at : ℕ) → word_at r at ≤ 65535
   small at = omega (arith, word_small r s.bytes at)
 
-  front : (at : ℕ) (l : List ℕ) → at + 2 ≤ length r → drop (at + 2) r ≡ l → drop at r ≡ put_word (word_at r at) l
-  front at l h e = word_front r s.bytes at h ∙ ap (put_word (word_at r at)) e
+  front : (at : ℕ) (l : List ℕ) → at + 2 ≤ length r → drop (at + 2) r ≡ l → drop at r ≡ put_word (word_at r at) [] ++ l
+  front at l h e = word_front r s.bytes at h ∙ ap (λ (x : List ℕ). put_word (word_at r at) [] ++ x) e
 
   rest_words : (at n : ℕ) → length r ≡ at + 2 * n → drop at r ≡ put_words (words (drop at r))
   rest_words at n h = sym (put_words_lem (drop at r) n (omega (arith, length-drop at r)) (bytes_drop at r s.bytes))
 
   as_group : get_or r 1 0 ≡ 1 → 4 ≤ length r → length r ≤ 130 → length r % 2 ≡ 0 → record_of_row (spelling r) ≡ some r
-  unfolding bytes_in row_in group value_most field_bytes put_word spelling group_row
+  unfolding bytes_in row_in group value_most field_bytes spelling group_row
   as_group e low high even =
       let ns : List ℕ = words (drop 4 r) in
       let next : words (drop 2 r) ≡ word_at r 2 ∷ ns = words_next r 2 (omega arith) in
@@ -191,7 +199,7 @@ module _ (r : List ℕ) (s : Spellable r) where
       (front 2 (put_words ns) (omega arith) (rest_words 4 ((length r - 4) / 2) half)))
 
   as_allow : get_or r 1 0 ≡ 2 → length r ≡ 11 → record_of_row (spelling r) ≡ some r
-  unfolding bytes_in row_in allow value_most field_bytes put_word put_words spelling allow_row
+  unfolding bytes_in row_in allow value_most field_bytes spelling allow_row
   as_allow e long =
       let v : Values allow.fields = (
         word_at r 2,
@@ -214,19 +222,19 @@ module _ (r : List ℕ) (s : Spellable r) where
       (λ x i. absurd (Memᴰ.not-nil i))
       (front 2 _ (omega arith) (front 4 _ (omega arith) (front 6 _ (omega arith) (front 8 _ (omega arith)
       (drop-cons r 10 0 (omega arith)
-      ∙ ap (λ (x : List ℕ). get_or r 10 0 ∷ x) (drop_of_length-le r {i = 11} (omega arith))))))))
+      ∙ ap (λ (x : List ℕ). get_or r 10 0 ∷ x) (drop_of_length-le r {i = 11} (omega arith) ∙ sym put_none)))))))
 
   as_transition : get_or r 1 0 ≡ 3 → length r ≡ 8 → record_of_row (spelling r) ≡ some r
-  unfolding bytes_in row_in transition value_most field_bytes put_word put_words spelling transition_row
+  unfolding bytes_in row_in transition value_most field_bytes spelling transition_row
   as_transition e long =
       let v : Values transition.fields = (word_at r 2, small 2, (word_at r 4, small 4, (word_at r 6, small 6, tt))) in
       rw e (spelled_by transition Member 0 member_wide refl transition_word e v [] (omega arith)
       (λ x i. absurd (Memᴰ.not-nil i))
       (front 2 _ (omega arith) (front 4 _ (omega arith) (front 6 _ (omega arith)
-      (drop_of_length-le r {i = 8} (omega arith))))))
+      (drop_of_length-le r {i = 8} (omega arith) ∙ sym put_none)))))
 
   as_constraint : get_or r 1 0 ≡ 4 → 11 ≤ length r → length r ≤ 43 → length r % 2 ≡ 1 → record_of_row (spelling r) ≡ some r
-  unfolding bytes_in row_in constraint value_most field_bytes put_word spelling constraint_row
+  unfolding bytes_in row_in constraint value_most field_bytes spelling constraint_row
   as_constraint e low high odd =
       let ns : List ℕ = words (drop 11 r) in
       let half : length r ≡ 11 + 2 * ((length r - 11) / 2) = omega arith in
