@@ -62,8 +62,8 @@ fn line(rt: &impl Print, label: &str, answer: u64) -> io::Result<()> {
     if answer == 0xFFFF {
         return println!(rt; "{label}: N -");
     }
-    let third = lowest(answer >> 16);
-    let fourth = lowest(answer);
+    let third = number(answer >> 16);
+    let fourth = number(answer);
     match answer >> 32 {
         0 => println!(rt; "{label}: N {third} {fourth}"),
         1 => println!(rt; "{label}: P {fourth}"),
@@ -74,8 +74,8 @@ fn line(rt: &impl Print, label: &str, answer: u64) -> io::Result<()> {
 
 // What a run comes to.
 pub(crate) fn comes(rt: &impl Print, label: &str, answer: u64) -> io::Result<()> {
-    let third = lowest(answer >> 16);
-    let fourth = lowest(answer);
+    let third = number(answer >> 16);
+    let fourth = number(answer);
     match answer >> 32 {
         0 => println!(rt; "{label}: row {fourth}"),
         1 => println!(rt; "{label}: fit"),
@@ -90,12 +90,12 @@ pub(crate) fn built(rt: &impl Print, label: &str, answer: u64, same: bool) -> io
 
 // What converting answers, and whether its bytes are those wanted: the image's length, or R, the number and the place.
 pub(crate) fn converted(rt: &impl Print, label: &str, answer: u64, same: bool) -> io::Result<()> {
-    said(rt, label, lowest(answer >> 16), answer, same)
+    said(rt, label, number(answer >> 16), answer, same)
 }
 
 // A refusal's number, where there is one, the lowest 16 bits of an answer, and whether bytes are the same.
 fn said(rt: &impl Print, label: &str, refusal: u64, answer: u64, same: bool) -> io::Result<()> {
-    let fourth = lowest(answer);
+    let fourth = number(answer);
     let which = same_or_other(same);
     if refusal == 0 {
         println!(rt; "{label}: {fourth}, {which} bytes")
@@ -114,6 +114,6 @@ fn same_or_other(same: bool) -> &'static str {
 }
 
 // The lowest 16 bits of a number.
-fn lowest(parts: u64) -> u64 {
+fn number(parts: u64) -> u64 {
     parts & 0xFFFF
 }

@@ -150,6 +150,7 @@ fn first_twin(alike: &[u16; 256], count: usize) -> usize
 }
 
 // Refusal 19.
+#[tactic(auto, using(crate::proofs::AlikeLaws::twins_few, format::proofs::ByCase::count_groups))]
 pub(crate) fn check_twins(image: &[u8], places: &[u16; 256], starts: Starts) -> Sections
     requires { Placed image.now places.now (count_of image.now Groups) }
     ensures { sections_outcome result ≡ outcome (twin_fault image.now) starts }

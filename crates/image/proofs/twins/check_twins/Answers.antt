@@ -7,14 +7,8 @@ use Rattle.format.specs.declared.Section.TheVariants.{Groups}
 use Rattle.format.specs.Format.{count_of}
 use Rattle.format.specs.Answers.{outcome}
 use Rattle.format.proofs.ByCase.{count_groups}
-use Rattle.image.proofs.AlikeLaws.{placed_long, placed_few, placed_as, twins_end, twins_here, twins_few}
+use Rattle.image.proofs.AlikeLaws.{placed_long, placed_few, placed_as, twins_end, twins_here}
 use Rattle.image.proofs.twins.check_twins.Goals as goal
-
-pub returns-then-count-lt2 : goal.returns-then-count-lt2
-returns-then-count-lt2 c =
-    let l : List ℕ = c.args.image.now in
-    let count_is : c.word_in-count.result ≡ count_of l Groups = c.word_in-count.ensures.0 ∙ sym (count_groups l) in
-    rw (twins_few l (omega (arith, count_is)))
 
 pub fill_alike-requires : goal.fill_alike-requires
 fill_alike-requires c =
