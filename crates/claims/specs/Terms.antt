@@ -61,7 +61,8 @@ use Rattle.decision.specs.Decide.{Decision, not_permitted, permitted, unknown}
 use Rattle.decision.specs.Lowest.{Most, Nears}
 use Rattle.decision.specs.Steps.{steps_of, steps_at, source_in, dest_in, off, step_cases}
 use Rattle.decision.specs.Before.{denied, allowed, stopped, answer_before}
-use Rattle.decision.specs.Separation.{From, FromRecord, Wider, separation_was, answer_was, OneType, Raised, separation, story, elsewhere, shared_cases, was_cases}
+use Rattle.decision.specs.Separation.{From, FromRecord, Wider, separation_was, answer_was, OneType, Raised}
+use Rattle.decision.specs.Separation.{separation, story, elsewhere, shared_cases, was_cases}
 use Rattle.decision.specs.Order.{height, Keeps, Grows, NoCompanion}
 use Rattle.decision.specs.Switches.{NoSwitches, settled_rule, settled, only_on, allow_if, sample_if, switch_cases}
 use Rattle.decision.specs.Growth.{reordered, DecidedAbove}
