@@ -2,13 +2,14 @@
 -- cited. Assumes nothing.
 use native.Mathlib.Omega.{arith}
 use Prim.Native.Nat.{ℕ, zero, suc, ◌*◌, ◌≤◌, ◌<◌}
-use mathlib.Core.Option.{some}
+use Rattle.std.specs.Prelude.{Some}
 use mathlib.Core.Path.{◌≡◌, subst, refl, sym, ap, ap₂, ◌∙◌}
 use mathlib.Core.List.{List, [], ◌∷◌, ◌++◌, map}
 use lib.ListN.{length, get_or, take, replicate, length-append, length-replicate}
 use Rattle.format.specs.declared.Section.TheVariants.{Groups, Rules, Constraints}
 use Rattle.format.specs.Bytes.{Bytes}
-use Rattle.format.specs.Answers.{refused, outcome, extent}
+use Rattle.std.specs.Prelude.{Err}
+use Rattle.format.specs.Answers.{outcome, extent}
 use Rattle.format.specs.Sample.{sample, empty}
 use Rattle.format.proofs.Chain.{or_else_next, unless_accepted, some_not_none}
 use Rattle.format.specs.Check.{Accepted}
@@ -89,11 +90,11 @@ module _ (p : Promises) where
   numbers_are : (qs : List Query) (ns : List ℕ) → numbers_of qs ≡ ns → numbers_run sample ns 2 ≡ run_of sample qs 2
   numbers_are qs ns e = ap (λ x. numbers_run sample x 2) (sym e) ∙ (p.calling.numbers_run_lem sample qs (7 ∷ 8 ∷ [])).0
 
-  refused_16 : (l ns : List ℕ) (slots : ℕ) → numbers_fault l (length ns) slots ≡ some (refusal 16 0) → numbers_run l ns slots ≡ refused (refusal 16 0)
+  refused_16 : (l ns : List ℕ) (slots : ℕ) → numbers_fault l (length ns) slots ≡ Some (refusal 16 0) → numbers_run l ns slots ≡ Err (refusal 16 0)
   refused_16 l ns slots = (p.calling.numbers_refused l ns slots (refusal 16 0)).0
 
   refused_17 :
-      (l ns : List ℕ) (slots : ℕ) → Accepted l → 6 ≤ length ns → length ns ≤ 389 → (length ns ≡ 6 * slots → ⊥) → numbers_run l ns slots ≡ refused (refusal 17 0)
+      (l ns : List ℕ) (slots : ℕ) → Accepted l → 6 ≤ length ns → length ns ≤ 389 → (length ns ≡ 6 * slots → ⊥) → numbers_run l ns slots ≡ Err (refusal 17 0)
   refused_17 l ns slots a h k z = (p.calling.numbers_refused l ns slots (refusal 17 0)).0 (((p.calling.numbers_faults l).1 a).2 (length ns) slots h k z)
 
   six_numbers :

@@ -3,7 +3,7 @@ use Prim.Native.Nat.{ℕ, zero, suc, ◌+◌, ◌<◌}
 use native.Mathlib.Omega.{arith}
 use mathlib.Core.Path.{◌≡◌, refl, sym, subst, ap, ◌∙◌}
 use mathlib.Core.Bool.{Bool, true}
-use mathlib.Core.Option.{none, some}
+use Rattle.std.specs.Prelude.{None, Some}
 use mathlib.Core.List.Memᴰ
 use mathlib.Core.List.{List, [], ◌∷◌, ◌++◌, flatten, map, append-nil, Memᴰ}
 use lib.ListN.{length, get_or, take, drop, replicate, length-append, get_or-append}
@@ -25,15 +25,17 @@ use Rattle.format.proofs.Bytes.{bytes_of}
 use Rattle.format.proofs.Front.{front_of, image_in_of}
 use Rattle.extension.specs.Add.{section_of, with_record, field_fault, new_number, added_twin, own_fault, add_fault, new_image, overwrite, buffer_after}
 use Rattle.extension.proofs.Adds.{section_of_lem}
-use Rattle.format.specs.Answers.{Outcome, refused, gives}
+use Rattle.std.specs.Prelude.{Ok, Err}
+use Rattle.format.specs.Answers.{Outcome}
 use Rattle.conversion.specs.Cases.{old}
 use Rattle.claims.specs.Converting.{old_image, sample_group}
 use Rattle.decision.specs.declared.Query.{Query}
-use Rattle.decision.specs.declared.Nearest.TheVariants.{Near}
 use Rattle.decision.specs.Sets.{any_of, all_of, is_in, set_of, touches}
 use Rattle.decision.specs.Conditions.{switch_on, is_on}
 use Rattle.decision.specs.Reading.{live, rule_of, rules_of}
-use Rattle.decision.specs.Decide.{Decision, not_permitted, permitted, unknown, answer, query_of}
+use Rattle.decision.specs.declared.Decision.{Decision}
+use Rattle.decision.specs.declared.Decision.TheVariants.{NotPermitted, Permitted, UnKnown}
+use Rattle.decision.specs.Decide.{answer, query_of, near}
 use Rattle.decision.specs.Cases.{g0, allow, companion, with_space, extended, ask, ask_on, cases, given, expected_of, MarkedCases}
 use Rattle.decision.specs.Clauses.{allow_group}
 use Rattle.decision.specs.Steps.{off}
@@ -77,15 +79,15 @@ own_group : Memᴰ sample_group (policy_of sample).groups
 unfolding word_at count_place count_of first_record record_at place_after records_at start_of policy_of sample
 own_group = Memᴰ.head refl
 
-pub space_front : Accepted sample → check_front (with_space sample sample_group) ≡ none
+pub space_front : Accepted sample → check_front (with_space sample sample_group) ≡ None
 unfolding with_space
 space_front e = front_of sample (replicate 6 0) e
 
 pub space_group : Accepted sample → Memᴰ sample_group (policy_of (image_in (with_space sample sample_group))).groups
 space_group e = subst (λ (l : List ℕ). Memᴰ sample_group (policy_of l).groups) (sym (space_image sample_group e)) own_group
 
-pub sample_front : Accepted sample → check_front sample ≡ none
-sample_front e = subst (λ (l : List ℕ). check_front l ≡ none) (append-nil sample) (front_of sample [] e)
+pub sample_front : Accepted sample → check_front sample ≡ None
+sample_front e = subst (λ (l : List ℕ). check_front l ≡ None) (append-nil sample) (front_of sample [] e)
 
 pub sample_group_lem : Accepted sample → Memᴰ sample_group (policy_of (image_in sample)).groups
 sample_group_lem e =
@@ -172,11 +174,11 @@ twelve_bytes q = refl
 
 -- the rows of runs: what each is answered, and their numbers
 pub record RowAnswers : Type 0 where
-  pub member_is : answer sample member ≡ gives (permitted 0)
-  pub group_is : answer sample group ≡ gives (permitted 0)
-  pub transition_is : answer sample transition ≡ gives (permitted 2)
-  pub off_is : answer sample off_rule ≡ gives (not_permitted (Near 1 0))
-  pub no_source_is : answer sample no_source ≡ refused (refusal 8 0)
+  pub member_is : answer sample member ≡ Ok (Permitted 0)
+  pub group_is : answer sample group ≡ Ok (Permitted 0)
+  pub transition_is : answer sample transition ≡ Ok (Permitted 2)
+  pub off_is : answer sample off_rule ≡ Ok (NotPermitted (Some (near 1 0)))
+  pub no_source_is : answer sample no_source ≡ Err (refusal 8 0)
 
 pub row_answers : Answers → RowAnswers
 unfolding member group transition off_rule no_source
@@ -201,12 +203,12 @@ run_numbers = record { fit = refl; unfit = refl; second = refl; cases = refl; nu
 
 -- three images that are refused behind their header
 pub record Refused : Type 0 where
-  pub cut_header : header_fault eqb cut_sample ≡ none
-  pub cut_refused : body_fault cut_sample ≡ some (refusal 5 69)
-  pub bad_header : header_fault eqb bad_sample ≡ none
-  pub bad_refused : body_fault bad_sample ≡ some (refusal 6 25)
-  pub long_header : header_fault eqb long_sample ≡ none
-  pub long_refused : body_fault long_sample ≡ some (refusal 7 80)
+  pub cut_header : header_fault eqb cut_sample ≡ None
+  pub cut_refused : body_fault cut_sample ≡ Some (refusal 5 69)
+  pub bad_header : header_fault eqb bad_sample ≡ None
+  pub bad_refused : body_fault bad_sample ≡ Some (refusal 6 25)
+  pub long_header : header_fault eqb long_sample ≡ None
+  pub long_refused : body_fault long_sample ≡ Some (refusal 7 80)
 
 pub refused_samples : Refused
 unfolding word_at words need ◌or_else◌ known_version limit_of count_place count_of kind_in length_ok is_type is_condition list_ok
@@ -218,34 +220,34 @@ refused_samples =
 -- request 5's tables: how many rows, and some by themselves
 pub record SharedAnswers : Type 0 where
   pub many : length shared_cases ≡ 20
-  pub story_is : answer story shared ≡ gives (unknown 1 1)
-  pub both_reached : answer (extended (extended sample (allow 20 21 5 4)) separation) (query 20 21 5 4) ≡ gives (unknown 4 2)
-  pub off_shared : answer (extended sample (off (allow 10 30 5 3))) shared ≡ gives (permitted 1)
-  pub inside : answer elsewhere (query 40 30 5 2) ≡ gives (unknown 5 2)
-  pub outside : answer elsewhere shared ≡ gives (permitted 1)
+  pub story_is : answer story shared ≡ Ok (UnKnown 1 1)
+  pub both_reached : answer (extended (extended sample (allow 20 21 5 4)) separation) (query 20 21 5 4) ≡ Ok (UnKnown 4 2)
+  pub off_shared : answer (extended sample (off (allow 10 30 5 3))) shared ≡ Ok (Permitted 1)
+  pub inside : answer elsewhere (query 40 30 5 2) ≡ Ok (UnKnown 5 2)
+  pub outside : answer elsewhere shared ≡ Ok (Permitted 1)
 
 pub shared_answers : SharedCases → SharedAnswers
 unfolding shared_cases given expected_of ask ask_on
 shared_answers e = record { many = refl; story_is = row 0; both_reached = row 5; off_shared = row 6; inside = row 10; outside = row 11 }
   where
-    row : (n : ℕ) → get_or (map given shared_cases) n (gives (permitted 0)) ≡ get_or (map expected_of shared_cases) n (gives (permitted 0))
-    row n = ap (λ (xs : List (Outcome Decision)). get_or xs n (gives (permitted 0))) e
+    row : (n : ℕ) → get_or (map given shared_cases) n (Ok (Permitted 0)) ≡ get_or (map expected_of shared_cases) n (Ok (Permitted 0))
+    row n = ap (λ (xs : List (Outcome Decision)). get_or xs n (Ok (Permitted 0))) e
 
 pub record WasAnswers : Type 0 where
   pub many : length was_cases ≡ 5
-  pub story_was : answer_was story shared ≡ gives (permitted 1)
-  pub same_source : answer_was (extended sample (allow 20 20 5 3)) shared ≡ gives (unknown 1 1)
+  pub story_was : answer_was story shared ≡ Ok (Permitted 1)
+  pub same_source : answer_was (extended sample (allow 20 20 5 3)) shared ≡ Ok (UnKnown 1 1)
 
 pub was_answers : SharedWas → WasAnswers
 unfolding was_cases given_was expected_of ask ask_on
 was_answers e = record { many = refl; story_was = row 0; same_source = row 2 }
   where
-    row : (n : ℕ) → get_or (map given_was was_cases) n (gives (permitted 0)) ≡ get_or (map expected_of was_cases) n (gives (permitted 0))
-    row n = ap (λ (xs : List (Outcome Decision)). get_or xs n (gives (permitted 0))) e
+    row : (n : ℕ) → get_or (map given_was was_cases) n (Ok (Permitted 0)) ≡ get_or (map expected_of was_cases) n (Ok (Permitted 0))
+    row n = ap (λ (xs : List (Outcome Decision)). get_or xs n (Ok (Permitted 0))) e
 
-pub separated_is : MarkedCases → answer separated shared ≡ gives (unknown 1 1)
+pub separated_is : MarkedCases → answer separated shared ≡ Ok (UnKnown 1 1)
 unfolding cases given expected_of ask ask_on
-separated_is e = ap (λ (xs : List (Outcome Decision)). get_or xs 5 (gives (permitted 0))) e
+separated_is e = ap (λ (xs : List (Outcome Decision)). get_or xs 5 (Ok (Permitted 0))) e
 
 -- the rules of the sample, with one more, and of the story
 pub record SharedRules : Type 0 where
@@ -324,8 +326,8 @@ switch_rows e =
       condition_255 = row 24;
     }
   where
-    row : (n : ℕ) → get_or (map given switch_cases) n (gives (permitted 0)) ≡ get_or (map expected_of switch_cases) n (gives (permitted 0))
-    row n = ap (λ (xs : List (Outcome Decision)). get_or xs n (gives (permitted 0))) e
+    row : (n : ℕ) → get_or (map given switch_cases) n (Ok (Permitted 0)) ≡ get_or (map expected_of switch_cases) n (Ok (Permitted 0))
+    row n = ap (λ (xs : List (Outcome Decision)). get_or xs n (Ok (Permitted 0))) e
 
 pub word_is : (s d c a v w : ℕ) → with_word w (query_of s d c a v) ≡ query_of s d c a w
 unfolding with_word

@@ -3,7 +3,7 @@ use Prim.Native.Nat.{ℕ, ◌<◌}
 use native.Mathlib.Omega.{arith}
 use mathlib.Core.Path.{◌≡◌, refl, sym, subst, ap, ◌∙◌}
 use mathlib.Core.Logic.{inl, inr, ⊎_elim}
-use mathlib.Core.Option.{none}
+use Rattle.std.specs.Prelude.{None}
 use mathlib.Core.List.{List, [], ◌∷◌}
 use lib.ListN.{length, get_or, take, drop, replicate, length-replicate}
 use Rattle.format.specs.Refusals.{refusal}
@@ -36,7 +36,7 @@ module _ (p : Promises) where
   sample_same = let a = p.reading.sample_accepted in p.converting.converted_bytes sample a.sample_bytes_lem a.sample_passes
 
   -- the sample in a buffer of 83 bytes
-  sample_fits : convert_fault sample (length (replicate {A = ℕ} 83 7)) ≡ none
+  sample_fits : convert_fault sample (length (replicate {A = ℕ} 83 7)) ≡ None
   sample_fits =
       p.converting.convert_numbers.fits sample (length (replicate {A = ℕ} 83 7)) (laid sample p.reading.sample_accepted.sample_passes)
       (omega (arith, ap length sample_same, sample_length, length-replicate {A = ℕ} 83 7))

@@ -14,7 +14,8 @@ use Rattle.format.specs.declared.Section.TheVariants.{Rules}
 use Rattle.format.specs.Format.{count_of}
 use Rattle.format.specs.Policy.{image_of, policy_of}
 use Rattle.format.specs.Check.{Accepted, image_in}
-use Rattle.format.specs.Answers.{Outcome, gives}
+use Rattle.std.specs.Prelude.{Ok}
+use Rattle.format.specs.Answers.{Outcome}
 use Rattle.format.specs.Sample.{sample, empty}
 use Rattle.format.proofs.ByCase.{records_of_rules}
 use Rattle.format.proofs.Fields.{is_type_lem}
@@ -22,7 +23,9 @@ use Rattle.format.proofs.Accepted.{records_count}
 use Rattle.decision.specs.declared.Query.{Query}
 use Rattle.decision.specs.Sets.{set_of, within}
 use Rattle.decision.specs.Conditions.{switch_on}
-use Rattle.decision.specs.Decide.{Decision, not_permitted, permitted, unknown, answer, query_of, Valid}
+use Rattle.decision.specs.declared.Decision.{Decision}
+use Rattle.decision.specs.declared.Decision.TheVariants.{NotPermitted, Permitted, UnKnown}
+use Rattle.decision.specs.Decide.{answer, query_of, Valid}
 use Rattle.decision.specs.Order.{height, Holds, NoCompanion}
 use Rattle.decision.specs.Lowest.{Names}
 use Rattle.decision.specs.Tepla.{Dcs, compare_decisions, forget, eval_policy}
@@ -40,7 +43,7 @@ use Rattle.claims.specs.Terms.{query, AtLeast, three_queries, two_and_part, Orde
 use Rattle.claims.proofs.Cases.{space_image, companion_bytes, companion_space, companion_no_rule, rule_bytes, rule_space, query_rows, twelve_bytes}
 use Rattle.claims.proofs.ReadingTerms.{companion_after}
 
-pub gives_one : {A : Type 0} {a b : A} → gives a ≡ gives b → a ≡ b
+pub gives_one : {A : Type 0} {a b : A} → Ok a ≡ Ok b → a ≡ b
 gives_one e = cc
 
 rules_few : count_of (extended sample companion) Rules ≡ 4 → length (policy_of (extended sample companion)).rules + length (policy_of (extended sample companion)).rules ≤ 1024
@@ -64,11 +67,11 @@ module _ (p : Promises) where
 
   -- ---- deciding
 
-  valid : (l : List ℕ) (q : Query) (d : Decision) → answer l q ≡ gives d → Accepted l × Valid l q
+  valid : (l : List ℕ) (q : Query) (d : Decision) → answer l q ≡ Ok d → Accepted l × Valid l q
   valid = p.deciding.decided_only
 
   -- the published evaluation, of a query whose answer is known
-  published : (l : List ℕ) (q : Query) (d : Decision) → answer l q ≡ gives d → eval_policy (policy_of l) q ≡ forget d
+  published : (l : List ℕ) (q : Query) (d : Decision) → answer l q ≡ Ok d → eval_policy (policy_of l) q ≡ forget d
   published l q d e =
       let v = valid l q d e in
       let x = p.deciding.published_answer l q v.0 v.1 in
@@ -77,7 +80,7 @@ module _ (p : Promises) where
   unknown_above : compare_decisions Dcs.UnKnown Dcs.Permitted ≡ false
   unknown_above =
       ap₂ compare_decisions (sym (forget_unknown 0 0)) (sym (forget_permitted 0))
-      ∙ sym (p.deciding.published_order (unknown 0 0) (permitted 0))
+      ∙ sym (p.deciding.published_order (UnKnown 0 0) (Permitted 0))
       ∙ ap₂ leb (height_unknown 0 0) (height_permitted 0)
 
   -- rows and their slots
@@ -93,7 +96,7 @@ module _ (p : Promises) where
       ∙ ap (λ x. decision_code (answer sample x)) row
       ∙ ap decision_code given
 
-  two_answered : answered sample two_and_part (7 ∷ 8 ∷ 9 ∷ []) ≡ decision_code (gives (permitted 0)) ∷ decision_code (gives (permitted 2)) ∷ 9 ∷ []
+  two_answered : answered sample two_and_part (7 ∷ 8 ∷ 9 ∷ []) ≡ decision_code (Ok (Permitted 0)) ∷ decision_code (Ok (Permitted 2)) ∷ 9 ∷ []
   two_answered =
       let stay = p.deciding.slots_stay sample two_and_part (7 ∷ 8 ∷ 9 ∷ []) in
       by_slots _ _ _ _ stay.0 (slot 0 _ _ (omega arith) query_rows.first answers.member)
@@ -113,17 +116,17 @@ module _ (p : Promises) where
   deciding_met =
       record {
         empty_decided = p.deciding.decided empty (query 0 0 0 0) p.reading.sample_accepted.empty_passes (is_type_lem _ 0 (inl (omega arith)), is_type_lem _ 0 (inl (omega arith)));
-        group_decided = (let v = valid sample (query 10 g0 5 1) (permitted 0) answers.group in p.deciding.decided sample (query 10 g0 5 1) v.0 v.1);
+        group_decided = (let v = valid sample (query 10 g0 5 1) (Permitted 0) answers.group in p.deciding.decided sample (query 10 g0 5 1) v.0 v.1);
         types_some = λ l e t h. omega (arith, p.deciding.types_filled l e t h);
         fields_some = λ l e s r m t h. omega (arith, p.deciding.fields_filled l e s r m t h);
         judge_covers = λ rs cs a x e. (subst (Names rs cs a) e (p.deciding.lowest_named rs cs a)).0;
-        none_covers = λ rs cs a x e h. sym (p.deciding.named_alone rs cs a (not_permitted x) (e, h));
+        none_covers = λ rs cs a x e h. sym (p.deciding.named_alone rs cs a (NotPermitted x) (e, h));
         judge_nearest = λ rs cs a s n e. (subst (Names rs cs a) e (p.deciding.lowest_named rs cs a)).1;
-        lowest_unknown = λ l q r c e. (p.deciding.lowest_answered l q (unknown r c) e).0.before;
+        lowest_unknown = λ l q r c e. (p.deciding.lowest_answered l q (UnKnown r c) e).0.before;
         no_constraints = λ x q e. p.deciding.published_meaning x q;
         unknown_above = unknown_above;
-        published_unknown = published _ _ (unknown 0 0) answers.rostered ∙ forget_unknown 0 0;
-        published_group = published _ _ (permitted 0) answers.group ∙ forget_permitted 0;
+        published_unknown = published _ _ (UnKnown 0 0) answers.rostered ∙ forget_unknown 0 0;
+        published_group = published _ _ (Permitted 0) answers.group ∙ forget_permitted 0;
         cases_all = cases_many;
         other_class = answers.transition;
         no_group_1 = answers.no_group_1;
@@ -143,12 +146,12 @@ module _ (p : Promises) where
   -- ---- the order
 
   -- no lower than what was Permitted
-  at_one : (d : Decision) → height (permitted 0) ≤ height d → 1 ≤ height d
+  at_one : (d : Decision) → height (Permitted 0) ≤ height d → 1 ≤ height d
   at_one d h = omega (arith, height_permitted 0)
 
   -- the order rule, its terms one by one
   order_no_companion : OrderedIf (λ l₁ q₁ l₂ q₂. NoCompanion (policy_of l₁).constraints)
-  order_no_companion l₁ l₂ q₁ q₂ d₁ d₂ e₁ e₂ rs cs count same class action source dest on none =
+  order_no_companion l₁ l₂ q₁ q₂ d₁ d₂ e₁ e₂ rs cs count same class action source dest on None =
       p.ordering.order_rule l₁ l₂ q₁ q₂ d₁ d₂ e₁ e₂
       (record {
         policy = record { rules = rs; constraints = cs; groups = record { count = count; same = same } };
@@ -157,7 +160,7 @@ module _ (p : Promises) where
         source = source;
         dest = dest;
         switches = on;
-        companions = inl none;
+        companions = inl None;
       })
 
   order_same_rules : OrderedIf (λ l₁ q₁ l₂ q₂. Holds (policy_of l₂).rules (policy_of l₁).rules × (q₁.switches ≡ q₂.switches))
@@ -177,19 +180,19 @@ module _ (p : Promises) where
   unknown_stays d e =
       let l : List ℕ = extended sample companion in
       let h =
-      order_same_rules l l (query 10 21 5 1) (query 10 21 5 1) (unknown 0 2) d answers.companied e (λ r m. m) (λ r m. m)
+      order_same_rules l l (query 10 21 5 1) (query 10 21 5 1) (UnKnown 0 2) d answers.companied e (λ r m. m) (λ r m. m)
       (omega arith) (λ g m. refl) refl refl (within_refl _) (within_refl _) (λ k m t. t) (λ r m. m, refl) in
       omega (arith, height_unknown 0 2)
 
   more_switches :
-      (l : List ℕ) (s d c a v w : ℕ) (d₁ d₂ : Decision) → answer l (query_of s d c a v) ≡ gives d₁ → answer l (query_of s d c a w) ≡ gives d₂
+      (l : List ℕ) (s d c a v w : ℕ) (d₁ d₂ : Decision) → answer l (query_of s d c a v) ≡ Ok d₁ → answer l (query_of s d c a w) ≡ Ok d₂
       → ((k : ℕ) → k < 32 → switch_on v k ≡ true → switch_on w k ≡ true) → NoCompanion (policy_of l).constraints → height d₁ ≤ height d₂
-  more_switches l s d c a v w d₁ d₂ e₁ e₂ on none =
+  more_switches l s d c a v w d₁ d₂ e₁ e₂ on None =
       order_no_companion l l (query_of s d c a v) (query_of s d c a w) d₁ d₂ e₁ e₂ (λ r m. m) (λ r m. m)
-      (omega arith) (λ g m. refl) refl refl (within_refl _) (within_refl _) on none
+      (omega arith) (λ g m. refl) refl refl (within_refl _) (within_refl _) on None
 
   more_constraints :
-      (l₁ l₂ : List ℕ) (q : Query) (d₁ d₂ : Decision) (more : List (List ℕ)) → answer l₁ q ≡ gives d₁ → answer l₂ q ≡ gives d₂
+      (l₁ l₂ : List ℕ) (q : Query) (d₁ d₂ : Decision) (more : List (List ℕ)) → answer l₁ q ≡ Ok d₁ → answer l₂ q ≡ Ok d₂
       → (policy_of l₁).groups ≡ (policy_of l₂).groups → (policy_of l₁).rules ≡ (policy_of l₂).rules
       → (policy_of l₂).constraints ≡ (policy_of l₁).constraints ++ more → height d₁ ≤ height d₂
   more_constraints l₁ l₂ q d₁ d₂ more e₁ e₂ g r c =
@@ -200,7 +203,7 @@ module _ (p : Promises) where
       refl refl (same q.source) (same q.dest) (λ k m t. t) (λ x m. subst (Memᴰ x) (sym r) m, refl)
 
   same_sets :
-      (l : List ℕ) (s s' d d' c a w : ℕ) (d₁ d₂ : Decision) → answer l (query_of s d c a w) ≡ gives d₁ → answer l (query_of s' d' c a w) ≡ gives d₂
+      (l : List ℕ) (s s' d d' c a w : ℕ) (d₁ d₂ : Decision) → answer l (query_of s d c a w) ≡ Ok d₁ → answer l (query_of s' d' c a w) ≡ Ok d₂
       → set_of (policy_of l).groups s ≡ set_of (policy_of l).groups s' → set_of (policy_of l).groups d ≡ set_of (policy_of l).groups d'
       → within (set_of (policy_of l).groups s) (set_of (policy_of l).groups s) ≡ true
       → within (set_of (policy_of l).groups d) (set_of (policy_of l).groups d) ≡ true
@@ -216,28 +219,28 @@ module _ (p : Promises) where
       omega arith
 
   -- a rule added, by the paper's property
-  not_lower : (t : ℕ) → answer sample (query 10 t 5 1) ≡ gives (permitted 0) → AtLeast 1 (extended sample (allow 14 g0 7 7)) (query 10 t 5 1)
+  not_lower : (t : ℕ) → answer sample (query 10 t 5 1) ≡ Ok (Permitted 0) → AtLeast 1 (extended sample (allow 14 g0 7 7)) (query 10 t 5 1)
   not_lower t was d e =
       at_one d
-      (p.ordering.non_decreasing sample (extended sample (allow 14 g0 7 7)) (query 10 t 5 1) (permitted 0) d
+      (p.ordering.non_decreasing sample (extended sample (allow 14 g0 7 7)) (query 10 t 5 1) (Permitted 0) d
       was e p.ordering.marked_order.extends.policy p.ordering.marked_order.no_companion)
 
-  companion_added : DecidedAbove (image_in (extended sample companion)) (query 10 21 5 1) (permitted 0)
+  companion_added : DecidedAbove (image_in (extended sample companion)) (query 10 21 5 1) (Permitted 0)
   unfolding extended
   companion_added =
       let a = p.reading.sample_accepted in
       p.ordering.added_order (with_space sample companion) companion companion_space companion_bytes p.deciding.marked_adds.companied
-      (inr companion_no_rule) (query 10 21 5 1) (permitted 0)
+      (inr companion_no_rule) (query 10 21 5 1) (Permitted 0)
       (ap (λ (l : List ℕ). answer l (query 10 21 5 1)) (space_image companion a.sample_passes) ∙ answers.member)
 
-  rule_added_order : DecidedAbove (image_in (extended sample (allow 14 g0 7 7))) (query 10 21 5 1) (permitted 0)
+  rule_added_order : DecidedAbove (image_in (extended sample (allow 14 g0 7 7))) (query 10 21 5 1) (Permitted 0)
   unfolding extended
   rule_added_order =
       let a = p.reading.sample_accepted in
       let r : List ℕ = allow 14 g0 7 7 in
       let front : image_in (with_space sample r) ≡ sample = space_image r a.sample_passes in
       p.ordering.added_order (with_space sample r) r rule_space rule_bytes p.deciding.marked_adds.rostered
-      (inl (rw front p.ordering.marked_order.no_companion)) (query 10 21 5 1) (permitted 0)
+      (inl (rw front p.ordering.marked_order.no_companion)) (query 10 21 5 1) (Permitted 0)
       (ap (λ (l : List ℕ). answer l (query 10 21 5 1)) front ∙ answers.member)
 
   -- a list twice holds what the list holds, and no more
@@ -248,20 +251,20 @@ module _ (p : Promises) where
   )
 
   same_rules :
-      (l₁ l₂ : List ℕ) (q : Query) (d₁ d₂ : Decision) → answer l₁ q ≡ gives d₁ → answer l₂ q ≡ gives d₂
+      (l₁ l₂ : List ℕ) (q : Query) (d₁ d₂ : Decision) → answer l₁ q ≡ Ok d₁ → answer l₂ q ≡ Ok d₂
       → (policy_of l₁).groups ≡ (policy_of l₂).groups → (policy_of l₁).constraints ≡ (policy_of l₂).constraints
       → Holds (policy_of l₁).rules (policy_of l₂).rules → Holds (policy_of l₂).rules (policy_of l₁).rules → height d₁ ≡ height d₂
   same_rules l₁ l₂ q d₁ d₂ e₁ e₂ g c there back =
       p.ordering.same_rules l₁ l₂ q d₁ d₂ e₁ e₂ g (λ x m. subst (Memᴰ x) c m) (λ x m. subst (Memᴰ x) (sym c) m) there back
 
   companion_reordered :
-      (d : Decision) → answer (image_of (reordered (policy_of (extended sample companion)))) (query 10 21 5 1) ≡ gives d → height d ≡ 2
+      (d : Decision) → answer (image_of (reordered (policy_of (extended sample companion)))) (query 10 21 5 1) ≡ Ok d → height d ≡ 2
   companion_reordered d e =
       let l : List ℕ = extended sample companion in
-      let v = p.deciding.decided_only l (query 10 21 5 1) (unknown 0 2) answers.companied in
+      let v = p.deciding.decided_only l (query 10 21 5 1) (UnKnown 0 2) answers.companied in
       let r =
       (p.ordering.rules_reordered l (companion_after p) v.0 (rules_few p.deciding.marked_adds.rules_stay)).1
-      (query 10 21 5 1) (unknown 0 2) answers.companied in
+      (query 10 21 5 1) (UnKnown 0 2) answers.companied in
       ap height (gives_one (sym e ∙ r.answered)) ∙ sym r.level ∙ height_unknown 0 2
 
   pub ordering_met : OrderingMet
@@ -269,8 +272,8 @@ module _ (p : Promises) where
       record {
         order_no_companion = order_no_companion;
         order_same_rules = order_same_rules;
-        order_met = λ d e. at_one d (p.ordering.order_rule sample _ (query 10 g0 5 1) _ (permitted 0) d answers.group e p.ordering.marked_order.extends);
-        new_group_met = λ d e. at_one d (p.ordering.order_rule sample _ (query 10 g0 5 1) _ (permitted 0) d answers.group e p.ordering.marked_order.new_group);
+        order_met = λ d e. at_one d (p.ordering.order_rule sample _ (query 10 g0 5 1) _ (Permitted 0) d answers.group e p.ordering.marked_order.extends);
+        new_group_met = λ d e. at_one d (p.ordering.order_rule sample _ (query 10 g0 5 1) _ (Permitted 0) d answers.group e p.ordering.marked_order.new_group);
         unknown_stays = unknown_stays;
         more_switches = more_switches;
         more_constraints = more_constraints;
@@ -278,13 +281,13 @@ module _ (p : Promises) where
         rule_added = not_lower 21 answers.member;
         group_not_lower = not_lower g0 answers.group;
         not_lower_itself = λ l q d₁ d₂ e₁ e₂ n. p.ordering.non_decreasing l l q d₁ d₂ e₁ e₂ (record { rules = λ r m. m; constraints = λ r m. m; groups = keeps_same _ }) n;
-        member_met = λ d e. at_one d (p.ordering.member_order sample (query 10 g0 5 1) (query 10 21 5 1) (permitted 0) d answers.group e refl refl refl
+        member_met = λ d e. at_one d (p.ordering.member_order sample (query 10 g0 5 1) (query 10 21 5 1) (Permitted 0) d answers.group e refl refl refl
             (omega arith) (omega arith) p.ordering.marked_order.itself p.ordering.marked_order.member);
         any_member = λ l s d m n c a w d₁ d₂ e₁ e₂ hm hn im jn.
             p.ordering.member_order l (query_of s d c a w) (query_of m n c a w) d₁ d₂ e₁ e₂ refl refl refl (omega arith) (omega arith) im jn;
         added_keeps = λ b r by bytes e. (p.ordering.added_grows b r by bytes e).groups;
         companion_added = companion_added;
-        companion_lowest = λ d e. at_one d (subst (λ (x : Decision). height (permitted 0) ≤ height x) (gives_one (sym companion_added.answered ∙ e)) companion_added.above);
+        companion_lowest = λ d e. at_one d (subst (λ (x : Decision). height (Permitted 0) ≤ height x) (gives_one (sym companion_added.answered ∙ e)) companion_added.above);
         rule_added_order = rule_added_order;
         rules_twice = λ l₁ l₂ q d₁ d₂ e₁ e₂ g c r. (let t = twice _ _ r in same_rules l₁ l₂ q d₁ d₂ e₁ e₂ g c t.0 t.1);
         rules_once = λ l₁ l₂ q d₁ d₂ e₁ e₂ g c r. (let t = twice _ _ r in same_rules l₁ l₂ q d₁ d₂ e₁ e₂ g c t.1 t.0);

@@ -13,10 +13,10 @@ use Rattle.format.specs.Policy.{policy_of}
 use Rattle.format.specs.Sample.{sample, empty}
 use Rattle.format.proofs.Fields.{is_type_lem}
 use Rattle.decision.specs.declared.Query.{Query}
-use Rattle.decision.specs.declared.Nearest.TheVariants.{NoRules}
 use Rattle.decision.specs.Conditions.{is_on}
 use Rattle.decision.specs.Reading.{Rule, Request}
-use Rattle.decision.specs.Decide.{covers, steps, not_permitted, query_of}
+use Rattle.decision.specs.declared.Decision.TheVariants.{NotPermitted}
+use Rattle.decision.specs.Decide.{covers, steps, query_of}
 use Rattle.decision.specs.Cases.{companion, extended}
 use Rattle.decision.specs.Steps.{steps_at, source_in, dest_in}
 use Rattle.decision.specs.Before.{barely}
@@ -27,6 +27,7 @@ use Rattle.decision.proofs.Before.{before_permits}
 use Rattle.claims.specs.Promises.{Promises}
 use Rattle.claims.specs.Terms.{query, NearingMet}
 use Rattle.claims.proofs.Cases.{switch_rules}
+use Rattle.std.specs.Prelude.{None}
 
 module _ (p : Promises) where
   answers : Answers
@@ -106,7 +107,7 @@ module _ (p : Promises) where
         lower_fewer = λ l q s m k e h. (n.nearest_of_all l q s m e k (omega (arith, h, (n.nearest_passes l q s m e).0))).1 h;
         empty_no_rules = λ q s d. (n.no_rules_exactly empty q p.reading.sample_accepted.empty_passes (is_type_lem _ _ (inl s), is_type_lem _ _ (inl d))).1 sample_rules.none;
         sample_has_rules = λ q e.
-            (let v = p.deciding.decided_only sample q (not_permitted NoRules) e in
+            (let v = p.deciding.decided_only sample q (NotPermitted None) e in
             let z = ap length ((n.no_rules_exactly sample q v.0 v.1).0 e) in
             absurd (omega (arith, z, sample_rules.many)));
         rule_before = λ l q r e. before_permits l q r (sym (n.decisions_stay l q) ∙ ap barely e);

@@ -4,7 +4,7 @@ use native.Mathlib.Omega.{arith}
 use mathlib.Core.Path.{◌≡◌, subst, ap, ◌∙◌}
 use mathlib.Core.Logic.{⊎_elim}
 use mathlib.Core.Bool.{Bool}
-use mathlib.Core.Option.{none, some}
+use Rattle.std.specs.Prelude.{None, Some}
 use mathlib.Core.List.{List}
 use lib.ListN.{get_or}
 use lib.Dec.{eqb}
@@ -30,7 +30,7 @@ same_place : (n m a b : ℕ) → refusal n a ≡ refusal m b → a ≡ b
 same_place n m a b e = ap (λ (f : Refusal). f.place) e
 
 module _ (p : Promises) where
-  module _ (fits : ℕ → ℕ → Bool) (l : List ℕ) (h : header_fault fits l ≡ none) where
+  module _ (fits : ℕ → ℕ → Bool) (l : List ℕ) (h : header_fault fits l ≡ None) where
     -- the furthest places, in numbers
     group_places :
         (k : ℕ) → k ≤ count_of l Groups → Pass l Groups k → (place_of l Groups k ≤ 9 + 130 * k) × (place_of l Groups k ≤ 55561)
@@ -56,7 +56,7 @@ module _ (p : Promises) where
     -- where a refusal of the records stands, by its number
     module _ (at : ℕ) where
       malformed :
-          body_fault l ≡ some (refusal 5 at) → (s : Section) × (k : ℕ) × Reaches l s k × (k < count_of l s) × (at ≡ place_of l s k)
+          body_fault l ≡ Some (refusal 5 at) → (s : Section) × (k : ℕ) × Reaches l s k × (k < count_of l s) × (at ≡ place_of l s k)
       malformed e =
           let q = p.reaching.stops_reached fits l h (refusal 5 at) e in
           ⊎_elim (λ z. (q.section, q.past, q.reached, z.0, same_place 5 5 at _ z.1))
@@ -64,7 +64,7 @@ module _ (p : Promises) where
           q.place
 
       bad_field_lem :
-          body_fault l ≡ some (refusal 6 at)
+          body_fault l ≡ Some (refusal 6 at)
           → (s : Section) × (k : ℕ) × (i : ℕ) × Reaches l s k
           × (k < count_of l s) × (i < get_or l (place_of l s k) 0) × (at ≡ place_of l s k + i)
       bad_field_lem e =
@@ -75,7 +75,7 @@ module _ (p : Promises) where
           q.place
 
       bytes_behind :
-          body_fault l ≡ some (refusal 7 at)
+          body_fault l ≡ Some (refusal 7 at)
           → Reaches l Constraints (count_of l Constraints) × (at ≡ place_of l Constraints (count_of l Constraints))
       bytes_behind e =
           let q = p.reaching.stops_reached fits l h (refusal 7 at) e in

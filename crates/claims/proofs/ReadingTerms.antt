@@ -2,7 +2,7 @@
 use Prim.Native.Nat.{ℕ, ◌+◌, ◌≤◌}
 use native.Mathlib.Omega.{arith}
 use mathlib.Core.Path.{◌≡◌, sym, subst, ap, ap₂, ◌∙◌}
-use mathlib.Core.Option.{some}
+use Rattle.std.specs.Prelude.{Some}
 use mathlib.Core.List.{List, [], ◌∷◌, ◌++◌}
 use lib.ListN.{length, get_or, take, replicate, length-append, length-replicate}
 use Rattle.format.specs.declared.Section.{Section}
@@ -49,7 +49,7 @@ module _ (p : Promises) where
       ∙ subst (λ (x : Policy). given_from (image_of longest) s 0 (length (records_of x s)) ≡ records_of x s) r.policy
       (p.reading.all_given (image_of longest) r.accepted s)
 
-  longest_past : (s : Section) → give_fault (image_of longest) s (limit_of s) ≡ some (refusal 14 0)
+  longest_past : (s : Section) → give_fault (image_of longest) s (limit_of s) ≡ Some (refusal 14 0)
   longest_past s =
       let r = p.reading.longest_reached in
       p.reading.none_given (image_of longest) r.accepted s (limit_of s)

@@ -2,19 +2,18 @@
 use Prim.Native.Nat.{ℕ, zero, suc, ◌+◌, ◌≤◌}
 use native.Mathlib.Omega.{arith}
 use mathlib.Core.Path.{◌≡◌, refl, sym, ap, ◌∙◌}
-use mathlib.Core.Option.{none, some}
+use Rattle.std.specs.Prelude.{None, Some}
 use mathlib.Core.List.{List, [], ◌∷◌}
 use lib.ListN.{length, take}
 use Rattle.format.specs.declared.Refusal.{Refusal}
 use Rattle.format.specs.Refusals.{refusal}
 use Rattle.format.specs.Check.{Accepted}
-use Rattle.format.specs.Answers.{Outcome, refused, gives}
+use Rattle.std.specs.Prelude.{Ok, Err}
+use Rattle.format.specs.Answers.{Outcome}
 use Rattle.format.specs.Sample.{sample}
 use Rattle.decision.specs.declared.Query.{Query}
-use Rattle.decision.specs.declared.Nearest.{Nearest}
-use Rattle.decision.specs.declared.Answer.{Answer}
-use Rattle.decision.specs.declared.Answer.TheVariants.{Permitted}
-use Rattle.decision.specs.Decide.{Decision, not_permitted, permitted, unknown}
+use Rattle.decision.specs.declared.Decision.{Decision}
+use Rattle.decision.specs.declared.Decision.TheVariants.{NotPermitted, Permitted, UnKnown}
 use Rattle.decision.proofs.Cases.{marked_answers}
 use Rattle.runs.specs.Runs.{queries_fault, run_of, answer_of}
 use Rattle.runs.specs.Claims.{Permits, AllPermits}
@@ -22,18 +21,19 @@ use Rattle.runs.specs.Cases.{member, group, transition, off_rule, no_source}
 use Rattle.claims.specs.Promises.{Promises}
 use Rattle.claims.specs.Terms.{RunningMet}
 use Rattle.claims.proofs.Cases.{RowAnswers, row_answers, run_numbers}
+use Rattle.decision.specs.Decide.{Nearest}
 
-not_permitted_lem : {r : ℕ} {x : Nearest} → ◌≡◌ {A = Outcome Decision} (gives (not_permitted x)) (gives (permitted r)) → ⊥
+not_permitted_lem : {r : ℕ} {x : Nearest} → ◌≡◌ {A = Outcome Decision} (Ok (NotPermitted x)) (Ok (Permitted r)) → ⊥
 not_permitted_lem e = (let z : ◌≡◌ {A = ℕ} 0 1 = cc in omega arith)
 
-not_unknown : {r n k : ℕ} → ◌≡◌ {A = Outcome Decision} (gives (unknown n k)) (gives (permitted r)) → ⊥
+not_unknown : {r n k : ℕ} → ◌≡◌ {A = Outcome Decision} (Ok (UnKnown n k)) (Ok (Permitted r)) → ⊥
 not_unknown e = (let z : ◌≡◌ {A = ℕ} 0 1 = cc in omega arith)
 
-not_refused : {r : ℕ} {f : Refusal} → ◌≡◌ {A = Outcome Decision} (refused f) (gives (permitted r)) → ⊥
+not_refused : {r : ℕ} {f : Refusal} → ◌≡◌ {A = Outcome Decision} (Err f) (Ok (Permitted r)) → ⊥
 not_refused e = (let z : ◌≡◌ {A = ℕ} 0 1 = cc in omega arith)
 
 -- what a slot may hold before
-blank : Answer
+blank : Outcome Decision
 blank = Permitted 0
 
 module _ (p : Promises) where
@@ -50,7 +50,7 @@ module _ (p : Promises) where
   no_source_lem h = not_refused (sym rows.no_source_is ∙ h.1)
 
   -- n rows and n slots
-  fits : (n : ℕ) → 1 ≤ n → n ≤ 64 → queries_fault sample n n ≡ none
+  fits : (n : ℕ) → 1 ≤ n → n ≤ 64 → queries_fault sample n n ≡ None
   fits n h k = ((p.running.run_faults sample).1 passes).3 n h k
 
   three : AllPermits sample (member ∷ group ∷ transition ∷ []) member 3
@@ -63,7 +63,7 @@ module _ (p : Promises) where
   before_second q zero h = (0, rows.member_is)
   before_second q (suc i) h = absurd (omega arith)
 
-  pub two_fit : run_of sample (member ∷ transition ∷ []) 2 ≡ gives none
+  pub two_fit : run_of sample (member ∷ transition ∷ []) 2 ≡ Ok None
   two_fit = (p.running.fit_exactly sample (member ∷ transition ∷ []) 2 member).1 (fits 2 (omega arith) (omega arith)) both
     where
       both : AllPermits sample (member ∷ transition ∷ []) member 2
@@ -71,7 +71,7 @@ module _ (p : Promises) where
       both (suc zero) h = (2, rows.transition_is)
       both (suc (suc i)) h = absurd (omega arith)
 
-  pub two_unfit : run_of sample (member ∷ off_rule ∷ []) 2 ≡ gives (some 1)
+  pub two_unfit : run_of sample (member ∷ off_rule ∷ []) 2 ≡ Ok (Some 1)
   two_unfit = (p.running.last_counts sample (member ∷ []) off_rule (blank ∷ blank ∷ []) blank).0 (fits 2 (omega arith) (omega arith)) one off
     where
       one : AllPermits sample (member ∷ []) off_rule 1
@@ -79,11 +79,11 @@ module _ (p : Promises) where
       one (suc i) h = absurd (omega arith)
 
   -- n rows and n slots on any accepted image
-  counts : (l : List ℕ) → Accepted l → (n : ℕ) → 1 ≤ n → n ≤ 64 → queries_fault l n n ≡ none
+  counts : (l : List ℕ) → Accepted l → (n : ℕ) → 1 ≤ n → n ≤ 64 → queries_fault l n n ≡ None
   counts l a n h k = ((p.running.run_faults l).1 a).3 n h k
 
   -- one row more than qs, and as many slots
-  counts_last : (l : List ℕ) → Accepted l → (qs : List Query) (ys : List Answer) → length qs ≤ 63 → length ys ≡ suc (length qs) → queries_fault l (length qs + 1) (length ys) ≡ none
+  counts_last : (l : List ℕ) → Accepted l → (qs : List Query) (ys : List (Outcome Decision)) → length qs ≤ 63 → length ys ≡ suc (length qs) → queries_fault l (length qs + 1) (length ys) ≡ None
   counts_last l a qs ys k e =
       let z : length ys ≡ length qs + 1 = omega (arith, e) in
       ap (queries_fault l (length qs + 1)) z ∙ counts l a (length qs + 1) (omega arith) (omega arith)

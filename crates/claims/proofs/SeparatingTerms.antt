@@ -11,14 +11,16 @@ use borrow.Author.Tests.{eqb-true}
 use Rattle.format.specs.declared.Refusal.{Refusal}
 use Rattle.format.specs.Bytes.{word_at}
 use Rattle.format.specs.Policy.{Policy, policy_of}
-use Rattle.format.specs.Answers.{Outcome, refused, gives}
+use Rattle.std.specs.Prelude.{Ok, Err}
+use Rattle.format.specs.Answers.{Outcome}
 use Rattle.format.specs.Sample.{sample}
 use Rattle.format.proofs.Tests.{false_not_true}
 use Rattle.decision.specs.declared.Query.{Query}
-use Rattle.decision.specs.declared.Nearest.{Nearest}
 use Rattle.decision.specs.Sets.{any_of, all_of, is_in, within, touches}
 use Rattle.decision.specs.Reading.{Rule, Constraint, live, constraint_of, rules_of}
-use Rattle.decision.specs.Decide.{separation_broken, broken, Decision, not_permitted, permitted, unknown, answer}
+use Rattle.decision.specs.declared.Decision.{Decision}
+use Rattle.decision.specs.declared.Decision.TheVariants.{NotPermitted, Permitted, UnKnown}
+use Rattle.decision.specs.Decide.{separation_broken, broken, answer, Nearest}
 use Rattle.decision.specs.Order.{height}
 use Rattle.decision.specs.Separation.{From, FromRecord, Wider, answer_was, OneType, Raised, story}
 use Rattle.decision.proofs.Search.{by_test, any_of_none, all_of_elim}
@@ -41,21 +43,21 @@ one_type rs e a m l = single a.source (eqb-true (length a.source) 1 (all_of_elim
 no_live : (rs : List Rule) (a : Rule) → any_of live rs ≡ false → Memᴰ a rs → live a ≡ true → ⊥
 no_live rs a e m l = false_not_true (sym (any_of_none live e m) ∙ l)
 
-given_refused : (d : Decision) (f : Refusal) → gives d ≡ refused f → ⊥
+given_refused : (d : Decision) (f : Refusal) → Ok d ≡ Err f → ⊥
 given_refused d f e = let z : ◌≡◌ {A = ℕ} 0 1 = cc in omega arith
 
-permitted_one : {r n : ℕ} → gives (permitted r) ≡ gives (permitted n) → r ≡ n
+permitted_one : {r n : ℕ} → Ok (Permitted r) ≡ Ok (Permitted n) → r ≡ n
 permitted_one e = cc
 
-unknown_one : {r c n k : ℕ} → gives (unknown r c) ≡ gives (unknown n k) → (r ≡ n) × (c ≡ k)
+unknown_one : {r c n k : ℕ} → Ok (UnKnown r c) ≡ Ok (UnKnown n k) → (r ≡ n) × (c ≡ k)
 unknown_one e = (cc, cc)
 
 -- decisions of other heights are not the same
-unlike : (r c : ℕ) (x : Nearest) → gives (unknown r c) ≡ gives (not_permitted x) → ⊥
-unlike r c x e = let h : height (unknown r c) ≡ height (not_permitted x) = ap height (gives_one e) in omega (arith, h, height_unknown r c, height_denied x)
+unlike : (r c : ℕ) (x : Nearest) → Ok (UnKnown r c) ≡ Ok (NotPermitted x) → ⊥
+unlike r c x e = let h : height (UnKnown r c) ≡ height (NotPermitted x) = ap height (gives_one e) in omega (arith, h, height_unknown r c, height_denied x)
 
-higher : (r c n : ℕ) → gives (unknown r c) ≡ gives (permitted n) → ⊥
-higher r c n e = let h : height (unknown r c) ≡ height (permitted n) = ap height (gives_one e) in omega (arith, h, height_unknown r c, height_permitted n)
+higher : (r c n : ℕ) → Ok (UnKnown r c) ≡ Ok (Permitted n) → ⊥
+higher r c n e = let h : height (UnKnown r c) ≡ height (Permitted n) = ap height (gives_one e) in omega (arith, h, height_unknown r c, height_permitted n)
 
 module _ (p : Promises) where
   is : SharedAnswers
@@ -128,12 +130,12 @@ module _ (p : Promises) where
 
   story_changed : answer story shared ≡ answer_was story shared → ⊥
   story_changed e =
-      let d : unknown 1 1 ≡ permitted 1 = gives_one (sym is.story_is ∙ e ∙ was.story_was) in
-      let h : height (unknown 1 1) ≡ height (permitted 1) = ap height d in
+      let d : UnKnown 1 1 ≡ Permitted 1 = gives_one (sym is.story_is ∙ e ∙ was.story_was) in
+      let h : height (UnKnown 1 1) ≡ height (Permitted 1) = ap height d in
       omega (arith, h, height_unknown 1 1, height_permitted 1)
 
   -- a decision of now, beside one of before
-  above : (l : List ℕ) (q : Query) (d e : Decision) → answer_was l q ≡ gives d → answer l q ≡ gives e → height d ≤ height e
+  above : (l : List ℕ) (q : Query) (d e : Decision) → answer_was l q ≡ Ok d → answer l q ≡ Ok e → height d ≤ height e
   above l q d e w n =
       let a = p.separating.answers_rise l q d w in
       subst (λ (x : Decision). height d ≤ height x) (gives_one (sym a.answered ∙ n)) a.above
@@ -146,36 +148,36 @@ module _ (p : Promises) where
   was_is l q o never e = ⊎_elim (λ h. h ∙ e) (λ r. absurd (never r e)) (p.separating.answers_change l q)
 
   -- what a raised answer was
-  raised_was : (l : List ℕ) (q : Query) (r : Raised l q) → (d : Decision) × (answer_was l q ≡ gives d) × (1 ≤ height d)
+  raised_was : (l : List ℕ) (q : Query) (r : Raised l q) → (d : Decision) × (answer_was l q ≡ Ok d) × (1 ≤ height d)
   raised_was l q r =
       ⊎_elim
-      (λ e. (permitted r.rule, e, omega (arith, height_permitted r.rule)))
-      (λ k. (unknown r.rule k.0, k.2, omega (arith, height_unknown r.rule k.0)))
+      (λ e. (Permitted r.rule, e, omega (arith, height_permitted r.rule)))
+      (λ k. (UnKnown r.rule k.0, k.2, omega (arith, height_unknown r.rule k.0)))
       r.was
 
   changed_separates :
       (l : List ℕ) (q : Query) → (answer l q ≡ answer_was l q → ⊥)
-      → (r c : ℕ) × (answer l q ≡ gives (unknown r c)) × (get_or (get_or (policy_of l).constraints c []) 10 0 ≡ 1)
+      → (r c : ℕ) × (answer l q ≡ Ok (UnKnown r c)) × (get_or (get_or (policy_of l).constraints c []) 10 0 ≡ 1)
   changed_separates l q n = ⊎_elim (λ h. absurd (n h)) (λ r. (r.rule, r.constraint, r.is, r.separates)) (p.separating.answers_change l q)
 
-  permitted_kept : (l : List ℕ) (q : Query) (n : ℕ) → answer_was l q ≡ gives (permitted n) → SameRule l q n
+  permitted_kept : (l : List ℕ) (q : Query) (n : ℕ) → answer_was l q ≡ Ok (Permitted n) → SameRule l q n
   permitted_kept l q n e = ⊎_elim (λ h. inl (h ∙ e)) raised (p.separating.answers_change l q)
     where
       raised : Raised l q → SameRule l q n
       raised r =
           ⊎_elim
-          (λ w. inr (r.constraint, r.is ∙ ap (λ (x : ℕ). gives (unknown x r.constraint)) (permitted_one (sym w ∙ e))))
+          (λ w. inr (r.constraint, r.is ∙ ap (λ (x : ℕ). Ok (UnKnown x r.constraint)) (permitted_one (sym w ∙ e))))
           (λ k. absurd (higher r.rule k.0 n (sym k.2 ∙ e)))
           r.was
 
-  unknown_kept : (l : List ℕ) (q : Query) (n k : ℕ) → answer_was l q ≡ gives (unknown n k) → (c : ℕ) × (c ≤ k) × (answer l q ≡ gives (unknown n c))
+  unknown_kept : (l : List ℕ) (q : Query) (n k : ℕ) → answer_was l q ≡ Ok (UnKnown n k) → (c : ℕ) × (c ≤ k) × (answer l q ≡ Ok (UnKnown n c))
   unknown_kept l q n k e = ⊎_elim (λ h. (k, omega arith, h ∙ e)) raised (p.separating.answers_change l q)
     where
-      raised : Raised l q → (c : ℕ) × (c ≤ k) × (answer l q ≡ gives (unknown n c))
+      raised : Raised l q → (c : ℕ) × (c ≤ k) × (answer l q ≡ Ok (UnKnown n c))
       raised r =
           ⊎_elim
           (λ w. absurd (higher n k r.rule (sym e ∙ w)))
-          (λ j. let u = unknown_one (sym j.2 ∙ e) in (r.constraint, omega (arith, j.1, u.1), r.is ∙ ap (λ (x : ℕ). gives (unknown x r.constraint)) u.0))
+          (λ j. let u = unknown_one (sym j.2 ∙ e) in (r.constraint, omega (arith, j.1, u.1), r.is ∙ ap (λ (x : ℕ). Ok (UnKnown x r.constraint)) u.0))
           r.was
 
   story_raised : Raised story shared
@@ -219,12 +221,12 @@ module _ (p : Promises) where
         story_is = is.story_is;
         story_changed = story_changed;
         story_not_one_type = λ e. story_changed (s.answers_stay story shared e);
-        story_above = s.answers_rise story shared (permitted 1) was.story_was;
-        permitted_above = λ l q r w d e. (let h = above l q (permitted r) d w e in omega (arith, h, height_permitted r));
-        unknown_above = λ l q r c w d e. (let h = above l q (unknown r c) d w e in omega (arith, h, height_unknown r c));
+        story_above = s.answers_rise story shared (Permitted 1) was.story_was;
+        permitted_above = λ l q r w d e. (let h = above l q (Permitted r) d w e in omega (arith, h, height_permitted r));
+        unknown_above = λ l q r c w d e. (let h = above l q (UnKnown r c) d w e in omega (arith, h, height_unknown r c));
         none_refused = λ l q d f w e. (let a = s.answers_rise l q d w in given_refused a.now f (sym a.answered ∙ e));
         story_raised = story_raised;
-        denied_stays = λ l q x. was_is l q _ (λ r e. let d = raised_was l q r in let h : height d.0 ≡ height (not_permitted x) = ap height (gives_one (sym d.1 ∙ e)) in omega (arith, h, d.2, height_denied x));
+        denied_stays = λ l q x. was_is l q _ (λ r e. let d = raised_was l q r in let h : height d.0 ≡ height (NotPermitted x) = ap height (gives_one (sym d.1 ∙ e)) in omega (arith, h, d.2, height_denied x));
         denied_was = λ l q x. now_is l q _ (λ r e. unlike r.rule r.constraint x (sym r.is ∙ e));
         refused_stays = λ l q f. was_is l q _ (λ r e. let d = raised_was l q r in given_refused d.0 f (sym d.1 ∙ e));
         permitted_was = λ l q n. now_is l q _ (λ r e. higher r.rule r.constraint n (sym r.is ∙ e));

@@ -11,12 +11,14 @@ use borrow.Author.Tests.{ltb-true, eqb-true, eqb-false}
 use Rattle.format.specs.Bytes.{Bytes}
 use Rattle.format.specs.Policy.{Policy, image_of, policy_of}
 use Rattle.format.specs.Check.{Accepted}
-use Rattle.format.specs.Answers.{gives}
+use Rattle.std.specs.Prelude.{Ok}
 use Rattle.format.specs.Sample.{sample}
 use Rattle.format.proofs.Tests.{false_not_true}
 use Rattle.decision.specs.declared.Query.{Query}
 use Rattle.decision.specs.Conditions.{switch_on, is_on}
-use Rattle.decision.specs.Decide.{Decision, permitted, decide, answer, query_of}
+use Rattle.decision.specs.declared.Decision.{Decision}
+use Rattle.decision.specs.declared.Decision.TheVariants.{Permitted}
+use Rattle.decision.specs.Decide.{decide, answer, query_of}
 use Rattle.decision.specs.Order.{height, NoCompanion, SwitchedOn}
 use Rattle.decision.specs.Switches.{up_to, NoSwitches, settled_rule, settled, only_on, sample_if}
 use Rattle.decision.specs.Tepla.{Dcs, forget, eval_policy}
@@ -99,7 +101,7 @@ module _ (p : Promises) where
   any_settled l s d c a v w b e = ap (answer _) (sym (word_is s d c a v w)) ∙ p.switching.answers_settled.answers l (query_of s d c a v) w b e
 
   sample_if_accepted : Accepted (sample_if 2)
-  sample_if_accepted = (p.deciding.decided_only (sample_if 2) _ (permitted 3) is.switch_0_on).0
+  sample_if_accepted = (p.deciding.decided_only (sample_if 2) _ (Permitted 3) is.switch_0_on).0
 
   sample_if_settled : (s d c a v w : ℕ) → answer (image_of (settled v (policy_of (sample_if 2)))) (query_of s d c a w) ≡ answer (sample_if 2) (query_of s d c a v)
   sample_if_settled s d c a v w = any_settled (sample_if 2) s d c a v w sample_if_bytes sample_if_accepted
@@ -113,19 +115,19 @@ module _ (p : Promises) where
   as_high o s d c a v w = ap (λ (q : Query). height (decide (only_on v o) q)) (sym (word_is s d c a v w)) ∙ p.switching.switches_add.level o (query_of s d c a v) w
 
   rises :
-      (l : List ℕ) (s d c a v w : ℕ) (d₁ d₂ : Decision) → answer l (query_of s d c a v) ≡ gives d₁ → answer l (query_of s d c a w) ≡ gives d₂
+      (l : List ℕ) (s d c a v w : ℕ) (d₁ d₂ : Decision) → answer l (query_of s d c a v) ≡ Ok d₁ → answer l (query_of s d c a w) ≡ Ok d₂
       → SwitchedOn v w → NoCompanion (policy_of l).constraints → height d₁ ≤ height d₂
   rises l s d c a v w d₁ d₂ e₁ e₂ = p.switching.switch_order l (query_of s d c a v) w d₁ d₂ e₁ (ap (answer l) (word_is s d c a v w) ∙ e₂)
 
   sample_if_stays : (w : ℕ) → switch_on w 0 ≡ true → AtLeast 1 (sample_if 2) (query_of 13 21 5 1 w)
   sample_if_stays w t d e =
-      let none : NoCompanion (policy_of (sample_if 2)).constraints = subst NoCompanion (sym switch_rules.constraints) p.ordering.marked_order.no_companion in
-      let h = rises (sample_if 2) 13 21 5 1 1 w (permitted 3) d is.switch_0_on e (on_first w t) none in
+      let None : NoCompanion (policy_of (sample_if 2)).constraints = subst NoCompanion (sym switch_rules.constraints) p.ordering.marked_order.no_companion in
+      let h = rises (sample_if 2) 13 21 5 1 1 w (Permitted 3) d is.switch_0_on e (on_first w t) None in
       omega (arith, h, height_permitted 3)
 
-  published : (l : List ℕ) (q : Query) (n : ℕ) → answer l q ≡ gives (permitted n) → eval_policy (policy_of l) q ≡ Dcs.Permitted
+  published : (l : List ℕ) (q : Query) (n : ℕ) → answer l q ≡ Ok (Permitted n) → eval_policy (policy_of l) q ≡ Dcs.Permitted
   published l q n e =
-      let v = p.deciding.decided_only l q (permitted n) e in
+      let v = p.deciding.decided_only l q (Permitted n) e in
       let x = p.deciding.published_answer l q v.0 v.1 in
       x.2 ∙ ap forget (gives_one (sym x.1 ∙ e)) ∙ forget_permitted n
 

@@ -2,13 +2,13 @@
 use Prim.Native.Nat.{ℕ, zero, suc, ◌+◌, ◌*◌, ◌≤◌}
 use native.Mathlib.Omega.{arith}
 use mathlib.Core.Path.{◌≡◌, refl, sym, ap, ◌∙◌}
-use mathlib.Core.Option.{Option, none, some}
+use Rattle.std.specs.Prelude.{Option, None, Some}
 use mathlib.Core.List.{List, [], ◌∷◌, ◌++◌, append-nil, flatten, map}
 use lib.ListN.{length, get_or, replicate}
 use Rattle.format.specs.declared.Refusal.{Refusal}
 use Rattle.format.specs.Bytes.{put_word}
 use Rattle.format.specs.Refusals.{refusal, ◌or_else◌}
-use Rattle.format.specs.Answers.{refused, gives}
+use Rattle.std.specs.Prelude.{Ok, Err}
 use Rattle.format.specs.Sample.{sample, empty}
 use Rattle.extension.specs.Add.{add_fault, buffer_after}
 use Rattle.extension.specs.Claims.{add_all}
@@ -19,8 +19,7 @@ use Rattle.text.specs.Build.{Made, row_fault, record_fault, onward, rows_from, b
 use Rattle.text.specs.Claims.{with_first, records_in, all_added, switch_digits, condition_word, ConditionWords}
 use Rattle.text.specs.Cases.{worked_rows, row_gives, row_stands, WorkedRows, outside_rows, row_named, WorkedOutside}
 use Rattle.text.specs.Cases.{full_groups, full_fault, WorkedFull, one_transition, one_switched, worked_texts, text_gives, text_makes, WorkedTexts}
-use Rattle.decision.specs.declared.Nearest.TheVariants.{NoRules, Near}
-use Rattle.decision.specs.Decide.{not_permitted, unknown}
+use Rattle.decision.specs.declared.Decision.TheVariants.{NotPermitted, UnKnown}
 use Rattle.decision.specs.Switches.{sample_if}
 use Rattle.lines.specs.Lines.{line}
 use Rattle.lines.specs.Output.{printed}
@@ -30,19 +29,20 @@ use Rattle.lines.specs.Worked.{worked_compiled, text_written, WorkedCompiled}
 use Rattle.lines.specs.Worked as printing
 use Rattle.mungaite.specs.Code.{build_code}
 use Rattle.claims.specs.Terms.{three_queries, three_said, by_bytes, too_short, sample_bytes, trans}
+use Rattle.decision.specs.Decide.{near}
 
 -- ---- the programs' output
 
 module _ (e : WorkedLines) where
-  pub unknown_line : line (gives (unknown 1023 255)) ≡ ascii "U 1023 255\n"
+  pub unknown_line : line (Ok (UnKnown 1023 255)) ≡ ascii "U 1023 255\n"
   unfolding worked_lines line_of line_said
   unknown_line = ap (λ (xs : List (List ℕ)). get_or xs 6 []) e
 
-  pub near_line : line (gives (not_permitted (Near 4 1023))) ≡ ascii "N 4 1023\n"
+  pub near_line : line (Ok (NotPermitted (Some (near 4 1023)))) ≡ ascii "N 4 1023\n"
   unfolding worked_lines line_of line_said
   near_line = ap (λ (xs : List (List ℕ)). get_or xs 2 []) e
 
-  pub no_rules_line : line (gives (not_permitted NoRules)) ≡ ascii "N -\n"
+  pub no_rules_line : line (Ok (NotPermitted None)) ≡ ascii "N -\n"
   unfolding worked_lines line_of line_said
   no_rules_line = ap (λ (xs : List (List ℕ)). get_or xs 0 []) e
 
@@ -91,11 +91,11 @@ module _ (e : WorkedCompiled) where
 
 -- how many records there are
 count_in : Option (List (List ℕ)) → ℕ
-count_in none = 0
-count_in (some rs) = length rs
+count_in None = 0
+count_in (Some rs) = length rs
 
 pub record Texts : Type 0 where
-  pub no_rows : records_in (split 10 []) ≡ some []
+  pub no_rows : records_in (split 10 []) ≡ Some []
   pub trans_row : split 10 trans ≡ trans ∷ []
   pub trans_length : length trans ≡ 13
   pub sample_length : length sample_bytes ≡ 122
@@ -128,11 +128,11 @@ unfolding
     with_first records_in
 sample_count = refl
 
-pub sample_records : (rs : List (List ℕ)) → records_in (split 10 sample_bytes) ≡ some rs → length rs ≡ 7
+pub sample_records : (rs : List (List ℕ)) → records_in (split 10 sample_bytes) ≡ Some rs → length rs ≡ 7
 unfolding count_in
 sample_records rs e = sym (ap count_in e) ∙ sample_count
 
-pub feeds_rows : (n : ℕ) → records_in (split 10 (replicate n 10)) ≡ some []
+pub feeds_rows : (n : ℕ) → records_in (split 10 (replicate n 10)) ≡ Some []
 unfolding split_step split records_in
 feeds_rows zero = refl
 feeds_rows (suc n) = feeds_rows n
@@ -151,7 +151,7 @@ unfolding flatten
 reads_in_two text more = ap (λ (x : List ℕ). text ++ x) (append-nil more)
 
 module _ (b r : List ℕ) where
-  pub one_added : add_fault b r ≡ none → all_added b (r ∷ [])
+  pub one_added : add_fault b r ≡ None → all_added b (r ∷ [])
   unfolding all_added
   one_added e = (e, tt)
 
@@ -167,11 +167,11 @@ pub none_after : (b : List ℕ) → add_all b [] ≡ b
 unfolding add_all
 none_after b = refl
 
-pub length_code : (n : ℕ) → build_code (gives n) ≡ n
+pub length_code : (n : ℕ) → build_code (Ok n) ≡ n
 unfolding build_code
 length_code n = refl
 
-pub build_refusal_code : (f : Refusal) → f.place ≤ 281474976710655 → build_code (refused f) ≡ f.number * 281474976710656 + f.place
+pub build_refusal_code : (f : Refusal) → f.place ≤ 281474976710655 → build_code (Err f) ≡ f.number * 281474976710656 + f.place
 unfolding build_code
 build_refusal_code f h = omega arith
 
@@ -179,93 +179,93 @@ build_refusal_code f h = omega arith
 
 module _ (e : ConditionWords) where
   pub words_said :
-      (rows.value_of Condition (ascii "off") ≡ some 0) × (rows.value_of Condition (ascii "on") ≡ some 1) × (rows.value_of Condition (ascii "s0") ≡ some 2)
-      × (rows.value_of Condition (ascii "s31") ≡ some 33)
+      (rows.value_of Condition (ascii "off") ≡ Some 0) × (rows.value_of Condition (ascii "on") ≡ Some 1) × (rows.value_of Condition (ascii "s0") ≡ Some 2)
+      × (rows.value_of Condition (ascii "s31") ≡ Some 33)
   unfolding ascii switch_digits condition_word
   words_said = (e.each 0 (omega arith), e.each 1 (omega arith), e.each 2 (omega arith), e.each 33 (omega arith))
 
 -- ---- rows and texts
 
 module _ (e : WorkedRows) where
-  stands_row : (n : ℕ) → get_or (map row_gives worked_rows) n none ≡ get_or (map row_stands worked_rows) n none
-  stands_row n = ap (λ (xs : List (Option (List ℕ))). get_or xs n none) e
+  stands_row : (n : ℕ) → get_or (map row_gives worked_rows) n None ≡ get_or (map row_stands worked_rows) n None
+  stands_row n = ap (λ (xs : List (Option (List ℕ))). get_or xs n None) e
 
   pub off_row :
-      rows.record_of_row (ascii "allow g32767 32767 65535 0 off") ≡ some (11 ∷ 2 ∷ 255 ∷ 255 ∷ 127 ∷ 255 ∷ 255 ∷ 255 ∷ 0 ∷ 0 ∷ 0 ∷ [])
+      rows.record_of_row (ascii "allow g32767 32767 65535 0 off") ≡ Some (11 ∷ 2 ∷ 255 ∷ 255 ∷ 127 ∷ 255 ∷ 255 ∷ 255 ∷ 0 ∷ 0 ∷ 0 ∷ [])
   unfolding worked_rows row_gives row_stands
   off_row = stands_row 4
 
-  pub list_row : rows.record_of_row (ascii "limit 1 2 3 4 2 g5 6") ≡ some (15 ∷ 4 ∷ 0 ∷ 1 ∷ 0 ∷ 2 ∷ 0 ∷ 3 ∷ 0 ∷ 4 ∷ 2 ∷ 128 ∷ 5 ∷ 0 ∷ 6 ∷ [])
+  pub list_row : rows.record_of_row (ascii "limit 1 2 3 4 2 g5 6") ≡ Some (15 ∷ 4 ∷ 0 ∷ 1 ∷ 0 ∷ 2 ∷ 0 ∷ 3 ∷ 0 ∷ 4 ∷ 2 ∷ 128 ∷ 5 ∷ 0 ∷ 6 ∷ [])
   unfolding worked_rows row_gives row_stands
   list_row = stands_row 12
 
-  pub switch_0_row : rows.record_of_row (ascii "allow 10 g0 5 1 s0") ≡ some (11 ∷ 2 ∷ 0 ∷ 10 ∷ 128 ∷ 0 ∷ 0 ∷ 5 ∷ 0 ∷ 1 ∷ 2 ∷ [])
+  pub switch_0_row : rows.record_of_row (ascii "allow 10 g0 5 1 s0") ≡ Some (11 ∷ 2 ∷ 0 ∷ 10 ∷ 128 ∷ 0 ∷ 0 ∷ 5 ∷ 0 ∷ 1 ∷ 2 ∷ [])
   unfolding worked_rows row_gives row_stands
   switch_0_row = stands_row 13
 
   pub switch_31_row :
-      rows.record_of_row (ascii "allow g32767 32767 65535 0 s31") ≡ some (11 ∷ 2 ∷ 255 ∷ 255 ∷ 127 ∷ 255 ∷ 255 ∷ 255 ∷ 0 ∷ 0 ∷ 33 ∷ [])
+      rows.record_of_row (ascii "allow g32767 32767 65535 0 s31") ≡ Some (11 ∷ 2 ∷ 255 ∷ 255 ∷ 127 ∷ 255 ∷ 255 ∷ 255 ∷ 0 ∷ 0 ∷ 33 ∷ [])
   unfolding worked_rows row_gives row_stands
   switch_31_row = stands_row 16
 
 module _ (e : WorkedOutside) where
-  outside_row : (n : ℕ) → get_or (map row_named outside_rows) n (some []) ≡ get_or (replicate 92 none) n (some [])
-  outside_row n = ap (λ (xs : List (Option (List ℕ))). get_or xs n (some [])) e.rows
+  outside_row : (n : ℕ) → get_or (map row_named outside_rows) n (Some []) ≡ get_or (replicate 92 None) n (Some [])
+  outside_row n = ap (λ (xs : List (Option (List ℕ))). get_or xs n (Some [])) e.rows
 
-  pub return_outside : rows.record_of_row (ascii "group 1\r") ≡ none
+  pub return_outside : rows.record_of_row (ascii "group 1\r") ≡ None
   unfolding outside_rows row_named
   return_outside = outside_row 43
 
-  pub zero_outside : rows.record_of_row (ascii "group 01") ≡ none
+  pub zero_outside : rows.record_of_row (ascii "group 01") ≡ None
   unfolding outside_rows row_named
   zero_outside = outside_row 10
 
-  pub class_outside : rows.record_of_row (ascii "allow 1 2 65536 4 on") ≡ none
+  pub class_outside : rows.record_of_row (ascii "allow 1 2 65536 4 on") ≡ None
   unfolding outside_rows row_named
   class_outside = outside_row 19
 
-  pub switch_32_outside : rows.record_of_row (ascii "allow 1 2 3 4 s32") ≡ none
+  pub switch_32_outside : rows.record_of_row (ascii "allow 1 2 3 4 s32") ≡ None
   unfolding outside_rows row_named
   switch_32_outside = outside_row 66
 
-  pub switch_01_outside : rows.record_of_row (ascii "allow 1 2 3 4 s01") ≡ none
+  pub switch_01_outside : rows.record_of_row (ascii "allow 1 2 3 4 s01") ≡ None
   unfolding outside_rows row_named
   switch_01_outside = outside_row 68
 
-  letter_outside : rows.record_of_row (ascii "x") ≡ none
+  letter_outside : rows.record_of_row (ascii "x") ≡ None
   unfolding outside_rows row_named
   letter_outside = outside_row 0
 
-  pub outside_rows_lem : (at : ℕ) (b : List ℕ) → rows_from at (split 10 (ascii "x")) b ≡ record { answer = refused (refusal 18 at); buffer = b }
+  pub outside_rows_lem : (at : ℕ) (b : List ℕ) → rows_from at (split 10 (ascii "x")) b ≡ record { answer = Err (refusal 18 at); buffer = b }
   unfolding ascii split_step split row_fault record_fault onward rows_from
   outside_rows_lem at b = rw letter_outside refl
 
 module _ (e : WorkedFull) where
   full_row :
       (n : ℕ)
-      → get_or (map full_fault ("group 256" ∷ "group 0" ∷ "group 255" ∷ "x" ∷ "group 1024" ∷ "trans 1 g255 3" ∷ [])) n none
+      → get_or (map full_fault ("group 256" ∷ "group 0" ∷ "group 255" ∷ "x" ∷ "group 1024" ∷ "trans 1 g255 3" ∷ [])) n None
       ≡ get_or
-      (some (refusal 12 5) ∷ some (refusal 20 5) ∷ some (refusal 20 5) ∷ some (refusal 18 5) ∷ some (refusal 11 5) ∷ some (refusal 13 5) ∷ [])
-      n none
-  full_row n = ap (λ (xs : List (Option Refusal)). get_or xs n none) e
+      (Some (refusal 12 5) ∷ Some (refusal 20 5) ∷ Some (refusal 20 5) ∷ Some (refusal 18 5) ∷ Some (refusal 11 5) ∷ Some (refusal 13 5) ∷ [])
+      n None
+  full_row n = ap (λ (xs : List (Option Refusal)). get_or xs n None) e
 
-  pub full_12 : row_fault 5 (ascii "group 256") full_groups ≡ some (refusal 12 5)
+  pub full_12 : row_fault 5 (ascii "group 256") full_groups ≡ Some (refusal 12 5)
   unfolding full_fault
   full_12 = full_row 0
 
-  pub full_20 : row_fault 5 (ascii "group 255") full_groups ≡ some (refusal 20 5)
+  pub full_20 : row_fault 5 (ascii "group 255") full_groups ≡ Some (refusal 20 5)
   unfolding full_fault
   full_20 = full_row 2
 
-  pub full_18 : row_fault 5 (ascii "x") full_groups ≡ some (refusal 18 5)
+  pub full_18 : row_fault 5 (ascii "x") full_groups ≡ Some (refusal 18 5)
   unfolding full_fault
   full_18 = full_row 3
 
-  pub full_11 : row_fault 5 (ascii "group 1024") full_groups ≡ some (refusal 11 5)
+  pub full_11 : row_fault 5 (ascii "group 1024") full_groups ≡ Some (refusal 11 5)
   unfolding full_fault
   full_11 = full_row 4
 
-  pub full_13 : row_fault 5 (ascii "trans 1 g255 3") full_groups ≡ some (refusal 13 5)
+  pub full_13 : row_fault 5 (ascii "trans 1 g255 3") full_groups ≡ Some (refusal 13 5)
   unfolding full_fault
   full_13 = full_row 5
 
@@ -273,26 +273,26 @@ module _ (e : WorkedTexts) where
   text_row : (n : ℕ) → get_or (map text_gives worked_texts) n (built [] []) ≡ get_or (map text_makes worked_texts) n (built [] [])
   text_row n = ap (λ (xs : List Made). get_or xs n (built [] [])) e
 
-  pub sample_built : built sample_bytes (replicate 83 7) ≡ record { answer = gives 80; buffer = sample ++ replicate 3 7 }
+  pub sample_built : built sample_bytes (replicate 83 7) ≡ record { answer = Ok 80; buffer = sample ++ replicate 3 7 }
   unfolding worked_texts text_gives text_makes
   sample_built = text_row 0
 
-  pub trans_built : built trans (replicate 17 7) ≡ record { answer = gives 17; buffer = one_transition }
+  pub trans_built : built trans (replicate 17 7) ≡ record { answer = Ok 17; buffer = one_transition }
   unfolding worked_texts text_gives text_makes
   trans_built = text_row 5
 
-  pub trans_short : built trans (replicate 16 7) ≡ record { answer = refused (refusal 13 0); buffer = empty ++ replicate 7 7 }
+  pub trans_short : built trans (replicate 16 7) ≡ record { answer = Err (refusal 13 0); buffer = empty ++ replicate 7 7 }
   unfolding worked_texts text_gives text_makes
   trans_short = text_row 7
 
-  pub outside_full : built (ascii "trans 12 20 5\nx") (replicate 17 7) ≡ record { answer = refused (refusal 18 14); buffer = one_transition }
+  pub outside_full : built (ascii "trans 12 20 5\nx") (replicate 17 7) ≡ record { answer = Err (refusal 18 14); buffer = one_transition }
   unfolding worked_texts text_gives text_makes
   outside_full = text_row 11
 
-  pub return_refused : built (ascii "group 1\r\n") (replicate 13 7) ≡ record { answer = refused (refusal 18 0); buffer = empty ++ replicate 4 7 }
+  pub return_refused : built (ascii "group 1\r\n") (replicate 13 7) ≡ record { answer = Err (refusal 18 0); buffer = empty ++ replicate 4 7 }
   unfolding worked_texts text_gives text_makes
   return_refused = text_row 18
 
-  pub switch_built : built (ascii "allow 12 20 5 1 s31") (replicate 20 7) ≡ record { answer = gives 20; buffer = one_switched }
+  pub switch_built : built (ascii "allow 12 20 5 1 s31") (replicate 20 7) ≡ record { answer = Ok 20; buffer = one_switched }
   unfolding worked_texts text_gives text_makes
   switch_built = text_row 23

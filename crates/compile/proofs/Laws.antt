@@ -7,7 +7,7 @@ use lib.ListN.{length, get_or, take}
 use Rattle.lines.specs.Compiled.{cut}
 use Rattle.lines.proofs.Feeds.{cut_here, cut_before}
 
-module _ (l : List ℕ) (end : ℕ) (some : 0 < end) (most : end ≤ length l) where
+module _ (l : List ℕ) (end : ℕ) (Some : 0 < end) (most : end ≤ length l) where
   one : suc (end - 1) ≡ end
   one = omega arith
 

@@ -9,14 +9,13 @@
 use Prim.Native.Nat.{ℕ, ◌+◌, ◌≤◌}
 use native.Mathlib.Omega.{arith}
 use mathlib.Core.Path.{◌≡◌, sym, subst, ap, ◌∙◌}
-use mathlib.Core.Option.{none, some}
+use Rattle.std.specs.Prelude.{None, Some}
 use mathlib.Core.List.{List, [], ◌∷◌, ◌++◌, append_assoc, append-nil}
 use lib.ListN.{length, take, drop}
 use lib.Seq.{take-add}
 use Rattle.format.specs.Check.{check_front}
 use Rattle.format.specs.Sample.{empty}
 use Rattle.extension.specs.Add.{overwrite}
-use Rattle.text.specs.declared.Built.{Built}
 use Rattle.text.specs.Build.{Builds}
 use Rattle.text.proofs.Buffers.{imaged_accepted, imaged_empty}
 use Rattle.text.proofs.Follow.{built_long, rows_none}
@@ -27,8 +26,9 @@ use Rattle.lines.proofs.Compiled.{begun_is, turned_is, reads_on, reads_stop}
 use Rattle.compile.specs.declared.turn.Place.{Place}
 use Rattle.compile.specs.Inner.Turn.{reading_of, Goes}
 use Rattle.compile.specs.Inner.Due.{Due, DueErrors, Reached, Starts}
+use Rattle.format.specs.Answers.{Outcome}
 
-pub starts_built : (b after : List ℕ) (r : Built) → 65536 ≡ length b → Builds [] b r after → Starts after
+pub starts_built : (b after : List ℕ) (r : Outcome ℕ) → 65536 ≡ length b → Builds [] b r after → Starts after
 starts_built b after r h a =
     record {
       space = b;
@@ -36,7 +36,7 @@ starts_built b after r h a =
       starts = a.buffer ∙ ap (λ m. m.buffer) (built_long [] b (omega arith) ∙ rows_none 0 (overwrite empty b));
     }
 
-pub starts_accepted : (image : List ℕ) → Starts image → check_front image ≡ none
+pub starts_accepted : (image : List ℕ) → Starts image → check_front image ≡ None
 starts_accepted image s =
     ap check_front s.starts ∙ imaged_accepted s.space (overwrite empty s.space) (imaged_empty s.space (omega (arith, s.long)))
 
@@ -70,7 +70,7 @@ module _ (s : Reading) (k : Reached s) where
     on_to : (more : List (List ℕ)) → reads (begun k.space) ((k.brought ++ (c ∷ [])) ++ more) ≡ reads s (c ∷ more)
     on_to more = ap (reads (begun k.space)) (append_assoc k.brought (c ∷ []) more) ∙ k.onward (c ∷ more)
 
-    pub due_fault : (f : RowRefusal) → turn_fault s l ≡ some f → DueErrors (row_line f)
+    pub due_fault : (f : RowRefusal) → turn_fault s l ≡ Some f → DueErrors (row_line f)
     due_fault f e =
         Due.refused k.space (k.brought ++ (c ∷ [])) k.long
         (λ more. on_to more ∙ reads_stop s c more f (ap (turn_fault s) came ∙ e))

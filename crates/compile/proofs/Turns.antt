@@ -6,18 +6,16 @@
 use Prim.Native.Nat.{ℕ, ◌+◌, ◌-◌, ◌≤◌, ◌<◌}
 use native.Mathlib.Omega.{arith}
 use mathlib.Core.Path.{◌≡◌, sym, subst, ap, ◌∙◌}
-use mathlib.Core.Option.{none, some}
+use Rattle.std.specs.Prelude.{None, Some}
 use mathlib.Core.List.{List, []}
 use lib.ListN.{length, take, drop, length-drop}
 use lib.Seq.{length-take-le, take-take}
 use Rattle.format.specs.declared.Refusal.{Refusal}
 use Rattle.format.specs.Bytes.{Bytes, word_at}
 use Rattle.format.specs.Check.{check_front}
-use Rattle.format.specs.Answers.{refused, gives}
+use Rattle.std.specs.Prelude.{Ok, Err}
 use Rattle.format.proofs.Front.{front_fits}
-use Rattle.text.specs.declared.Built.{Built}
-use Rattle.text.specs.declared.Built.TheVariants as built
-use Rattle.text.specs.Build.{built_outcome, AddsRows, rows_added}
+use Rattle.text.specs.Build.{AddsRows, rows_added}
 use Rattle.text.proofs.Chunks.{added_accepted, added_place}
 use Rattle.lines.specs.declared.RowRefusal.{RowRefusal}
 use Rattle.lines.specs.Compiled.{feeds, refused_row, row_line, cut, turn_fault, Reading, reads}
@@ -28,13 +26,14 @@ use Rattle.compile.specs.declared.turn.Step.TheVariants as step
 use Rattle.compile.specs.declared.turn.Ending.{Ending}
 use Rattle.compile.specs.declared.turn.Ending.TheVariants as ending
 use Rattle.compile.specs.Inner.Turn.{reading_of, Kept, Filled, Rests, Goes, Turned, Image, Ended}
+use Rattle.format.specs.Answers.{Outcome}
 
-module _ (t b after : List ℕ) (r : Built) (a : AddsRows t b r after) where
-  pub added_gives : (n : ℕ) → r ≡ built.Length n → (rows_added t b).answer ≡ gives n
-  added_gives n e = sym a.answer ∙ ap built_outcome e
+module _ (t b after : List ℕ) (r : Outcome ℕ) (a : AddsRows t b r after) where
+  pub added_gives : (n : ℕ) → r ≡ Ok n → (rows_added t b).answer ≡ Ok n
+  added_gives n e = sym a.answer ∙ e
 
-  pub added_refuses : (f : Refusal) → r ≡ built.Refused f → (rows_added t b).answer ≡ refused f
-  added_refuses f e = sym a.answer ∙ ap built_outcome e
+  pub added_refuses : (f : Refusal) → r ≡ Err f → (rows_added t b).answer ≡ Err f
+  added_refuses f e = sym a.answer ∙ e
 
 -- ---- the bytes behind the last line feed
 
@@ -70,7 +69,7 @@ module _ (p : Place) (input : List ℕ) (have end n : ℕ) (long : have ≤ leng
 
 -- ---- a turn
 
-module _ (p : Place) (input image after : List ℕ) (have end : ℕ) (r : Built) (most : end ≤ have) (at : end ≡ cut (take have input)) (a : AddsRows (take end input) image r after) where
+module _ (p : Place) (input image after : List ℕ) (have end : ℕ) (r : Outcome ℕ) (most : end ≤ have) (at : end ≡ cut (take have input)) (a : AddsRows (take end input) image r after) where
   s : Reading
   s = reading_of p input image
 
@@ -79,21 +78,21 @@ module _ (p : Place) (input image after : List ℕ) (have end : ℕ) (r : Built)
   rows = sym (take-take end have input most) ∙ ap (λ k. take k (take have input)) at
 
   pub turn_fault_lem :
-      (f : Refusal) → r ≡ built.Refused f → turn_fault (reading_of p input image) (take have input) ≡ some (refused_row p.at p.row (take have input) f)
+      (f : Refusal) → r ≡ Err f → turn_fault (reading_of p input image) (take have input) ≡ Some (refused_row p.at p.row (take have input) f)
   turn_fault_lem f e =
       turn_faulty (reading_of p input image) (take have input) f
       (ap (λ x. (rows_added x image).answer) (sym rows) ∙ added_refuses (take end input) image after r a f e)
 
-  pub fault_inside : (f : Refusal) → check_front image ≡ none → end ≤ length input → r ≡ built.Refused f → f.place ≤ have
+  pub fault_inside : (f : Refusal) → check_front image ≡ None → end ≤ length input → r ≡ Err f → f.place ≤ have
   fault_inside f front long e =
       omega (arith, added_place image front (take end input) f (added_refuses (take end input) image after r a f e), length-take-le end input long)
 
   pub turn_rests :
-      (n : ℕ) (q : Step) (input' : List ℕ) → check_front image ≡ none → Bytes image → r ≡ built.Length n → Rests p (take have input) q input'
+      (n : ℕ) (q : Step) (input' : List ℕ) → check_front image ≡ None → Bytes image → r ≡ Ok n → Rests p (take have input) q input'
       → Turned (reading_of p input image) (take have input) q input' after
   turn_rests n (step.Fault f) input' front bytes e k =
       let adds = ap (λ x. (rows_added x image).answer) (sym rows) ∙ added_gives (take end input) image after r a n e in
-      turn_full (reading_of p input image) (take have input) n adds k.full ∙ ap some (sym k.is)
+      turn_full (reading_of p input image) (take have input) n adds k.full ∙ ap Some (sym k.is)
   turn_rests n (step.Onward q) input' front bytes e k =
       let l = take have input in
       let adds = ap (λ x. (rows_added x image).answer) (sym rows) ∙ added_gives (take end input) image after r a n e in
@@ -110,21 +109,21 @@ module _ (p : Place) (input image after : List ℕ) (have end : ℕ) (r : Built)
 
 -- ---- the end of the input
 
-module _ (p : Place) (input image after : List ℕ) (r : Built) (front : check_front image ≡ none) (a : AddsRows (take p.kept input) image r after) where
+module _ (p : Place) (input image after : List ℕ) (r : Outcome ℕ) (front : check_front image ≡ None) (a : AddsRows (take p.kept input) image r after) where
   pub ends_fault :
-      (f : Refusal) → r ≡ built.Refused f
+      (f : Refusal) → r ≡ Err f
       → reads (reading_of p input image) [] ≡ record { output = []; errors = row_line (refused_row p.at p.row (take p.kept input) f) }
   ends_fault f e = reads_refused (reading_of p input image) f (added_refuses (take p.kept input) image after r a f e)
 
-  pub last_inside : (f : Refusal) → r ≡ built.Refused f → f.place < length (take p.kept input)
+  pub last_inside : (f : Refusal) → r ≡ Err f → f.place < length (take p.kept input)
   last_inside f e = added_place image front (take p.kept input) f (added_refuses (take p.kept input) image after r a f e)
 
-  pub ends_image : (n : ℕ) → Bytes image → r ≡ built.Length n → Image (reading_of p input image) n after
+  pub ends_image : (n : ℕ) → Bytes image → r ≡ Ok n → Image (reading_of p input image) n after
   ends_image n bytes e =
       let t = take p.kept input in
       let q = reads_image (reading_of p input image) n front (added_gives t image after r a n e) in
       let size : n ≡ word_at after 1 = q.0 ∙ ap (λ x. word_at x 1) (sym a.buffer) in
-      let accepted : check_front after ≡ none = ap check_front a.buffer ∙ (added_accepted image front bytes t).0 in
+      let accepted : check_front after ≡ None = ap check_front a.buffer ∙ (added_accepted image front bytes t).0 in
       record {
         fits = omega (arith, size, front_fits after accepted);
         is = q.1 ∙ ap (λ x. record { output = take n x; errors = [] }) (sym a.buffer);
@@ -137,7 +136,7 @@ ends_row s e image f q k = subst (λ x. Ended s x image) q k
 pub ends_length : (s : Reading) (e : Ending) (image : List ℕ) (n : ℕ) → e ≡ ending.Image n → Ended s e image → Image s n image
 ends_length s e image n q k = subst (λ x. Ended s x image) q k
 
-pub turns_fault : (s : Reading) (l : List ℕ) (r : Step) (input image : List ℕ) (f : RowRefusal) → r ≡ step.Fault f → Turned s l r input image → turn_fault s l ≡ some f
+pub turns_fault : (s : Reading) (l : List ℕ) (r : Step) (input image : List ℕ) (f : RowRefusal) → r ≡ step.Fault f → Turned s l r input image → turn_fault s l ≡ Some f
 turns_fault s l r input image f q k = subst (λ x. Turned s l x input image) q k
 
 pub turns_on : (s : Reading) (l : List ℕ) (r : Step) (input image : List ℕ) (p : Place) → r ≡ step.Onward p → Turned s l r input image → Goes s l p input image

@@ -1,6 +1,5 @@
 // One turn after the other: a read, and what its rows come to.
 ghost use Rattle.std.specs.Prelude.{◌≡◌, ◌+◌, ◌≤◌, ◌<◌, ◌^◌, length};
-ghost use Rattle.std.proofs.Math.Option.{none};
 ghost use Rattle.format.specs.Check.{check_front};
 ghost use Rattle.lines.specs.Compiled.{row_line};
 ghost use Rattle.compile.specs.Inner.Turn.{reading_of};
@@ -42,7 +41,7 @@ where
     R: Clock + Eprint,
     O: Write,
     E: Write,
-    requires { Reached (reading_of p input.now image.old) × (check_front image.old ≡ none)
+    requires { Reached (reading_of p input.now image.old) × (check_front image.old ≡ None)
         × (p.kept ≤ length input.now) × (p.at + p.kept < 2 ^ 64) × (p.row + p.kept < 2 ^ 64) }
 {
     match end_turns(p, input, image) {

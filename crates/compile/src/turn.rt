@@ -1,6 +1,5 @@
 // A turn: the rows that have come whole are added, and what is left is kept; and the end of the input.
 ghost use Rattle.std.specs.Prelude.{◌≡◌, ◌+◌, ◌≤◌, ◌<◌, ◌^◌, length, take};
-ghost use Rattle.std.proofs.Math.Option.{none};
 ghost use Rattle.format.specs.Check.{check_front};
 ghost use Rattle.lines.specs.Compiled.{refused_row, cut};
 ghost use Rattle.compile.specs.Inner.Turn.{reading_of, Rests, Turned, Ended};
@@ -72,7 +71,7 @@ fn go_on(p: Place, input: &mut [u8], end: usize, have: usize) -> Step
 
 // A turn on the first bytes of the input: those that were kept, and those that came.
 pub(crate) fn take_turn(p: Place, input: &mut [u8], have: usize, image: &mut [u8]) -> Step
-    requires { (check_front image.old ≡ none) × (65536 ≡ length input.old) × (have ≤ 65536)
+    requires { (check_front image.old ≡ None) × (65536 ≡ length input.old) × (have ≤ 65536)
         × (p.at + 65536 < 2 ^ 64) × (p.row + 65536 < 2 ^ 64) }
     ensures { Turned (reading_of p input.old image.old) (take have input.old)
         result input.new image.new }
@@ -86,7 +85,7 @@ pub(crate) fn take_turn(p: Place, input: &mut [u8], have: usize, image: &mut [u8
 
 // The end of the input: what was kept is the last row.
 pub(crate) fn end_turns(p: Place, input: &[u8], image: &mut [u8]) -> Ending
-    requires { (check_front image.old ≡ none) × (p.kept ≤ length input.now)
+    requires { (check_front image.old ≡ None) × (p.kept ≤ length input.now)
         × (p.at + p.kept < 2 ^ 64) × (p.row + p.kept < 2 ^ 64) }
     ensures { Ended (reading_of p input.now image.old) result image.new }
 {

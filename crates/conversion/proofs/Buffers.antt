@@ -7,7 +7,7 @@ use Prim.Native.Nat.{ℕ, ◌≤◌}
 use native.Mathlib.Omega.{arith}
 use mathlib.Core.Path.{◌≡◌, refl, ap, ◌∙◌}
 use mathlib.Core.Logic.{◌⊎◌, inl, inr}
-use mathlib.Core.Option.{none, some}
+use Rattle.std.specs.Prelude.{None, Some}
 use mathlib.Core.List.{List, ◌++◌}
 use lib.ListN.{length, take, drop, length-append, length-drop}
 use lib.Seq.{take-append_seam, drop-append_seam}
@@ -40,18 +40,18 @@ convert_numbers =
       fits = λ l n e h. or_else_none e (need_none _ (le-leb (length (converted_image l)) n h));
     }
 
-pub fault_parts : (l : List ℕ) (n : ℕ) → convert_fault l n ≡ none → LaidOut l × (length (converted_image l) ≤ n)
+pub fault_parts : (l : List ℕ) (n : ℕ) → convert_fault l n ≡ None → LaidOut l × (length (converted_image l) ≤ n)
 unfolding convert_fault
 fault_parts l n e =
     let q = or_else_split (layout_fault l) (need (leb (length (converted_image l)) n) (refusal 13 0)) e in
     (q.0, leb-true (length (converted_image l)) n (need_true _ _ q.1))
 
 pub buffer_written :
-    (l b : List ℕ) → convert_fault l (length b) ≡ none → buffer_converted l b ≡ converted_image l ++ drop (length (converted_image l)) b
+    (l b : List ℕ) → convert_fault l (length b) ≡ None → buffer_converted l b ≡ converted_image l ++ drop (length (converted_image l)) b
 unfolding buffer_converted
 buffer_written l b e = unless_accepted (overwrite (converted_image l) b) b e ∙ overwrite_is (converted_image l) b
 
-pub buffer_refused : (l b : List ℕ) (f : Refusal) → convert_fault l (length b) ≡ some f → buffer_converted l b ≡ b
+pub buffer_refused : (l b : List ℕ) (f : Refusal) → convert_fault l (length b) ≡ Some f → buffer_converted l b ≡ b
 unfolding buffer_converted
 buffer_refused l b f e = unless_refused_lem (overwrite (converted_image l) b) b e
 
@@ -68,8 +68,8 @@ past_stays l b e =
       omega (arith, ap length w, length-append new (drop (length new) b), length-drop (length new) b),
     )
 
-pub convert_refused : (l : List ℕ) (n : ℕ) (f : Refusal) → convert_fault l n ≡ some f → (layout_fault l ≡ some f) ⊎ (f ≡ refusal 13 0)
+pub convert_refused : (l : List ℕ) (n : ℕ) (f : Refusal) → convert_fault l n ≡ Some f → (layout_fault l ≡ Some f) ⊎ (f ≡ refusal 13 0)
 unfolding convert_fault
 convert_refused l n =
-    or_else_refuses (λ f. (layout_fault l ≡ some f) ⊎ (f ≡ refusal 13 0)) (layout_fault l) _ (λ f e. inl e)
-    (λ _. need_refuses (λ f. (layout_fault l ≡ some f) ⊎ (f ≡ refusal 13 0)) (leb (length (converted_image l)) n) (refusal 13 0) (inr refl))
+    or_else_refuses (λ f. (layout_fault l ≡ Some f) ⊎ (f ≡ refusal 13 0)) (layout_fault l) _ (λ f e. inl e)
+    (λ _. need_refuses (λ f. (layout_fault l ≡ Some f) ⊎ (f ≡ refusal 13 0)) (leb (length (converted_image l)) n) (refusal 13 0) (inr refl))

@@ -20,7 +20,7 @@ use Rattle.format.specs.Format.{count_of}
 use Rattle.format.specs.Policy.{Policy, records_of, body_of, image_of, policy_of}
 use Rattle.format.specs.Twins.{NoTwins}
 use Rattle.format.specs.Check.{LaidOut}
-use Rattle.format.specs.Answers.{gives}
+use Rattle.std.specs.Prelude.{Ok}
 use Rattle.format.specs.Claims.{IsType, IsRecord, WellFormed}
 use Rattle.format.proofs.ByCase.{records_of_groups, records_of_rules, records_of_constraints}
 use Rattle.format.proofs.Fields.{type_is, is_type_lem, record_group, group_record}
@@ -197,7 +197,7 @@ converted_answers l q b e v =
       is_type_lem _ _ (subst (λ (g : ℕ). IsType g (f q.dest)) count (follow_type p q.dest d)),
     ) in
     answer_gives (converted_image l) (retype_query f q) new.accepted valid
-    ∙ ap gives (ap (λ (x : Policy). decide x (retype_query f q)) new.policy
+    ∙ ap Ok (ap (λ (x : Policy). decide x (retype_query f q)) new.policy
     ∙ converted_decides p (laid_is_well_formed l b e).0 q s d)
 
 -- ---- a policy without twins

@@ -16,7 +16,7 @@ use native.Mathlib.Omega.{arith}
 use mathlib.Core.Path.{◌≡◌, refl, sym, subst, ap, ◌∙◌}
 use mathlib.Core.Logic.{inl, inr, ⊎_elim}
 use mathlib.Core.Bool.{Bool, true, false, cond}
-use mathlib.Core.Option.{none}
+use Rattle.std.specs.Prelude.{None}
 use mathlib.Core.List.Memᴰ
 use mathlib.Core.List.{List, [], ◌∷◌, ◌++◌, flatten, append_assoc, append-nil, Memᴰ}
 use lib.ListN.{length, get_or, drop, length-append, get_or-append}
@@ -247,7 +247,7 @@ groups_stay gs = (
     was : (k : ℕ) → k < length (distinct gs) → (before gs k < length gs) × (get_or gs (before gs k) [] ≡ get_or (distinct gs) k [])
     was k n = number_get gs (distinct_from gs _ (get_or_mem (distinct gs) k [] n))
 
-same_from : (kept : List (List ℕ)) (n : ℕ) (gs : List (List ℕ)) → first_twin kept n gs ≡ none → with_groups kept gs ≡ kept ++ gs
+same_from : (kept : List (List ℕ)) (n : ℕ) (gs : List (List ℕ)) → first_twin kept n gs ≡ None → with_groups kept gs ≡ kept ++ gs
 unfolding with_groups
 same_from kept n [] e = sym (append-nil kept)
 same_from kept n (g ∷ gs) e =

@@ -4,7 +4,7 @@
 --     ConvertedCases  that, where each of its types goes, the refusal of the old image, which comes behind 6 and 7, and the sample,
 --                     which stays
 use Rattle.std.specs.Prelude.{◌≡◌, [], ◌∷◌, ◌++◌, map, length, set}
-use Rattle.std.proofs.Math.Option.{none, some}
+use Rattle.std.specs.Prelude.{None, Some}
 use Rattle.format.specs.Refusals.{refusal}
 use Rattle.format.specs.Policy.{Policy, image_of}
 use Rattle.format.specs.Check.{layout_fault, check}
@@ -38,13 +38,13 @@ pub record ConvertedCases : Type 0 where
   pub types :
       map (follow old) (5 ∷ 0x8000 ∷ 0x8001 ∷ 0x8002 ∷ 0x8003 ∷ 0x8004 ∷ 0x8005 ∷ [])
       ≡ 5 ∷ 0x8000 ∷ 0x8001 ∷ 0x8000 ∷ 0x8001 ∷ 0x8002 ∷ 0x8001 ∷ []
-  pub laid_out : layout_fault (image_of old) ≡ none
-  pub twins : check (image_of old) ≡ some (refusal 19 19)
-  pub end_first : check (set (image_of old) 2 72 ++ (0 ∷ [])) ≡ some (refusal 7 71)
-  pub field_first : check (set (image_of old) 66 4) ≡ some (refusal 6 66)
+  pub laid_out : layout_fault (image_of old) ≡ None
+  pub twins : check (image_of old) ≡ Some (refusal 19 19)
+  pub end_first : check (set (image_of old) 2 72 ++ (0 ∷ [])) ≡ Some (refusal 7 71)
+  pub field_first : check (set (image_of old) 66 4) ≡ Some (refusal 6 66)
   pub image : converted_image (image_of old) ≡ image_of new
   pub shorter : (length (image_of old) ≡ 71) × (length (image_of new) ≡ 57)
-  pub fits : convert_fault (image_of old) 57 ≡ none
-  pub short : convert_fault (image_of old) 56 ≡ some (refusal 13 0)
+  pub fits : convert_fault (image_of old) 57 ≡ None
+  pub short : convert_fault (image_of old) 56 ≡ Some (refusal 13 0)
   pub sample_stays : converted_image sample ≡ sample
   pub empty_stays : converted_image empty ≡ empty

@@ -15,7 +15,7 @@
 --     RefusedStays        a refused call changes no byte
 --     ConvertNumbers      it is refused with 1 to 7 exactly as the image is, and else with 13 where the new image does not fit
 use Rattle.std.specs.Prelude.{ℕ, ◌+◌, ◌≤◌, ◌<◌, ◌≡◌, ◌⊎◌, length, get_or, take, drop}
-use Rattle.std.proofs.Math.Option.{none, some}
+use Rattle.std.specs.Prelude.{None, Some}
 use mathlib.Core.List.{List, [], map, Memᴰ}
 use Rattle.format.specs.declared.Refusal.{Refusal}
 use Rattle.format.specs.declared.Section.TheVariants.{Groups}
@@ -24,7 +24,7 @@ use Rattle.format.specs.Refusals.{refusal}
 use Rattle.format.specs.Policy.{Policy, policy_of, place_of}
 use Rattle.format.specs.Twins.{first_twin, NoTwins}
 use Rattle.format.specs.Check.{layout_fault, LaidOut, check, Accepted}
-use Rattle.format.specs.Answers.{gives}
+use Rattle.std.specs.Prelude.{Ok}
 use Rattle.format.specs.Claims.{IsType, type_fields}
 use Rattle.decision.specs.declared.Query.{Query}
 use Rattle.decision.specs.Sets.{set_of}
@@ -35,9 +35,9 @@ use Rattle.conversion.specs.Retype.{retype_query}
 use Rattle.conversion.specs.Convert.{follow, converted, converted_image, convert_fault, buffer_converted}
 
 pub record TwinsFound : Type 0 where
-  pub image_first : (l : List ℕ) (f : Refusal) → layout_fault l ≡ some f → check l ≡ some f
+  pub image_first : (l : List ℕ) (f : Refusal) → layout_fault l ≡ Some f → check l ≡ Some f
   pub found :
-      (l : List ℕ) (n : ℕ) → LaidOut l → first_twin [] 0 (policy_of l).groups ≡ some n → check l ≡ some (refusal 19 (place_of l Groups n))
+      (l : List ℕ) (n : ℕ) → LaidOut l → first_twin [] 0 (policy_of l).groups ≡ Some n → check l ≡ Some (refusal 19 (place_of l Groups n))
 
 -- group k of the new ones stood at `from k`
 pub record GroupsKept (gs : List (List ℕ)) : Type 0 where
@@ -93,7 +93,7 @@ ConvertedReads =
 abbrev pub ConvertedAnswers : Type 0
 ConvertedAnswers =
     (l : List ℕ) (q : Query) → Bytes l → LaidOut l → Valid l q
-    → answer (converted_image l) (retype_query (follow (policy_of l)) q) ≡ gives (decide (policy_of l) q)
+    → answer (converted_image l) (retype_query (follow (policy_of l)) q) ≡ Ok (decide (policy_of l) q)
 
 pub record NewImage (l : List ℕ) : Type 0 where
   pub accepted : Accepted (converted_image l)
@@ -112,15 +112,15 @@ ConvertedOnce = (l : List ℕ) → Bytes l → LaidOut l → converted_image (co
 
 abbrev pub PastStays : Type 0
 PastStays =
-    (l b : List ℕ) → convert_fault l (length b) ≡ none
+    (l b : List ℕ) → convert_fault l (length b) ≡ None
     → (take (length (converted_image l)) (buffer_converted l b) ≡ converted_image l)
     × (drop (length (converted_image l)) (buffer_converted l b) ≡ drop (length (converted_image l)) b)
     × (length (buffer_converted l b) ≡ length b)
 
 abbrev pub RefusedStays : Type 0
-RefusedStays = (l b : List ℕ) (f : Refusal) → convert_fault l (length b) ≡ some f → buffer_converted l b ≡ b
+RefusedStays = (l b : List ℕ) (f : Refusal) → convert_fault l (length b) ≡ Some f → buffer_converted l b ≡ b
 
 pub record ConvertNumbers : Type 0 where
-  pub image : (l : List ℕ) (n : ℕ) (f : Refusal) → layout_fault l ≡ some f → convert_fault l n ≡ some f
-  pub short : (l : List ℕ) (n : ℕ) → LaidOut l → n < length (converted_image l) → convert_fault l n ≡ some (refusal 13 0)
-  pub fits : (l : List ℕ) (n : ℕ) → LaidOut l → length (converted_image l) ≤ n → convert_fault l n ≡ none
+  pub image : (l : List ℕ) (n : ℕ) (f : Refusal) → layout_fault l ≡ Some f → convert_fault l n ≡ Some f
+  pub short : (l : List ℕ) (n : ℕ) → LaidOut l → n < length (converted_image l) → convert_fault l n ≡ Some (refusal 13 0)
+  pub fits : (l : List ℕ) (n : ℕ) → LaidOut l → length (converted_image l) ≤ n → convert_fault l n ≡ None

@@ -6,18 +6,16 @@
 --     convert_fault l n     refusals 1 to 7 of the old image, then 13 where n bytes do not hold the new one
 --     buffer_converted l b  the buffer after the call: the new image at its front, the bytes past it as they were; on a refusal
 --                          all as it was
---     converted_outcome a   what a `Converted` says
 --     Converts l b a after   what a call answers and leaves
 use Rattle.std.specs.Prelude.{ℕ, ◌≡◌, List, map, length, leb}
-use Rattle.std.proofs.Math.Option.{Option}
+use Rattle.std.specs.Prelude.{Option}
 use Rattle.format.specs.declared.Refusal.{Refusal}
 use Rattle.format.specs.Refusals.{refusal, need, ◌or_else◌, unless_refused}
 use Rattle.format.specs.Policy.{Policy, image_of, policy_of}
 use Rattle.format.specs.Check.{layout_fault}
-use Rattle.format.specs.Answers.{Outcome, refused, gives, outcome}
+use Rattle.std.specs.Prelude.{Ok, Err}
+use Rattle.format.specs.Answers.{Outcome, outcome}
 use Rattle.extension.specs.Add.{overwrite}
-use Rattle.conversion.specs.declared.Converted.{Converted}
-use Rattle.conversion.specs.declared.Converted.TheVariants.{Length, Refused}
 use Rattle.conversion.specs.Groups.{distinct, moved}
 use Rattle.conversion.specs.Retype.{retype_rule, retype_constraint}
 
@@ -42,10 +40,6 @@ convert_fault l n = layout_fault l or_else need (leb (length (converted_image l)
 unfoldable pub buffer_converted : List ℕ → List ℕ → List ℕ
 buffer_converted l b = unless_refused (convert_fault l (length b)) (overwrite (converted_image l) b) b
 
-abbrev pub converted_outcome : Converted → Outcome ℕ
-converted_outcome (Length n) = gives n
-converted_outcome (Refused f) = refused f
-
-pub record Converts (l b : List ℕ) (a : Converted) (after : List ℕ) : Type 0 where
-  pub answer : converted_outcome a ≡ outcome (convert_fault l (length b)) (length (converted_image l))
+pub record Converts (l b : List ℕ) (a : Outcome ℕ) (after : List ℕ) : Type 0 where
+  pub answer : a ≡ outcome (convert_fault l (length b)) (length (converted_image l))
   pub buffer : after ≡ buffer_converted l b

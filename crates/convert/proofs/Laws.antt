@@ -7,16 +7,14 @@
 use Prim.Native.Nat.{ℕ, ◌+◌, ◌≤◌, ◌<◌}
 use native.Mathlib.Omega.{arith}
 use mathlib.Core.Path.{◌≡◌, refl, sym, subst, ap, ◌∙◌}
-use mathlib.Core.Option.{none}
+use Rattle.std.specs.Prelude.{None, Ok}
 use mathlib.Core.List.{List, [], ◌∷◌, ◌++◌, append_assoc, append-nil}
 use lib.ListN.{length, take, drop}
 use lib.Seq.{take-add, length-take-le}
 use Rattle.format.specs.declared.Refusal.{Refusal}
-use Rattle.format.specs.Answers.{refused}
+use Rattle.std.specs.Prelude.{Err}
 use Rattle.format.proofs.Chain.{outcome_gives, outcome_refused}
-use Rattle.conversion.specs.declared.Converted.{Converted}
-use Rattle.conversion.specs.declared.Converted.TheVariants as converted
-use Rattle.conversion.specs.Convert.{converted_image, convert_fault, converted_outcome, Converts}
+use Rattle.conversion.specs.Convert.{converted_image, convert_fault, Converts}
 use Rattle.conversion.proofs.Buffers.{fault_parts, past_stays}
 use Rattle.lines.specs.Lines.{line}
 use Rattle.lines.specs.Converted.{input_space, convert_output, gathers}
@@ -25,6 +23,7 @@ use Rattle.convert.specs.declared.source.Taken.{Taken}
 use Rattle.convert.specs.declared.source.Taken.TheVariants as taken
 use Rattle.convert.specs.Inner.Due.{Due, DueOutput, DueErrors, Gathered}
 use Rattle.convert.specs.Inner.Input.{Whole, Took}
+use Rattle.format.specs.Answers.{Outcome}
 
 -- ---- reads
 
@@ -69,15 +68,15 @@ took_whole r space n e k = subst (λ (x : Taken). Took x space) e k
 -- ---- what the conversion answered
 
 module _ {i b after : List ℕ} {r : Converted} (a : Converts i b r after) (h : (length i ≤ input_space) × (input_space ≡ length b)) where
-  pub due_line : (f : Refusal) → r ≡ converted.Refused f → Due (convert_output i) → DueErrors (line (refused f))
+  pub due_line : (f : Refusal) → r ≡ Err f → Due (convert_output i) → DueErrors (line (Err f))
   due_line f e d =
       let x : convert_fault i (length b) ≡ _
-      = outcome_refused (convert_fault i (length b)) (length (converted_image i)) (ap converted_outcome (sym e) ∙ a.answer) in
+      = outcome_refused (convert_fault i (length b)) (length (converted_image i)) (sym e ∙ a.answer) in
       subst Due (output_refused i h.0 f (ap (convert_fault i) h.1 ∙ x)) d
 
-  module _ (n : ℕ) (e : r ≡ converted.Length n) where
-    gives_new : (convert_fault i (length b) ≡ none) × (n ≡ length (converted_image i))
-    gives_new = outcome_gives (convert_fault i (length b)) (length (converted_image i)) (ap converted_outcome (sym e) ∙ a.answer)
+  module _ (n : ℕ) (e : r ≡ Ok n) where
+    gives_new : (convert_fault i (length b) ≡ None) × (n ≡ length (converted_image i))
+    gives_new = outcome_gives (convert_fault i (length b)) (length (converted_image i)) (sym e ∙ a.answer)
 
     new_front : take n after ≡ converted_image i
     new_front =

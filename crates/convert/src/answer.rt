@@ -1,6 +1,5 @@
 // What is written for the bytes that were read.
 ghost use Rattle.std.specs.Prelude.{◌≤◌, length};
-ghost use Rattle.format.specs.Answers.{refused};
 ghost use Rattle.lines.specs.Lines.{line};
 ghost use Rattle.lines.specs.Converted.{input_space, convert_output};
 ghost use Rattle.convert.specs.Inner.Due.{Due, DueErrors};
@@ -17,7 +16,7 @@ fn refuse<R, E>(rt: &R, stderr: &mut E, f: Refusal)
 where
     R: Clock + Eprint,
     E: Write,
-    requires { DueErrors (line (refused f)) }
+    requires { DueErrors (line (Err f)) }
 {
     let mut text = [0u8; 44];
     let end = put_line(f, &mut text);

@@ -1,6 +1,5 @@
 // The line of a refused image.
 ghost use Rattle.std.specs.Prelude.{◌≤◌, length};
-ghost use Rattle.format.specs.Answers.{refused};
 ghost use Rattle.lines.specs.Lines.{line};
 ghost use Rattle.streams.specs.Put.{Front};
 
@@ -11,7 +10,7 @@ use streams::{put_byte, put_field};
 // 20 digits with their spaces, and a line feed.
 pub(crate) fn put_line(f: Refusal, output: &mut [u8]) -> usize
     requires { 44 ≤ length output.old }
-    ensures { Front output.new result (line (refused f)) }
+    ensures { Front output.new result (line (Err f)) }
 {
     let letter = put_byte(b'R', output, 0);
     let number = put_field(f.number as usize, output, letter);

@@ -5,36 +5,34 @@
 use Prim.Native.Nat.{ℕ}
 use mathlib.Core.Path.{◌≡◌, sym, ap, ap₂, ◌∙◌}
 use mathlib.Core.Bool.{Bool}
-use mathlib.Core.Option.{Option, some}
+use Rattle.std.specs.Prelude.{Option, Some, Ok, Err, None}
 use mathlib.Core.List.{List}
 use Rattle.format.specs.declared.Refusal.{Refusal}
-use Rattle.format.specs.declared.Sections.{Sections}
-use Rattle.format.specs.declared.Sections.TheVariants as sections
-use Rattle.format.specs.Answers.{sections_outcome}
 use Rattle.decision.specs.declared.Query.{Query}
-use Rattle.decision.specs.declared.Answer.{Answer}
-use Rattle.decision.specs.Decide.{answer, answer_outcome}
-use Rattle.runs.specs.declared.Run.{Run}
-use Rattle.runs.specs.Runs.{rows_fault, row_answer}
+use Rattle.decision.specs.Decide.{answer}
+use Rattle.runs.specs.Runs.{rows_fault, row_answer, Run}
 use Rattle.runs.specs.Inner.Progress.{open_fault, run_said, next_run}
 use Rattle.runs.proofs.Holds.{said_answer}
 use Rattle.decide.specs.declared.steps.Progress.{Progress}
 use Rattle.decide.specs.Inner.Steps.{Stepped}
+use Rattle.format.specs.Answers.{Outcome}
+use Rattle.format.specs.declared.Starts.{Starts}
+use Rattle.decision.specs.declared.Decision.{Decision}
 
 -- an accepted image: what is left is the run's own refusal
-pub opened : (x : Sections) (s : _) (n : ℕ) (fits : Bool) (f : Option Refusal) → sections.At s ≡ x → rows_fault n fits ≡ f
-    → run_said f ≡ run_said (open_fault (sections_outcome x) n fits)
-opened x s n fits f e h = ap run_said (sym h) ∙ ap (λ y. run_said (open_fault (sections_outcome y) n fits)) e
+pub opened : (x : Outcome Starts) (s : _) (n : ℕ) (fits : Bool) (f : Option Refusal) → Ok s ≡ x → rows_fault n fits ≡ f
+    → run_said f ≡ run_said (open_fault (x) n fits)
+opened x s n fits f e h = ap run_said (sym h) ∙ ap (λ y. run_said (open_fault (y) n fits)) e
 
-pub opened_refused : (x : Sections) (f : Refusal) (n : ℕ) (fits : Bool) → x ≡ sections.Refused f
-    → run_said (some f) ≡ run_said (open_fault (sections_outcome x) n fits)
-opened_refused x f n fits e = sym (ap (λ y. run_said (open_fault (sections_outcome y) n fits)) e)
+pub opened_refused : (x : Outcome Starts) (f : Refusal) (n : ℕ) (fits : Bool) → x ≡ Err f
+    → run_said (Some f) ≡ run_said (open_fault (x) n fits)
+opened_refused x f n fits e = sym (ap (λ y. run_said (open_fault (y) n fits)) e)
 
 -- the cases of the next answer
-pub next_is : (r r' : Run) (i : ℕ) (a a' : Answer) → r ≡ r' → a ≡ a' → next_run r' i a' ≡ next_run r i a
+pub next_is : (r r' : Run) (i : ℕ) (a a' : Outcome Decision) → r ≡ r' → a ≡ a' → next_run r' i a' ≡ next_run r i a
 next_is r r' i a a' e h = sym (ap₂ (λ x y. next_run x i y) e h)
 
-pub step_is : (l : List ℕ) (q : Query) (r : Run) (i : ℕ) (a : Answer) (p : Progress) → answer_outcome a ≡ answer l q
+pub step_is : (l : List ℕ) (q : Query) (r : Run) (i : ℕ) (a : Outcome Decision) (p : Progress) → a ≡ answer l q
     → p.run ≡ next_run r i a → Stepped l q r i (record { answer = a; progress = p })
 step_is l q r i a p e h =
     let k : a ≡ row_answer l q = said_answer l q a e in

@@ -2,7 +2,7 @@
 use Prim.Native.Nat.{ℕ}
 use mathlib.Core.Path.{◌≡◌, refl, sym, subst, ap, ◌∙◌}
 use mathlib.Core.Bool.{Bool, true, false}
-use mathlib.Core.Option.{Option, none, some}
+use Rattle.std.specs.Prelude.{Option, None, Some}
 use mathlib.Core.List.{List}
 use lib.ListN.{length, replicate}
 use Rattle.format.specs.declared.Section.TheVariants.{Groups}
@@ -12,7 +12,8 @@ use Rattle.format.specs.Format.{count_of, is_type}
 use Rattle.format.specs.Policy.{policy_of}
 use Rattle.format.specs.Check.{Accepted}
 use Rattle.format.specs.Claims.{IsType}
-use Rattle.format.specs.Answers.{refused, gives, outcome}
+use Rattle.std.specs.Prelude.{Ok, Err}
+use Rattle.format.specs.Answers.{outcome}
 use Rattle.decision.specs.declared.Query.{Query}
 use Rattle.decision.specs.Reading.{constraints_of}
 use Rattle.decision.specs.Decide as deciding
@@ -29,13 +30,13 @@ use Rattle.decide.proofs.TypeLaws.{set_rising}
 use Rattle.decide.proofs.MarkedLaws.{marked_of}
 
 abbrev pub option_of : Found → Option ℕ
-option_of Nothing = none
-option_of (At n) = some n
+option_of Nothing = None
+option_of (At n) = Some n
 
 found_back : (o : Option ℕ) → option_of (found_of o) ≡ o
 unfolding found_of
-found_back none = refl
-found_back (some n) = refl
+found_back None = refl
+found_back (Some n) = refl
 
 -- the decision is that of the lowest covering rule and the lowest failing constraint, and of the nearest rule
 module _ (l : List ℕ) (q : Query) where
@@ -65,15 +66,15 @@ module _ (l : List ℕ) (q : Query) where
   answer_accepted e = ap (λ x. outcome x (deciding.decide (policy_of l) q)) (or_else_next _ e)
 
 module _ (g : ℕ) (q : Query) where
-  pub query_source : is_type g q.source ≡ false → deciding.query_fault g q ≡ some (refusal 8 0)
+  pub query_source : is_type g q.source ≡ false → deciding.query_fault g q ≡ Some (refusal 8 0)
   unfolding deciding.query_fault
   query_source e = or_else_first _ (need_some _ e)
 
-  pub query_dest : is_type g q.source ≡ true → is_type g q.dest ≡ false → deciding.query_fault g q ≡ some (refusal 9 0)
+  pub query_dest : is_type g q.source ≡ true → is_type g q.dest ≡ false → deciding.query_fault g q ≡ Some (refusal 9 0)
   unfolding deciding.query_fault
   query_dest e f = or_else_next _ (need_none _ e) ∙ need_some _ f
 
-  pub query_valid : is_type g q.source ≡ true → is_type g q.dest ≡ true → deciding.query_fault g q ≡ none
+  pub query_valid : is_type g q.source ≡ true → is_type g q.dest ≡ true → deciding.query_fault g q ≡ None
   unfolding deciding.query_fault
   query_valid e f = or_else_next _ (need_none _ e) ∙ need_none _ f
 
@@ -95,8 +96,8 @@ marked_type l ms size t w c ok is e f =
     subst (λ n. Marked S ms n) (sym f') (subst (λ m. Marked S m (length S)) (sym e') (marked_of S (set_rising l w c ok)))
 
 module _ {A : Type 0} (f : Option Refusal) (a : A) where
-  pub outcome_some : (x : Refusal) → f ≡ some x → refused x ≡ outcome f a
+  pub outcome_some : (x : Refusal) → f ≡ Some x → Err x ≡ outcome f a
   outcome_some x e = rw e refl
 
-  pub outcome_none : f ≡ none → gives a ≡ outcome f a
+  pub outcome_none : f ≡ None → Ok a ≡ outcome f a
   outcome_none e = rw e refl

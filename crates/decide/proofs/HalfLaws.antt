@@ -75,7 +75,7 @@ above_out low x v (m ∷ a) b r h =
 
 -- ---- the search
 
-module _ (l : List ℕ) (at n h x : ℕ) (some : 0 < h) (room : h + h ≤ n) (r : Rising 0 (words_at l n at)) where
+module _ (l : List ℕ) (at n h x : ℕ) (Some : 0 < h) (room : h + h ≤ n) (r : Rising 0 (words_at l n at)) where
   abbrev v : ℕ
   v = word_at l (at + 2 * h)
 
@@ -190,7 +190,7 @@ last_split l n at h =
     ap (λ (k : ℕ). words_at l k at) z ∙ split l (n - 1) 1 at
     ∙ ap (λ (xs : List ℕ). words_at l (n - 1) at ++ xs) (words_at_one l (at + 2 * (n - 1)))
 
-module _ (l : List ℕ) (from count at n : ℕ) (some : 0 < count) (more : 0 < n) (r : Rising 0 (words_at l n at)) where
+module _ (l : List ℕ) (from count at n : ℕ) (Some : 0 < count) (more : 0 < n) (r : Rising 0 (words_at l n at)) where
   pub ends_first : word_at l from < word_at l at → within (words_at l count from) (words_at l n at) ≡ false
   unfolding within all_of
   ends_first e =
@@ -213,7 +213,7 @@ module _ (l : List ℕ) (from count at n : ℕ) (some : 0 < count) (more : 0 < n
       let low = above_out 0 x v (words_at l (n - 1) at) [] (subst (Rising 0) p r) (omega arith) in
       let out : is_in x (words_at l n at) ≡ false =
       ap (is_in x) p ∙ in_right x (words_at l (n - 1) at) (v ∷ []) low ∙ one_out x v (omega arith) in
-      ap (all_of (λ y. is_in y (words_at l n at))) (last_split l count from some)
+      ap (all_of (λ y. is_in y (words_at l n at))) (last_split l count from Some)
       ∙ all_of_last (λ y. is_in y (words_at l n at)) (words_at l (count - 1) from) x out
     where
       one_out : (x v : ℕ) → v < x → is_in x (v ∷ []) ≡ false

@@ -99,7 +99,7 @@ module _ {l : List ℕ} {q : Query} {ms ns : List Bool} {m n : ℕ} {ks kd : Lis
 unmarked_tells : (l : List ℕ) (ms : List Bool) (size w : ℕ) → 0 < size → w < 32768 → get_or ms w false ≡ false
     → fully_marked ms size (set_in l w) ≡ false
 unfolding fully_marked tallied
-unmarked_tells l ms size w some h e = rw (set_basic l w h) (simp e (ne_eqb 0 size (omega arith)))
+unmarked_tells l ms size w Some h e = rw (set_basic l w h) (simp e (ne_eqb 0 size (omega arith)))
 
 -- what is known of a side
 pub outside_tells :

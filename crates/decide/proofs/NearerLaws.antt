@@ -24,12 +24,10 @@ use Rattle.format.proofs.Bytes.{word_at_lem}
 use Rattle.format.proofs.Records.{records_none, records_next}
 use Rattle.format.proofs.Shapes.{stands_word}
 use Rattle.decision.specs.declared.Query.{Query}
-use Rattle.decision.specs.declared.Nearest.{Nearest}
-use Rattle.decision.specs.declared.Nearest.TheVariants.{NoRules, Near}
 use Rattle.decision.specs.Sets.{all_of, within}
 use Rattle.decision.specs.Conditions.{is_on}
 use Rattle.decision.specs.Reading.{Rule, Request, asks, rule_of, request_of}
-use Rattle.decision.specs.Decide.{tests, covers, passes, steps, nearest, nearest_by, nearest_of, first_at}
+use Rattle.decision.specs.Decide.{tests, covers, passes, steps, nearest, nearest_by, nearest_of, first_at, near, Nearest}
 use Rattle.decision.specs.Inner.OnePass.{nearer, nearest_from}
 use Rattle.decision.proofs.Search.{by_test, any_of_none}
 use Rattle.decision.proofs.Nearness.{nearest_same}
@@ -40,6 +38,7 @@ use Rattle.decide.specs.Inner.Rules.{allow_at}
 use Rattle.decide.specs.Inner.Nearer.{Uncovered, off_at, other_class_at, class_stops, stops_at, short_steps, Counts, near_of, AtNearest}
 use Rattle.decide.proofs.RuleLaws.{source_is, dest_is}
 use Rattle.decide.proofs.WalkLaws.{walk_start, walk_next, walk_hit, walk_end, all_rules}
+use Rattle.std.specs.Prelude.{None, Some}
 
 -- ---- the tests of a rule at a place
 
@@ -259,18 +258,18 @@ module _ (b : Best) (s n : ℕ) where
   unfolding nearer
   stays_best h = simp (le-ltb b.steps s h)
 
-  now_best : b.steps < s → nearer (near_of b) s n ≡ Near s n
+  now_best : b.steps < s → nearer (near_of b) s n ≡ Some (near s n)
   unfolding nearer
   now_best h = simp (lt-ltb b.steps s h)
 
 module _ {A : Type 0} (f : A → ℕ) where
-  stays : (s m n : ℕ) (xs : List A) → ((x : A) → f x ≤ s) → nearest_from f (Near s m) n xs ≡ Near s m
+  stays : (s m n : ℕ) (xs : List A) → ((x : A) → f x ≤ s) → nearest_from f (Some (near s m)) n xs ≡ Some (near s m)
   unfolding nearest_from nearer
   stays s m n [] h = refl
   stays s m n (x ∷ xs) h = simp (le-ltb s (f x) (h x)) (stays s m (suc n) xs h)
 
   -- no step at rule 0 is what a walk may begin with, where there is a rule
-  from_first : (x : A) (xs : List A) → nearest_from f NoRules 0 (x ∷ xs) ≡ nearest_from f (Near 0 0) 0 (x ∷ xs)
+  from_first : (x : A) (xs : List A) → nearest_from f None 0 (x ∷ xs) ≡ nearest_from f (Some (near 0 0)) 0 (x ∷ xs)
   unfolding nearest_from nearer
   from_first x xs =
       by_test (ltb 0 (f x))
@@ -284,16 +283,16 @@ module _ (l : List ℕ) (q : Query) where
   abbrev rest : Best → ℕ → List Rule → Nearest
   rest b n rs = nearest_from (short_steps (request_in l q)) (near_of b) n rs
 
-  pub near_empty : (count : ℕ) → count ≡ count_of l Rules → count ≡ 0 → NoRules ≡ whole
+  pub near_empty : (count : ℕ) → count ≡ count_of l Rules → count ≡ 0 → None ≡ whole
   unfolding nearest nearest_by nearest_of first_at
   near_empty count e z =
-      let none : rules_in l q.switches ≡ [] =
+      let None : rules_in l q.switches ≡ [] =
       all_rules l q.switches ∙ ap (map (rule_of (policy_of l) q.switches))
       (records_none l (start_of l Rules) (count_of l Rules) (sym e ∙ z)) in
-      rw none refl
+      rw None refl
 
   some_first : (count : ℕ) → count ≡ count_of l Rules → (count ≡ 0 → ⊥)
-      → nearest_from (short_steps (request_in l q)) NoRules 0 (rules_in l q.switches)
+      → nearest_from (short_steps (request_in l q)) None 0 (rules_in l q.switches)
       ≡ rest (record { steps = 0; rule = 0 }) 0 (rules_in l q.switches)
   some_first count e z =
       let next : count_of l Rules ≡ suc (count_of l Rules - 1) = omega (arith, z) in
@@ -338,16 +337,16 @@ module _ (l : List ℕ) (q : Query) where
           (turn b (stays_best b here n h))
 
       module _ (s : ℕ) (is : s ≡ here) (h : b.steps < s) where
-        taken : nearer (near_of b) here n ≡ Near s n
+        taken : nearer (near_of b) here n ≡ Some (near s n)
         taken = ap (λ (k : ℕ). nearer (near_of b) k n) (sym is) ∙ now_best b s n h
 
         pub near_next : (to : ℕ) → to ≡ at + get_or l at 0 → AtNearest l q (record { steps = s; rule = n }) count (n + 1) to
         near_next to = walk_next Rules (rule_of (policy_of l) q.switches) l whole (rest b) count n at w more
             (rest (record { steps = s; rule = n })) to (turn (record { steps = s; rule = n }) taken)
 
-        pub near_four : s ≡ 4 → Near 4 n ≡ whole
+        pub near_four : s ≡ 4 → Some (near 4 n) ≡ whole
         near_four e =
-            sym (walk_hit Rules (rule_of (policy_of l) q.switches) l whole (rest b) count n at w more (Near 4 n)
+            sym (walk_hit Rules (rule_of (policy_of l) q.switches) l whole (rest b) count n at w more (Some (near 4 n))
             (λ rs. turn (record { steps = s; rule = n }) taken rs
-            ∙ ap (λ (k : ℕ). nearest_from (short_steps (request_in l q)) (Near k n) (n + 1) rs) e
+            ∙ ap (λ (k : ℕ). nearest_from (short_steps (request_in l q)) (Some (near k n)) (n + 1) rs) e
             ∙ stays (short_steps (request_in l q)) 4 n (n + 1) rs (short_few (request_in l q))))

@@ -6,7 +6,7 @@
 use Prim.Native.Nat.{ℕ, ◌+◌, ◌*◌, ◌/◌, ◌<◌}
 use mathlib.Core.Path.{◌≡◌, sym, ap, subst, ◌∙◌}
 use mathlib.Core.Bool.{Bool}
-use mathlib.Core.Option.{Option, none}
+use Rattle.std.specs.Prelude.{Option, None, Ok, Err, Some}
 use mathlib.Core.List.{List, map}
 use native.Mathlib.Omega.{arith}
 use native.Mathlib.Numerals.{add-one}
@@ -14,11 +14,9 @@ use lib.ListN.{length, get_or, set, length-map, get_or-map}
 use lib.Dec.{eqb}
 use Rattle.format.specs.declared.Refusal.{Refusal}
 use Rattle.decision.specs.declared.Query.{Query}
-use Rattle.decision.specs.declared.Answer.{Answer}
-use Rattle.decision.specs.Decide.{answer_outcome, query_of}
+use Rattle.decision.specs.Decide.{query_of}
 use Rattle.decision.specs.Numbers.{decision_code}
-use Rattle.runs.specs.declared.Run.{Run}
-use Rattle.runs.specs.Runs.{run_fault, row_answer}
+use Rattle.runs.specs.Runs.{run_fault, row_answer, Run}
 use Rattle.runs.specs.Numbers.{rows_of, numbers_fault, row_code}
 use Rattle.runs.specs.Inner.Progress.{run_said, rows_for, next_run, row_at}
 use Rattle.runs.proofs.Fill.{fill, fill_next}
@@ -29,6 +27,8 @@ use Rattle.runs.proofs.Progress.{out_at, out_next, rows_most, rows_decided}
 use Rattle.decide.specs.declared.steps.Begun.{Begun}
 use Rattle.decide.specs.declared.steps.Step.{Step}
 use Rattle.decide.specs.Inner.Steps.{Begins, Stepped}
+use Rattle.format.specs.Answers.{Outcome}
+use Rattle.decision.specs.declared.Decision.{Decision}
 
 abbrev no_query : Query
 no_query = query_of 0 0 0 0 0
@@ -54,7 +54,7 @@ module _ (l ns ys : List ℕ) where
       subst (λ n. Begins l n fault b) (sym (rows_many ns)) (subst (λ x. Begins l (length ns / 6) x b) f k)
 
   module _ (i r : ℕ) (e : r ≡ rows) (h : i < r) where
-    row_none : fault ≡ none
+    row_none : fault ≡ None
     row_none = rows_decided fault (length (rows_of ns)) i (subst (λ n. i < n) e h)
 
     row_in : i < length (rows_of ns)
@@ -78,11 +78,11 @@ module _ (l ns ys : List ℕ) where
           z.run ∙ ap (λ (x : Query). next_run (out i) i (row_answer l x)) asked
           ∙ out_next l fault (rows_of ns) i no_query row_in ∙ ap out (sym (add-one i))
 
-      pub row_code_lem : (c : ℕ) → c ≡ decision_code (answer_outcome s.answer) → (zs : List ℕ) → zs ≡ fill codes ys i
+      pub row_code_lem : (c : ℕ) → c ≡ decision_code (s.answer) → (zs : List ℕ) → zs ≡ fill codes ys i
           → set zs i c ≡ fill codes ys (i + 1)
       row_code_lem c w zs y =
           let v : c ≡ row_code l (get_or (rows_of ns) i no_query) =
-          w ∙ ap (λ (x : Answer). decision_code (answer_outcome x)) z.answer ∙ answer_code l q ∙ ap (row_code l) asked in
+          w ∙ ap (λ (x : Outcome Decision). decision_code (x)) z.answer ∙ answer_code l q ∙ ap (row_code l) asked in
           ap (λ (x : List ℕ). set x i c) y
           ∙ ap (set (fill codes ys i) i) (v ∙ sym (get_or-map (row_code l) (rows_of ns) i no_query))
           ∙ fill_next codes ys i (row_code l no_query)

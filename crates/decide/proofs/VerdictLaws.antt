@@ -12,7 +12,7 @@ use Prim.Native.Nat.{ℕ, ◌+◌, ◌/◌, ◌%◌, ◌≤◌, ◌<◌}
 use native.Mathlib.Omega.{arith}
 use mathlib.Core.Path.{◌≡◌, refl, sym, subst, ap, ◌∙◌}
 use mathlib.Core.Bool.{Bool, true, false}
-use mathlib.Core.Option.{some}
+use Rattle.std.specs.Prelude.{Some}
 use mathlib.Core.List.{List, [], ◌∷◌, map}
 use lib.ListN.{length, get_or, set, replicate, get_or-eq_default}
 use lib.Seq.{get_or-set_same, get_or-set_other, set_out}
@@ -58,8 +58,8 @@ any_named_lem l = ap (any_of names_switch) (policy_rules l ∙ sym (same_map _))
 no_switches : (l : List ℕ) → any_named l ≡ false → NoSwitches (policy_of l)
 unfolding any_named names_switch
 no_switches l e r m k =
-    let none : names_switch r ≡ false = any_of_none names_switch e m in
-    let low : leb 2 (get_or r 10 0) ≡ false = simp (eq-eqb (get_or r 1 0) 2 k) at none in
+    let None : names_switch r ≡ false = any_of_none names_switch e m in
+    let low : leb 2 (get_or r 10 0) ≡ false = simp (eq-eqb (get_or r 1 0) 2 k) at None in
     leb-false 2 (get_or r 10 0) low
 
 -- ---- what is kept
@@ -267,7 +267,7 @@ module _ (l : List ℕ) (w : ℕ) where
       }
 
 -- a refused image is not accepted
-pub refused_not : (l : List ℕ) (f : Refusal) → check l ≡ some f → Accepted l → ⊥
+pub refused_not : (l : List ℕ) (f : Refusal) → check l ≡ Some f → Accepted l → ⊥
 refused_not l f e a = (let z : ◌≡◌ {A = ℕ} 0 1 = cc in omega arith)
 
 -- ---- what a query is lent, and what it leaves

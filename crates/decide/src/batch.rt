@@ -1,7 +1,7 @@
 // A run: many queries on one policy, each decided as the single query is. The image is checked once, and what does not depend
 // on the row is found once: the groups' places, and what the rules say of each constraint, under each of two words.
 ghost use Rattle.std.specs.Prelude.{◌≡◌, ◌+◌, ◌*◌, ◌<◌, length, eqb};
-ghost use Rattle.runs.specs.Runs.{run_of, answers_after, run_outcome};
+ghost use Rattle.runs.specs.Runs.{run_of, answers_after};
 ghost use Rattle.runs.specs.Numbers.{word_from, numbers_run, codes_after};
 ghost use Rattle.runs.specs.Inner.Progress.{row_at};
 
@@ -13,7 +13,7 @@ use runs::Run;
 // A run of 1 to 64 rows: each slot gets what its row's query is answered, a refusal included. A refused call leaves the slots as
 // they were.
 pub fn run(image: &[u8], queries: &[Query], answers: &mut [Answer]) -> Run
-    ensures { (run_outcome result ≡ run_of image.now queries.now (length answers.old))
+    ensures { (result ≡ run_of image.now queries.now (length answers.old))
         × (answers.new ≡ answers_after image.now queries.now answers.old) }
 {
     let begun = begin_queries(image, queries.len(), answers.len());
@@ -77,7 +77,7 @@ fn six_each(numbers: usize, slots: usize) -> bool
 
 // The same run over numbers: six for each row, its word's halves last, and one for each answer.
 pub fn run_numbers(image: &[u8], queries: &[u16], answers: &mut [u64]) -> Run
-    ensures { (run_outcome result ≡ numbers_run image.now queries.now (length answers.old))
+    ensures { (result ≡ numbers_run image.now queries.now (length answers.old))
         × (answers.new ≡ codes_after image.now queries.now answers.old) }
 {
     let fits = six_each(queries.len(), answers.len());

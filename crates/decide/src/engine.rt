@@ -1,7 +1,6 @@
 // The decision on an image and a query.
 ghost use Rattle.std.specs.Prelude.{◌≡◌};
 ghost use Rattle.format.specs.Policy.{policy_of};
-ghost use Rattle.format.specs.Answers.{gives};
 ghost use Rattle.decision.specs.Decide as deciding;
 ghost use Rattle.decide.specs.Inner.Parts.{Ready, Surveyed, set_in};
 ghost use Rattle.decide.specs.Inner.Marks.{Marked};
@@ -33,8 +32,8 @@ fn judge_marked(
     requires { Ready image.now groups.now s × deciding.Valid image.now q
         × Marked (set_in image.now q.source) source.now sources
         × Marked (set_in image.now q.dest) dest.now dests × KeptVerdicts image.now q.switches verdicts.old }
-    ensures { Leaves (gives (deciding.decide (policy_of image.now) q))
-        (Written image.now q.switches verdicts.old verdicts.new) (deciding.answer_outcome result) }
+    ensures { Leaves (Ok (deciding.decide (policy_of image.now) q))
+        (Written image.now q.switches verdicts.old verdicts.new) (result) }
 {
     let mut ksource = [0u8; 256];
     let mut kdest = [0u8; 256];
@@ -94,9 +93,9 @@ fn judge(
 ) -> Answer
     requires { Ready image.now groups.now s × deciding.Valid image.now q
         × Tables image.now q.switches verdicts.old source.old dest.old }
-    ensures { Leaves (gives (deciding.decide (policy_of image.now) q))
+    ensures { Leaves (Ok (deciding.decide (policy_of image.now) q))
         (Left image.now q.switches verdicts.old verdicts.new source.new dest.new)
-        (deciding.answer_outcome result) }
+        (result) }
 {
     let from = wide_word(q.source);
     let to = wide_word(q.dest);
@@ -122,7 +121,7 @@ pub(crate) fn decide_surveyed(
     requires { Surveyed image.now groups.now sections × Tables image.now q.switches verdicts.old source.old dest.old }
     ensures { Leaves (deciding.answer image.now q)
         (Left image.now q.switches verdicts.old verdicts.new source.new dest.new)
-        (deciding.answer_outcome result) }
+        (result) }
 {
     match sections {
         Sections::Refused(f) => Answer::Refused(f),
@@ -147,7 +146,7 @@ pub(crate) fn decide_surveyed(
 
 // The engine's answer: the decision with its rule and its constraint, or refusals 1 to 9 with the place.
 pub fn decide(image: &[u8], q: Query) -> Answer
-    ensures { deciding.answer_outcome result ≡ deciding.answer image.now q }
+    ensures { result ≡ deciding.answer image.now q }
 {
     let mut verdicts = [0u8; 256];
     let mut source = [false; 1024];

@@ -1,6 +1,5 @@
 // The steps of a run: what it begins with, and each of its rows.
 ghost use Rattle.std.specs.Prelude.{◌≡◌};
-ghost use Rattle.format.specs.Answers.{sections_outcome};
 ghost use Rattle.runs.specs.Runs.{run_fault, queries_fault};
 ghost use Rattle.runs.specs.Inner.Progress.{open_fault, run_said, rows_for, next_run};
 ghost use Rattle.decide.specs.Inner.Parts.{Surveyed};
@@ -40,7 +39,7 @@ pub(crate) struct Step {
 
 // What a run comes to before its first row. The refusals in their order: the image's, then 16, then 17.
 fn opening(sections: Sections, rows: usize, fits: bool) -> Run
-    ensures { result ≡ run_said (open_fault (sections_outcome sections) rows fits) }
+    ensures { result ≡ run_said (open_fault (sections) rows fits) }
 {
     match sections {
         Sections::Refused(f) => Run::Refused(f),

@@ -8,15 +8,16 @@ use native.Mathlib.Omega.{arith}
 use mathlib.Core.Path.{◌≡◌, refl, ap}
 use mathlib.Core.Logic.{◌⊎◌, ⊎_elim}
 use mathlib.Core.Bool.{Bool, true, false, ◌&&◌, cond}
-use mathlib.Core.Option.{Option, none, some}
+use Rattle.std.specs.Prelude.{Option, None, Some}
 use mathlib.Core.List.{List, Memᴰ}
 use lib.Dec.{eqb}
 use borrow.Author.Tests.{eqb-false}
 use Rattle.format.proofs.Tests.{both, false_not_true}
-use Rattle.decision.specs.declared.Nearest.{Nearest}
 use Rattle.decision.specs.Sets.{any_of, all_of, within}
 use Rattle.decision.specs.Reading.{Rule, Constraint, Request, asks}
-use Rattle.decision.specs.Decide.{tests, covers, reaches, separation_broken, roster_broken, companion_broken, broken, applies, inside, fails, first_at, nearest, Decision, not_permitted, permitted, unknown, decision_of, judge}
+use Rattle.decision.specs.declared.Decision.{Decision}
+use Rattle.decision.specs.declared.Decision.TheVariants.{NotPermitted, Permitted, UnKnown}
+use Rattle.decision.specs.Decide.{tests, covers, reaches, separation_broken, roster_broken, companion_broken, broken, applies, inside, fails, first_at, nearest, decision_of, judge, Nearest}
 use Rattle.decision.specs.Order.{height}
 use Rattle.decision.proofs.Search.{is_found, first_at_any}
 use Rattle.decision.proofs.Separation.{reaches_both, live_on, wider_on, separation_kept}
@@ -24,31 +25,31 @@ use Rattle.decision.proofs.Implies.{◌⟹◌, id⟹, eq⟹, and⟹, not⟹, con
 
 -- ---- the height of a decision
 
-pub height_denied : (x : Nearest) → height (not_permitted x) ≡ 0
+pub height_denied : (x : Nearest) → height (NotPermitted x) ≡ 0
 unfolding height
 height_denied x = refl
 
-pub height_permitted : (r : ℕ) → height (permitted r) ≡ 1
+pub height_permitted : (r : ℕ) → height (Permitted r) ≡ 1
 unfolding height
 height_permitted r = refl
 
-pub height_unknown : (r c : ℕ) → height (unknown r c) ≡ 2
+pub height_unknown : (r c : ℕ) → height (UnKnown r c) ≡ 2
 unfolding height
 height_unknown r c = refl
 
 pub height_most : (d : Decision) → height d ≤ 2
 unfolding height
-height_most (not_permitted x) = omega arith
-height_most (permitted r) = omega arith
-height_most (unknown r c) = omega arith
+height_most (NotPermitted x) = omega arith
+height_most (Permitted r) = omega arith
+height_most (UnKnown r c) = omega arith
 
 module _ {C : Type 0} (says : Decision → C) (n p u : C)
-    (none_is : (x : Nearest) → says (not_permitted x) ≡ n) (permitted-is : (r : ℕ) → says (permitted r) ≡ p) (unknown-is : (r c : ℕ) → says (unknown r c) ≡ u) where
+    (none_is : (x : Nearest) → says (NotPermitted x) ≡ n) (permitted-is : (r : ℕ) → says (Permitted r) ≡ p) (unknown-is : (r c : ℕ) → says (UnKnown r c) ≡ u) where
   found_says : (x : Nearest) (a b : Option ℕ) → says (decision_of x a b) ≡ cond (is_found a) (cond (is_found b) u p) n
   unfolding decision_of is_found
-  found_says x none b = none_is x
-  found_says x (some r) none = permitted-is r
-  found_says x (some r) (some c) = unknown-is r c
+  found_says x None b = none_is x
+  found_says x (Some r) None = permitted-is r
+  found_says x (Some r) (Some c) = unknown-is r c
 
   pub judge_says : (rs : List Rule) (cs : List Constraint) (a : Request) → says (judge rs cs a) ≡ cond (any_of (covers a) rs) (cond (any_of (fails rs a) cs) u p) n
   unfolding judge

@@ -9,7 +9,7 @@ use Prim.Native.Nat.{ℕ, ◌≤◌, ◌<◌}
 use mathlib.Core.Path.{◌≡◌, refl, sym, ap, ◌∙◌}
 use mathlib.Core.Logic.{◌⊎◌, inl, inr}
 use mathlib.Core.Bool.{Bool}
-use mathlib.Core.Option.{none, some}
+use Rattle.std.specs.Prelude.{None, Some}
 use mathlib.Core.List.{List, map}
 use native.Mathlib.Omega.{arith}
 use lib.ListN.{length, length-map}
@@ -19,14 +19,15 @@ use Rattle.format.specs.Refusals.{refusal, need}
 use Rattle.format.specs.Format.{is_type, count_of}
 use Rattle.format.specs.Policy.{Policy, policy_of}
 use Rattle.format.specs.Check.{check, Accepted}
-use Rattle.format.specs.Answers.{refused, gives, outcome}
+use Rattle.std.specs.Prelude.{Ok, Err}
+use Rattle.format.specs.Answers.{outcome}
 use Rattle.format.proofs.Chain.{or_else_first, or_else_none, or_else_refuses, need_none, need_refuses, outcome_refused}
 use Rattle.format.proofs.ByCase.{records_of_rules, records_of_constraints}
 use Rattle.format.proofs.Accepted.{records_count}
 use Rattle.decision.specs.declared.Query.{Query}
-use Rattle.decision.specs.declared.Nearest.TheVariants.{Near}
 use Rattle.decision.specs.Reading.{request_of, rules_of, constraints_of}
-use Rattle.decision.specs.Decide.{decide, not_permitted, permitted, unknown, query_fault, answer_fault, answer, Valid}
+use Rattle.decision.specs.declared.Decision.TheVariants.{NotPermitted, Permitted, UnKnown}
+use Rattle.decision.specs.Decide.{decide, query_fault, answer_fault, answer, Valid, near}
 use Rattle.decision.specs.Lowest.{Lowest}
 use Rattle.decision.proofs.Search.{lowest_inside}
 use Rattle.decision.proofs.Lowest.{lowest_answered}
@@ -34,9 +35,9 @@ use Rattle.decision.proofs.Steps.{nearest_passes}
 
 module _ (l : List ℕ) (q : Query) where
   abbrev Named : Refusal → Type 0
-  Named f = (check l ≡ some f) ⊎ ((f ≡ refusal 8 0) ⊎ (f ≡ refusal 9 0))
+  Named f = (check l ≡ Some f) ⊎ ((f ≡ refusal 8 0) ⊎ (f ≡ refusal 9 0))
 
-  fault_named : (f : Refusal) → answer_fault l q ≡ some f → Named f
+  fault_named : (f : Refusal) → answer_fault l q ≡ Some f → Named f
   unfolding answer_fault query_fault
   fault_named =
       let g : ℕ = count_of l Groups in
@@ -45,11 +46,11 @@ module _ (l : List ℕ) (q : Query) where
       (need_refuses Named (is_type g q.source) (refusal 8 0) (inr (inl refl)))
       (λ _. need_refuses Named (is_type g q.dest) (refusal 9 0) (inr (inr refl))))
 
-  pub answer_refused : (f : Refusal) → answer l q ≡ refused f → (check l ≡ some f) ⊎ ((f ≡ refusal 8 0) ⊎ (f ≡ refusal 9 0))
+  pub answer_refused : (f : Refusal) → answer l q ≡ Err f → (check l ≡ Some f) ⊎ ((f ≡ refusal 8 0) ⊎ (f ≡ refusal 9 0))
   unfolding answer
   answer_refused f e = fault_named f (outcome_refused (answer_fault l q) (decide (policy_of l) q) (sym e))
 
-  pub image_refused : (f : Refusal) → check l ≡ some f → answer l q ≡ refused f
+  pub image_refused : (f : Refusal) → check l ≡ Some f → answer l q ≡ Err f
   unfolding answer answer_fault
   image_refused f e = ap (λ x. outcome x (decide (policy_of l) q)) (or_else_first _ e)
 
@@ -65,19 +66,19 @@ module _ (l : List ℕ) where
   constraints_are = ap length (sym (records_of_constraints (policy_of l))) ∙ records_count l Constraints
 
   module _ (q : Query) where
-    pub denied_inside : (s n : ℕ) → answer l q ≡ gives (not_permitted (Near s n)) → (s ≤ 4) × (n < count_of l Rules)
+    pub denied_inside : (s n : ℕ) → answer l q ≡ Ok (NotPermitted (Some (near s n))) → (s ≤ 4) × (n < count_of l Rules)
     denied_inside s n e =
         let f = nearest_passes l q s n e in
         (f.2, omega (arith, f.0, rules_are))
 
-    pub permitted_inside : (r : ℕ) → answer l q ≡ gives (permitted r) → r < count_of l Rules
+    pub permitted_inside : (r : ℕ) → answer l q ≡ Ok (Permitted r) → r < count_of l Rules
     unfolding rules_of
-    permitted_inside r e = inside _ _ (policy_of l).rules r (count_of l Rules) rules_are (lowest_answered l q (permitted r) e).0
+    permitted_inside r e = inside _ _ (policy_of l).rules r (count_of l Rules) rules_are (lowest_answered l q (Permitted r) e).0
 
-    pub unknown_inside : (r c : ℕ) → answer l q ≡ gives (unknown r c) → (r < count_of l Rules) × (c < count_of l Constraints)
+    pub unknown_inside : (r c : ℕ) → answer l q ≡ Ok (UnKnown r c) → (r < count_of l Rules) × (c < count_of l Constraints)
     unfolding rules_of constraints_of
     unknown_inside r c e =
-        let n = lowest_answered l q (unknown r c) e in (
+        let n = lowest_answered l q (UnKnown r c) e in (
           inside _ _ (policy_of l).rules r (count_of l Rules) rules_are n.0,
           inside _ _ (policy_of l).constraints c (count_of l Constraints) constraints_are n.1,
         )
@@ -89,10 +90,10 @@ unfolding decide
 decide_alike p p' q q' h k l = rw (h, k, l)
 
 module _ (l : List ℕ) (q : Query) where
-  pub valid_none : Valid l q → query_fault (count_of l Groups) q ≡ none
+  pub valid_none : Valid l q → query_fault (count_of l Groups) q ≡ None
   unfolding query_fault
   valid_none v = or_else_none (need_none _ v.0) (need_none _ v.1)
 
-  pub answer_gives : Accepted l → Valid l q → answer l q ≡ gives (decide (policy_of l) q)
+  pub answer_gives : Accepted l → Valid l q → answer l q ≡ Ok (decide (policy_of l) q)
   unfolding answer answer_fault
   answer_gives e v = ap (λ x. outcome x (decide (policy_of l) q)) (or_else_none e (valid_none v))

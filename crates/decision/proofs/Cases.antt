@@ -14,15 +14,17 @@ use Rattle.format.specs.Format.{known_version, limit_of, count_place, count_of, 
 use Rattle.format.specs.Policy.{body_of, image_of, record_at, place_after, records_at, start_of, place_of, end_of, policy_of}
 use Rattle.format.specs.Twins.{same_bytes, listed, first_twin, twin_at, twin_fault}
 use Rattle.format.specs.Check.{read_fields, read_of, read_fault, section_fault, count_fault, header_fault, body_fault, rest_fault, check, image_in, check_front}
-use Rattle.format.specs.Answers.{Outcome, refused, gives}
+use Rattle.std.specs.Prelude.{Ok, Err, None, Some}
+use Rattle.format.specs.Answers.{Outcome}
 use Rattle.format.specs.Sample.{sample, empty}
 use Rattle.extension.specs.Add.{section_of, with_record, field_fault, new_number, added_twin, own_fault, add_fault, new_image, overwrite, buffer_after}
 use Rattle.decision.specs.declared.Query.{Query}
-use Rattle.decision.specs.declared.Nearest.TheVariants.{NoRules, Near}
 use Rattle.decision.specs.Sets.{any_of, all_of, is_in, set_of, union_of, within, touches}
 use Rattle.decision.specs.Conditions.{switch_on, is_on}
 use Rattle.decision.specs.Reading.{asks, live, rule_of, constraint_of, request_of, rules_of, constraints_of}
-use Rattle.decision.specs.Decide.{tests, covers, passes, steps, nearest_of, greatest, nearest_by, nearest, reaches, separation_broken, roster_broken, companion_broken, broken, applies, inside, fails, first_at, Decision, not_permitted, permitted, unknown, decision_of, judge, decide, query_fault, answer_fault, answer, query_of}
+use Rattle.decision.specs.declared.Decision.{Decision}
+use Rattle.decision.specs.declared.Decision.TheVariants.{NotPermitted, Permitted, UnKnown}
+use Rattle.decision.specs.Decide.{tests, covers, passes, steps, nearest_of, greatest, nearest_by, nearest, reaches, separation_broken, roster_broken, companion_broken, broken, applies, inside, fails, first_at, decision_of, judge, decide, query_fault, answer_fault, answer, query_of, near}
 use Rattle.decision.specs.Order.{NoCompanion}
 use Rattle.decision.specs.Cases.{with_space, extended, g0, allow, companion, one_member, banned, ask, ask_on, cases, given, expected_of, MarkedCases, MarkedAdds, MarkedOrder}
 use Rattle.decision.specs.Clauses.{allow_group, companion_of_group, roster_of_group, back_transition, long_roster, clause_cases, ClauseCases, RefusalCases}
@@ -152,22 +154,22 @@ abbrev asked : ℕ → ℕ → ℕ → ℕ → Query
 asked s d c a = query_of s d c a 0
 
 pub record Answers : Type 0 where
-  pub member : answer sample (asked 10 21 5 1) ≡ gives (permitted 0)
-  pub group : answer sample (asked 10 g0 5 1) ≡ gives (permitted 0)
-  pub off : answer sample (asked 13 21 5 1) ≡ gives (not_permitted (Near 1 0))
-  pub no_rules : answer empty (asked 0 0 0 0) ≡ gives (not_permitted NoRules)
-  pub transition : answer sample (asked 12 20 9 9) ≡ gives (permitted 2)
-  pub rostered : answer (extended sample (allow 14 g0 7 7)) (asked 10 21 5 1) ≡ gives (unknown 0 0)
-  pub companied : answer (extended sample companion) (asked 10 21 5 1) ≡ gives (unknown 0 2)
-  pub no_source_lem : answer sample (asked 1024 21 5 1) ≡ refused (refusal 8 0)
-  pub no_group_1 : answer sample (asked 32769 21 5 1) ≡ refused (refusal 8 0)
+  pub member : answer sample (asked 10 21 5 1) ≡ Ok (Permitted 0)
+  pub group : answer sample (asked 10 g0 5 1) ≡ Ok (Permitted 0)
+  pub off : answer sample (asked 13 21 5 1) ≡ Ok (NotPermitted (Some (near 1 0)))
+  pub no_rules : answer empty (asked 0 0 0 0) ≡ Ok (NotPermitted None)
+  pub transition : answer sample (asked 12 20 9 9) ≡ Ok (Permitted 2)
+  pub rostered : answer (extended sample (allow 14 g0 7 7)) (asked 10 21 5 1) ≡ Ok (UnKnown 0 0)
+  pub companied : answer (extended sample companion) (asked 10 21 5 1) ≡ Ok (UnKnown 0 2)
+  pub no_source_lem : answer sample (asked 1024 21 5 1) ≡ Err (refusal 8 0)
+  pub no_group_1 : answer sample (asked 32769 21 5 1) ≡ Err (refusal 8 0)
 
 pub marked_answers : MarkedCases → Answers
 unfolding cases given expected_of ask ask_on
 marked_answers e = record { member = row 0; group = row 1; off = row 2; no_rules = row 10; transition = row 3; rostered = row 6; companied = row 8; no_source_lem = row 11; no_group_1 = row 12 }
   where
-    row : (n : ℕ) → get_or (map given cases) n (gives (not_permitted NoRules)) ≡ get_or (map expected_of cases) n (gives (not_permitted NoRules))
-    row n = ap (λ (xs : List (Outcome Decision)). get_or xs n (gives (not_permitted NoRules))) e
+    row : (n : ℕ) → get_or (map given cases) n (Ok (NotPermitted None)) ≡ get_or (map expected_of cases) n (Ok (NotPermitted None))
+    row n = ap (λ (xs : List (Outcome Decision)). get_or xs n (Ok (NotPermitted None))) e
 
 pub cases_many : length cases ≡ 14
 unfolding cases
@@ -180,16 +182,16 @@ steps_many = refl
 
 pub record StepAnswers : Type 0 where
   pub all_off :
-      answer (extended (extended empty (off (allow 10 21 5 1))) (off (allow 10 21 5 2))) (asked 10 21 5 1) ≡ gives (not_permitted (Near 0 0))
-  pub lowest : answer (extended (extended empty (allow 10 21 5 1)) (allow 10 21 5 2)) (asked 10 21 5 3) ≡ gives (not_permitted (Near 4 0))
-  pub last_rule : answer (extended sample (allow 14 21 5 7)) (asked 14 21 5 8) ≡ gives (not_permitted (Near 4 4))
+      answer (extended (extended empty (off (allow 10 21 5 1))) (off (allow 10 21 5 2))) (asked 10 21 5 1) ≡ Ok (NotPermitted (Some (near 0 0)))
+  pub lowest : answer (extended (extended empty (allow 10 21 5 1)) (allow 10 21 5 2)) (asked 10 21 5 3) ≡ Ok (NotPermitted (Some (near 4 0)))
+  pub last_rule : answer (extended sample (allow 14 21 5 7)) (asked 14 21 5 8) ≡ Ok (NotPermitted (Some (near 4 4)))
 
 pub step_answers : StepCases → StepAnswers
 unfolding step_cases given expected_of ask ask_on
 step_answers e = record { all_off = row 7; lowest = row 14; last_rule = row 17 }
   where
-    row : (n : ℕ) → get_or (map given step_cases) n (gives (not_permitted NoRules)) ≡ get_or (map expected_of step_cases) n (gives (not_permitted NoRules))
-    row n = ap (λ (xs : List (Outcome Decision)). get_or xs n (gives (not_permitted NoRules))) e
+    row : (n : ℕ) → get_or (map given step_cases) n (Ok (NotPermitted None)) ≡ get_or (map expected_of step_cases) n (Ok (NotPermitted None))
+    row n = ap (λ (xs : List (Outcome Decision)). get_or xs n (Ok (NotPermitted None))) e
 
 -- the sample's rules: rule 0, of class 5 and action 1; rule 2, a transition; rule 3, which is off; and the empty policy's
 pub record SampleRules : Type 0 where

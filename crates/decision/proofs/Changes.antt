@@ -4,18 +4,20 @@ use native.Mathlib.Omega.{arith}
 use mathlib.Core.Path.{◌≡◌, refl, sym, ap, ap₂, ◌∙◌}
 use mathlib.Core.Logic.{◌⊎◌, inl, inr, ⊎_elim}
 use mathlib.Core.Bool.{Bool, true, false, ◌&&◌}
-use mathlib.Core.Option.{Option, none, some}
+use Rattle.std.specs.Prelude.{Option, None, Some}
 use mathlib.Core.List.{List, [], ◌∷◌, Memᴰ}
 use lib.ListN.{get_or, get_or-map}
 use lib.Dec.{eqb}
 use borrow.Author.Tests.{eqb-true}
 use Rattle.format.specs.declared.Refusal.{Refusal}
 use Rattle.format.specs.Policy.{Policy, policy_of}
-use Rattle.format.specs.Answers.{gives, outcome}
+use Rattle.std.specs.Prelude.{Ok}
+use Rattle.format.specs.Answers.{outcome}
 use Rattle.format.proofs.Tests.{false_not_true}
 use Rattle.decision.specs.declared.Query.{Query}
 use Rattle.decision.specs.Reading.{Rule, Constraint, Request, constraint_of, request_of, rules_of, constraints_of}
-use Rattle.decision.specs.Decide.{covers, nearest, applies, inside, fails, first_at, unknown, decision_of, judge, decide, answer_fault, answer}
+use Rattle.decision.specs.declared.Decision.TheVariants.{UnKnown}
+use Rattle.decision.specs.Decide.{covers, nearest, applies, inside, fails, first_at, decision_of, judge, decide, answer_fault, answer}
 use Rattle.decision.specs.Separation.{fails_was, decide_was, answer_was, AnswersRise, Raised, AnswersChange}
 use Rattle.decision.proofs.Search.{by_test, first_at_some}
 use Rattle.decision.proofs.Above.{height_unknown, height_most}
@@ -26,21 +28,21 @@ use Rattle.decision.proofs.Was.{was_other, fails⟹, sourced}
 
 module _ {A : Type 0} (f g : A → Bool) (d : A) where
   -- what is found from n on is at n or later
-  later : (n : ℕ) (xs : List A) → (first_at f n xs ≡ none) ⊎ ((m : ℕ) × (n ≤ m) × (first_at f n xs ≡ some m))
+  later : (n : ℕ) (xs : List A) → (first_at f n xs ≡ None) ⊎ ((m : ℕ) × (n ≤ m) × (first_at f n xs ≡ Some m))
   later n xs = go (first_at f n xs) refl
     where
-      go : (o : Option ℕ) → first_at f n xs ≡ o → (o ≡ none) ⊎ ((m : ℕ) × (n ≤ m) × (o ≡ some m))
-      go none e = inl refl
-      go (some m) e = let r = first_at_some f n m xs e in inr (m, omega (arith, r.1), refl)
+      go : (o : Option ℕ) → first_at f n xs ≡ o → (o ≡ None) ⊎ ((m : ℕ) × (n ≤ m) × (o ≡ Some m))
+      go None e = inl refl
+      go (Some m) e = let r = first_at_some f n m xs e in inr (m, omega (arith, r.1), refl)
 
   pub record Moved (n : ℕ) (xs : List A) : Type 0 where
     pub at : ℕ
     pub number : ℕ
     pub is : number ≡ n + at
-    pub found : first_at g n xs ≡ some number
+    pub found : first_at g n xs ≡ Some number
     pub before : f (get_or xs at d) ≡ false
     pub now : g (get_or xs at d) ≡ true
-    pub other : (first_at f n xs ≡ none) ⊎ ((m : ℕ) × (number < m) × (first_at f n xs ≡ some m))
+    pub other : (first_at f n xs ≡ None) ⊎ ((m : ℕ) × (number < m) × (first_at f n xs ≡ Some m))
 
   pub moved : (n : ℕ) (xs : List A) → ((x : A) → Memᴰ x xs → f x ≡ true → g x ≡ true) → (first_at g n xs ≡ first_at f n xs) ⊎ Moved n xs
   unfolding first_at
@@ -98,28 +100,28 @@ module _ (l : List ℕ) (q : Query) where
   Later = Moved (fails_was (rules_of p q.switches) a) (fails (rules_of p q.switches) a) (constraint_of p []) 0 (constraints_of p)
 
   covered :
-      answer l q ≡ gives (decide p q) → answer_was l q ≡ gives (decide_was p q) → Later
+      answer l q ≡ Ok (decide p q) → answer_was l q ≡ Ok (decide_was p q) → Later
       → (r : Option ℕ) → first_at (covers a) 0 (rules_of p q.switches) ≡ r → (answer l q ≡ answer_was l q) ⊎ Raised l q
   unfolding decide decide_was judge decision_of
-  covered g w k none h = inl (g ∙ ap gives (ap₂ (decision_of (nearest a (rules_of p q.switches))) h refl) ∙ sym (w ∙ ap gives (ap₂ (decision_of (nearest a (rules_of p q.switches))) h refl)))
-  covered g w k (some r) h =
+  covered g w k None h = inl (g ∙ ap Ok (ap₂ (decision_of (nearest a (rules_of p q.switches))) h refl) ∙ sym (w ∙ ap Ok (ap₂ (decision_of (nearest a (rules_of p q.switches))) h refl)))
+  covered g w k (Some r) h =
       inr (record {
         rule = r;
         constraint = k.number;
-        is = g ∙ ap gives (ap₂ (decision_of (nearest a (rules_of p q.switches))) h k.found);
+        is = g ∙ ap Ok (ap₂ (decision_of (nearest a (rules_of p q.switches))) h k.found);
         separates = ap (λ n. get_or (get_or p.constraints n []) 10 0) (omega (arith, k.is)) ∙ sym (predicate_at p k.at) ∙ separates (rules_of p q.switches) a _ k.before k.now;
         was = ⊎_elim
-            (λ n. inl (w ∙ ap gives (ap₂ (decision_of (nearest a (rules_of p q.switches))) h n)))
-            (λ n. inr (n.0, n.1, w ∙ ap gives (ap₂ (decision_of (nearest a (rules_of p q.switches))) h n.2)))
+            (λ n. inl (w ∙ ap Ok (ap₂ (decision_of (nearest a (rules_of p q.switches))) h n)))
+            (λ n. inr (n.0, n.1, w ∙ ap Ok (ap₂ (decision_of (nearest a (rules_of p q.switches))) h n.2)))
             k.other;
       })
 
   by_fault : (o : Option Refusal) → answer_fault l q ≡ o → (answer l q ≡ answer_was l q) ⊎ Raised l q
   unfolding answer answer_was decide decide_was judge
-  by_fault (some f) e = inl (rw e refl)
-  by_fault none e =
-      let g : answer l q ≡ gives (decide p q) = ap (λ (o : Option Refusal). outcome o (decide p q)) e in
-      let w : answer_was l q ≡ gives (decide_was p q) = ap (λ (o : Option Refusal). outcome o (decide_was p q)) e in
+  by_fault (Some f) e = inl (rw e refl)
+  by_fault None e =
+      let g : answer l q ≡ Ok (decide p q) = ap (λ (o : Option Refusal). outcome o (decide p q)) e in
+      let w : answer_was l q ≡ Ok (decide_was p q) = ap (λ (o : Option Refusal). outcome o (decide_was p q)) e in
       let s = sourced l q.switches (decided_only l q (decide p q) g).0 in
       ⊎_elim
       (λ k. inl (ap (λ (c : Option ℕ). outcome (answer_fault l q) (decision_of (nearest a (rules_of p q.switches)) (first_at (covers a) 0 (rules_of p q.switches)) c)) k))
@@ -133,5 +135,5 @@ pub answers_rise : AnswersRise
 answers_rise l q d e =
     ⊎_elim
     (λ h. record { now = d; answered = h ∙ e; above = omega arith })
-    (λ r. record { now = unknown r.rule r.constraint; answered = r.is; above = omega (arith, height_most d, height_unknown r.rule r.constraint) })
+    (λ r. record { now = UnKnown r.rule r.constraint; answered = r.is; above = omega (arith, height_most d, height_unknown r.rule r.constraint) })
     (answers_change l q)

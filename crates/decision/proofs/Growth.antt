@@ -14,7 +14,7 @@ use Rattle.format.specs.Bytes.{Bytes}
 use Rattle.format.specs.Format.{is_type, count_of}
 use Rattle.format.specs.Policy.{Policy, records_of, image_of, policy_of}
 use Rattle.format.specs.Check.{Accepted, image_in}
-use Rattle.format.specs.Answers.{gives}
+use Rattle.std.specs.Prelude.{Ok}
 use Rattle.format.specs.Claims.{IsType, WellFormed}
 use Rattle.format.proofs.ByCase.{records_of_groups, records_of_rules, records_of_constraints}
 use Rattle.format.proofs.Fields.{is_type_lem}
@@ -24,7 +24,8 @@ use Rattle.extension.specs.Add.{section_of, buffer_after}
 use Rattle.extension.proofs.Adds.{with_groups_lem, with_rules, with_constraints, rules_with, added_accepted, groups_kept}
 use Rattle.decision.specs.declared.Query.{Query}
 use Rattle.decision.specs.Sets.{is_in, set_of, all_of, within}
-use Rattle.decision.specs.Decide.{Decision, answer}
+use Rattle.decision.specs.declared.Decision.{Decision}
+use Rattle.decision.specs.Decide.{answer}
 use Rattle.decision.specs.Order.{height, Holds, Keeps}
 use Rattle.decision.specs.Growth.{AddedGrows, AddedOrder, SameRules, reordered, DecidedLevel, RulesReordered, MemberOrder}
 use Rattle.decision.proofs.Order.{answer_types, keeps_same, grown_order, query_order, decided}
@@ -50,8 +51,8 @@ type_more g g' t h (inl k) = inl k
 type_more g g' t h (inr q) = inr (q.0, omega (arith, q.1), q.2)
 
 -- a query that is valid on a policy is valid on an accepted one with at least as many groups
-still_decided : (l₁ l₂ : List ℕ) (q : Query) (d : Decision) → answer l₁ q ≡ gives d → Accepted l₂
-    → length (policy_of l₁).groups ≤ length (policy_of l₂).groups → (d₂ : Decision) × (answer l₂ q ≡ gives d₂)
+still_decided : (l₁ l₂ : List ℕ) (q : Query) (d : Decision) → answer l₁ q ≡ Ok d → Accepted l₂
+    → length (policy_of l₁).groups ≤ length (policy_of l₂).groups → (d₂ : Decision) × (answer l₂ q ≡ Ok d₂)
 still_decided l₁ l₂ q d e c h =
     let t = answer_types l₁ q d e in
     let valid : (x : ℕ) → IsType (length (policy_of l₁).groups) x → is_type (count_of l₂ Groups) x ≡ true =
@@ -75,7 +76,7 @@ added_order b r by bytes e n q d a =
 -- ---- the same rules
 
 not_lower :
-    (l₁ l₂ : List ℕ) (q : Query) (d₁ d₂ : Decision) → answer l₁ q ≡ gives d₁ → answer l₂ q ≡ gives d₂
+    (l₁ l₂ : List ℕ) (q : Query) (d₁ d₂ : Decision) → answer l₁ q ≡ Ok d₁ → answer l₂ q ≡ Ok d₂
     → (policy_of l₁).groups ≡ (policy_of l₂).groups → Holds (policy_of l₁).constraints (policy_of l₂).constraints
     → Holds (policy_of l₁).rules (policy_of l₂).rules → Holds (policy_of l₂).rules (policy_of l₁).rules → height d₁ ≤ height d₂
 not_lower l₁ l₂ q d₁ d₂ e₁ e₂ g c there back =
@@ -162,7 +163,7 @@ rules_reordered l by e h = (ok.1, level)
     alike : Alike p (policy_of l₂)
     alike = subst (Alike p) (sym ok.2) (reordered_alike p)
 
-    level : (q : Query) (d : Decision) → answer l q ≡ gives d → DecidedLevel l₂ q d
+    level : (q : Query) (d : Decision) → answer l q ≡ Ok d → DecidedLevel l₂ q d
     level q d a =
         let still = still_decided l l₂ q d a ok.1 (omega (arith, ap length alike.groups)) in
         record {

@@ -10,17 +10,15 @@ use native.Mathlib.Nat.{le-max_left, le-max_right, max-le, max-eq_left, max-eq_r
 use mathlib.Core.Path.{◌≡◌, refl, sym, subst, ap, ◌∙◌}
 use mathlib.Core.Logic.{⊎_elim}
 use mathlib.Core.Bool.{Bool, false, cond}
-use mathlib.Core.Option.{Option, none, some}
+use Rattle.std.specs.Prelude.{Option, None, Some}
 use mathlib.Core.List.Memᴰ
 use mathlib.Core.List.{List, [], ◌∷◌, Memᴰ}
 use lib.ListN.{take}
 use lib.Dec.{ltb, leb, eqb}
 use borrow.Author.Tests.{leb-true, leb-false, le-leb, lt-leb, eqb-true, eqb-false, eq-eqb, ne_eqb, ltb-true, ltb-false, le-ltb}
 use Rattle.format.proofs.Tests.{true_not_false}
-use Rattle.decision.specs.declared.Nearest.{Nearest}
-use Rattle.decision.specs.declared.Nearest.TheVariants.{NoRules, Near}
 use Rattle.decision.specs.Sets.{any_of}
-use Rattle.decision.specs.Decide.{first_at, greatest, nearest_of, nearest_by}
+use Rattle.decision.specs.Decide.{first_at, greatest, nearest_of, nearest_by, near, Nearest}
 use Rattle.decision.specs.Lowest.{Lowest, Most}
 use Rattle.decision.specs.Inner.OnePass.{nearer, nearest_from}
 use Rattle.decision.proofs.Search.{by_test, any_of_intro, any_of_elim, any_of_none, any_of_none_intro, first_at_any, first_at_none, first_at_some, first_at_some_intro, is_found}
@@ -59,8 +57,8 @@ module _ {A : Type 0} (f : A → ℕ) where
 -- ---- what the nearest says
 
 abbrev pub Says : {A : Type 0} → (A → ℕ) → List A → Nearest → Type 0
-Says f xs NoRules = xs ≡ []
-Says f xs (Near s n) = Most f xs s n
+Says f xs None = xs ≡ []
+Says f xs (Some x) = Most f xs x.steps x.rule
 
 module _ {A : Type 0} (f : A → ℕ) (xs : List A) where
   abbrev top : ℕ
@@ -87,8 +85,8 @@ module _ {A : Type 0} (f : A → ℕ) (xs : List A) where
 
   says : (o : Option ℕ) → first_at has 0 xs ≡ o → Says f xs (nearest_of top o)
   unfolding nearest_of
-  says none e = none_attains f xs (first_at_none has 0 xs e)
-  says (some n) e =
+  says None e = none_attains f xs (first_at_none has 0 xs e)
+  says (Some n) e =
       let x = first_at_some has 0 n xs e in
       let z : x.0 ≡ n = omega (arith, x.1) in
       first_most n (subst (Lowest has xs) z x.2)
@@ -105,8 +103,8 @@ module _ {A : Type 0} (f : A → ℕ) (xs : List A) where
           before = any_of_none_intro (λ x. eqb (f x) s) (take n xs) (λ x m. let k = leb-false s (f x) (any_of_none (λ y. leb s (f y)) h.before m) in ne_eqb (f x) s (λ e. absurd (omega arith)));
         }
 
-    first_is : first_at (λ x. eqb (f x) s) 0 xs ≡ some n
-    first_is = let z : 0 + n ≡ n = omega arith in first_at_some_intro (λ x. eqb (f x) s) 0 n xs most_lowest ∙ ap some z
+    first_is : first_at (λ x. eqb (f x) s) 0 xs ≡ Some n
+    first_is = let z : 0 + n ≡ n = omega arith in first_at_some_intro (λ x. eqb (f x) s) 0 n xs most_lowest ∙ ap Some z
 
     top_is : top ≡ s
     unfolding is_found
@@ -117,7 +115,7 @@ module _ {A : Type 0} (f : A → ℕ) (xs : List A) where
         let c = greatest_least f s xs (λ x m. ltb-false s (f x) (any_of_none (λ y. ltb s (f y)) h.most m)) in
         omega arith
 
-    pub most_nearest : nearest_by f xs ≡ Near s n
+    pub most_nearest : nearest_by f xs ≡ Some (near s n)
     unfolding nearest_by nearest_of
     most_nearest = ap (λ t. nearest_of t (first_at (λ x. eqb (f x) t) 0 xs)) top_is ∙ ap (nearest_of s) first_is
 
@@ -141,7 +139,7 @@ module _ {A : Type 0} (f : A → ℕ) where
   those n xs = nearest_of (greatest f xs) (first_at (λ x. eqb (f x) (greatest f xs)) n xs)
 
   -- of an element and those after it, it is the nearest where none of them has more
-  those_next : (n : ℕ) (x : A) (xs : List A) → those n (x ∷ xs) ≡ cond (leb (greatest f xs) (f x)) (Near (f x) n) (those (suc n) xs)
+  those_next : (n : ℕ) (x : A) (xs : List A) → those n (x ∷ xs) ≡ cond (leb (greatest f xs) (f x)) (Some (near (f x) n)) (those (suc n) xs)
   unfolding nearest_of first_at greatest
   those_next n x xs =
       by_test (leb (greatest f xs) (f x))
@@ -149,21 +147,21 @@ module _ {A : Type 0} (f : A → ℕ) where
       (λ h. let k = leb-false (greatest f xs) (f x) h in
       let low : f x ≤ greatest f xs = omega arith in
       let e : max (f x) (greatest f xs) ≡ greatest f xs = max-eq_right low in
-      ap (λ (m : ℕ). nearest_of m (cond (eqb (f x) m) (some n) (first_at (λ y. eqb (f y) m) (suc n) xs))) e
+      ap (λ (m : ℕ). nearest_of m (cond (eqb (f x) m) (Some n) (first_at (λ y. eqb (f y) m) (suc n) xs))) e
       ∙ simp (h, ne_eqb (f x) (greatest f xs) (λ z. omega arith)))
 
   -- after a nearest so far, the elements left count where they have more
-  from_near : (t m n : ℕ) (xs : List A) → nearest_from f (Near t m) n xs ≡ cond (leb (greatest f xs) t) (Near t m) (those n xs)
+  from_near : (t m n : ℕ) (xs : List A) → nearest_from f (Some (near t m)) n xs ≡ cond (leb (greatest f xs) t) (Some (near t m)) (those n xs)
   unfolding nearest_from greatest nearer
   from_near t m n [] = simp (le-leb 0 t (omega arith))
   from_near t m n (x ∷ xs) =
       let s : ℕ = f x in
       by_test (ltb t s)
-      (λ h. simp h (from_near s n (suc n) xs ∙ merge_over t s (greatest f xs) (Near t m) (Near s n) (those (suc n) xs) (ltb-true t s h)))
-      (λ h. simp h (from_near t m (suc n) xs ∙ merge_under t s (greatest f xs) (Near t m) (Near s n) (those (suc n) xs) (ltb-false t s h)))
-      ∙ ap (cond (leb (greatest f (x ∷ xs)) t) (Near t m)) (sym (those_next n x xs))
+      (λ h. simp h (from_near s n (suc n) xs ∙ merge_over t s (greatest f xs) (Some (near t m)) (Some (near s n)) (those (suc n) xs) (ltb-true t s h)))
+      (λ h. simp h (from_near t m (suc n) xs ∙ merge_under t s (greatest f xs) (Some (near t m)) (Some (near s n)) (those (suc n) xs) (ltb-false t s h)))
+      ∙ ap (cond (leb (greatest f (x ∷ xs)) t) (Some (near t m))) (sym (those_next n x xs))
 
-  pub nearest_from_lem : (xs : List A) → nearest_from f NoRules 0 xs ≡ nearest_by f xs
+  pub nearest_from_lem : (xs : List A) → nearest_from f None 0 xs ≡ nearest_by f xs
   unfolding nearest_from nearer nearest_by nearest_of first_at
   nearest_from_lem [] = refl
   nearest_from_lem (x ∷ xs) = from_near (f x) 0 1 xs ∙ sym (those_next 0 x xs)
@@ -175,5 +173,5 @@ module _ {A : Type 0} (f : A → ℕ) where
     from_same x n (y ∷ xs) h =
         from_same (nearer x (f y) n) (suc n) xs (λ z m. h z (Memᴰ.tail m)) ∙ ap (λ s. nearest_from g (nearer x s n) (suc n) xs) (h y (Memᴰ.head refl))
 
-    pub nearest_same : (xs : List A) → ((y : A) → Memᴰ y xs → f y ≡ g y) → nearest_by f xs ≡ nearest_from g NoRules 0 xs
-    nearest_same xs h = sym (nearest_from_lem xs) ∙ from_same NoRules 0 xs h
+    pub nearest_same : (xs : List A) → ((y : A) → Memᴰ y xs → f y ≡ g y) → nearest_by f xs ≡ nearest_from g None 0 xs
+    nearest_same xs h = sym (nearest_from_lem xs) ∙ from_same None 0 xs h

@@ -17,7 +17,7 @@ use Rattle.format.specs.Refusals.{refusal, need}
 use Rattle.format.specs.Format.{is_type, count_of}
 use Rattle.format.specs.Policy.{Policy, policy_of}
 use Rattle.format.specs.Check.{check, Accepted}
-use Rattle.format.specs.Answers.{gives}
+use Rattle.std.specs.Prelude.{Ok}
 use Rattle.format.specs.Claims.{IsType}
 use Rattle.format.proofs.Chain.{or_else_split, or_else_none, need_true, need_none, outcome_gives}
 use Rattle.format.proofs.Tests.{both}
@@ -27,7 +27,8 @@ use Rattle.decision.specs.declared.Query.{Query}
 use Rattle.decision.specs.Sets.{set_of, within}
 use Rattle.decision.specs.Conditions.{switch_on, is_on}
 use Rattle.decision.specs.Reading.{Rule, Constraint, rule_of, constraint_of, request_of, rules_of, constraints_of}
-use Rattle.decision.specs.Decide.{Decision, decide, query_fault, answer_fault, answer}
+use Rattle.decision.specs.declared.Decision.{Decision}
+use Rattle.decision.specs.Decide.{decide, query_fault, answer_fault, answer}
 use Rattle.decision.specs.Order.{height, Holds, Keeps, Grows, NoCompanion, SwitchedOn, Extends, OrderRule, QueryOrder, NonDecreasing, Decided, DecidedOnly}
 use Rattle.decision.proofs.Search.{by_test}
 use Rattle.decision.proofs.Implies.{within_refl}
@@ -105,7 +106,7 @@ decided_only l q d e =
     let c = or_else_split (need (is_type g q.source) (refusal 8 0)) (need (is_type g q.dest) (refusal 9 0)) b.1 in
     (b.0, (need_true _ _ c.0, need_true _ _ c.1))
 
-module _ (l : List ℕ) (q : Query) (d : Decision) (e : answer l q ≡ gives d) where
+module _ (l : List ℕ) (q : Query) (d : Decision) (e : answer l q ≡ Ok d) where
   pub answer_accepted : Accepted l × (d ≡ decide (policy_of l) q)
   unfolding answer
   answer_accepted = ((decided_only l q d e).0, (outcome_gives (answer_fault l q) (decide (policy_of l) q) (sym e)).1)
@@ -142,7 +143,7 @@ query_order l q₁ q₂ d₁ d₂ e₁ e₂ c a w s d =
 
 -- one query on a policy and on one that it grows to
 pub grown_order :
-    (l₁ l₂ : List ℕ) (q : Query) (d₁ d₂ : Decision) → answer l₁ q ≡ gives d₁ → answer l₂ q ≡ gives d₂ → Grows (policy_of l₁) (policy_of l₂)
+    (l₁ l₂ : List ℕ) (q : Query) (d₁ d₂ : Decision) → answer l₁ q ≡ Ok d₁ → answer l₂ q ≡ Ok d₂ → Grows (policy_of l₁) (policy_of l₂)
     → NoCompanion (policy_of l₁).constraints ⊎ Holds (policy_of l₂).rules (policy_of l₁).rules → height d₁ ≤ height d₂
 grown_order l₁ l₂ q d₁ d₂ e₁ e₂ g n =
     order_rule l₁ l₂ q q d₁ d₂ e₁ e₂

@@ -17,7 +17,7 @@ use Prim.Native.Nat.{ℕ, zero, suc, ◌+◌, ◌<◌}
 use native.Mathlib.Omega.{arith}
 use mathlib.Core.Path.{◌≡◌, refl, sym, subst, ap, ◌∙◌}
 use mathlib.Core.Bool.{Bool, true, false, ◌||◌, cond}
-use mathlib.Core.Option.{Option, none, some}
+use Rattle.std.specs.Prelude.{Option, None, Some}
 use mathlib.Core.List.{List, [], ◌∷◌, map, Memᴰ}
 use native.Mathlib.Nat.{not-suc-le-zero, le_of_suc-le-suc}
 use lib.ListN.{length, get_or, take}
@@ -28,8 +28,8 @@ use Rattle.decision.specs.Decide.{first_at}
 use Rattle.decision.specs.Lowest.{Lowest}
 
 unfoldable pub is_found : Option ℕ → Bool
-is_found none = false
-is_found (some n) = true
+is_found None = false
+is_found (Some n) = true
 
 pub by_test : {C : Type 0} (b : Bool) → (b ≡ true → C) → (b ≡ false → C) → C
 by_test true f g = f refl
@@ -41,8 +41,8 @@ member_at (x ∷ xs) zero d h = Memᴰ.head refl
 member_at (x ∷ xs) (suc n) d h = Memᴰ.tail (member_at xs n d (le_of_suc-le-suc h))
 
 abbrev pub or_now : Option ℕ → ℕ → Bool → Option ℕ
-or_now none i b = cond b (some i) none
-or_now (some n) i b = some n
+or_now None i b = cond b (Some i) None
+or_now (Some n) i b = Some n
 
 module _ {A : Type 0} (f : A → Bool) where
   pub any_of_intro : {x : A} {xs : List A} → Memᴰ x xs → f x ≡ true → any_of f xs ≡ true
@@ -78,19 +78,19 @@ module _ {A : Type 0} (f : A → Bool) where
   all_of_intro [] h = refl
   all_of_intro (x ∷ xs) h = and_true (h x (Memᴰ.head refl)) (all_of_intro xs (λ z m. h z (Memᴰ.tail m)))
 
-  pub first_at_some : (n m : ℕ) (xs : List A) → first_at f n xs ≡ some m → (i : ℕ) × (m ≡ n + i) × Lowest f xs i
+  pub first_at_some : (n m : ℕ) (xs : List A) → first_at f n xs ≡ Some m → (i : ℕ) × (m ≡ n + i) × Lowest f xs i
   unfolding first_at any_of
   first_at_some n m [] e = some_not_none (sym e)
   first_at_some n m (x ∷ xs) e = go (λ q. first_at_some (suc n) m xs q) (f x) refl e
     where
-      go : (first_at f (suc n) xs ≡ some m → (i : ℕ) × (m ≡ suc n + i) × Lowest f xs i)
-          → (b : Bool) → f x ≡ b → cond b (some n) (first_at f (suc n) xs) ≡ some m → (i : ℕ) × (m ≡ n + i) × Lowest f (x ∷ xs) i
+      go : (first_at f (suc n) xs ≡ Some m → (i : ℕ) × (m ≡ suc n + i) × Lowest f xs i)
+          → (b : Bool) → f x ≡ b → cond b (Some n) (first_at f (suc n) xs) ≡ Some m → (i : ℕ) × (m ≡ n + i) × Lowest f (x ∷ xs) i
       go rest true h q = let z : n ≡ m = cc in (0, omega arith, record { here = simp h; before = refl })
       go rest false h q =
           let r = rest q in
           (suc r.0, omega (arith, r.1), record { here = r.2.here; before = simp (h, r.2.before) })
 
-  pub first_at_some_intro : (n i : ℕ) (xs : List A) → Lowest f xs i → first_at f n xs ≡ some (n + i)
+  pub first_at_some_intro : (n i : ℕ) (xs : List A) → Lowest f xs i → first_at f n xs ≡ Some (n + i)
   unfolding first_at any_of
   first_at_some_intro n zero [] h = false_not_true h.here
   first_at_some_intro n (suc i) [] h = false_not_true h.here
@@ -141,19 +141,19 @@ module _ {A : Type 0} (f : A → Bool) where
   none_intro [] (suc n) d h = refl
   none_intro (x ∷ xs) (suc n) d h = rw (h 0 (omega arith) (omega arith), none_intro xs n d (λ i l m. h (suc i) (omega (arith, l)) (omega (arith, m)))) refl
 
-  pub first_at_nil : (n : ℕ) → first_at f n [] ≡ none
+  pub first_at_nil : (n : ℕ) → first_at f n [] ≡ None
   unfolding first_at
   first_at_nil n = refl
 
   pub first_at_next : (xs : List A) (k j i : ℕ) (d : A) → j ≡ k + i → i < length xs → or_now (first_at f k (take i xs)) j (f (get_or xs i d)) ≡ first_at f k (take (suc i) xs)
   unfolding first_at
   first_at_next [] k j i d e l = absurd (not-suc-le-zero l)
-  first_at_next (x ∷ xs) k j zero d e l = let z : j ≡ k = omega (arith, e) in ap (λ (m : ℕ). cond (f x) (some m) none) z
+  first_at_next (x ∷ xs) k j zero d e l = let z : j ≡ k = omega (arith, e) in ap (λ (m : ℕ). cond (f x) (Some m) None) z
   first_at_next (x ∷ xs) k j (suc i) d e l = go (f x) (first_at_next xs (suc k) j i d (omega (arith, e)) (le_of_suc-le-suc l))
     where
       go :
           (b : Bool) → or_now (first_at f (suc k) (take i xs)) j (f (get_or xs i d)) ≡ first_at f (suc k) (take (suc i) xs)
-          → or_now (cond b (some k) (first_at f (suc k) (take i xs))) j (f (get_or xs i d)) ≡ cond b (some k) (first_at f (suc k) (take (suc i) xs))
+          → or_now (cond b (Some k) (first_at f (suc k) (take i xs))) j (f (get_or xs i d)) ≡ cond b (Some k) (first_at f (suc k) (take (suc i) xs))
       go true h = refl
       go false h = h
 
@@ -162,21 +162,21 @@ module _ {A : Type 0} (f : A → Bool) where
   first_at_any n [] = refl
   first_at_any n (x ∷ xs) = go (f x) (first_at_any (suc n) xs)
     where
-      go : (b : Bool) → is_found (first_at f (suc n) xs) ≡ any_of f xs → is_found (cond b (some n) (first_at f (suc n) xs)) ≡ (b || any_of f xs)
+      go : (b : Bool) → is_found (first_at f (suc n) xs) ≡ any_of f xs → is_found (cond b (Some n) (first_at f (suc n) xs)) ≡ (b || any_of f xs)
       go true h = refl
       go false h = h
 
-  pub first_at_none : (n : ℕ) (xs : List A) → first_at f n xs ≡ none → any_of f xs ≡ false
+  pub first_at_none : (n : ℕ) (xs : List A) → first_at f n xs ≡ None → any_of f xs ≡ false
   unfolding is_found
   first_at_none n xs e = sym (first_at_any n xs) ∙ ap is_found e
 
-  pub first_at_none_intro : (n : ℕ) (xs : List A) → any_of f xs ≡ false → first_at f n xs ≡ none
+  pub first_at_none_intro : (n : ℕ) (xs : List A) → any_of f xs ≡ false → first_at f n xs ≡ None
   unfolding is_found
   first_at_none_intro n xs e = go (first_at f n xs) (first_at_any n xs ∙ e)
     where
-      go : (o : Option ℕ) → is_found o ≡ false → o ≡ none
-      go none h = refl
-      go (some i) h = true_not_false h
+      go : (o : Option ℕ) → is_found o ≡ false → o ≡ None
+      go None h = refl
+      go (Some i) h = true_not_false h
 
   pub any_of_map : {B : Type 0} (g : B → A) (xs : List B) → any_of f (map g xs) ≡ any_of (λ x. f (g x)) xs
   unfolding any_of
@@ -186,7 +186,7 @@ module _ {A : Type 0} (f : A → Bool) where
   pub first_at_map : {B : Type 0} (g : B → A) (n : ℕ) (xs : List B) → first_at f n (map g xs) ≡ first_at (λ x. f (g x)) n xs
   unfolding first_at
   first_at_map g n [] = refl
-  first_at_map g n (x ∷ xs) = ap (λ (o : Option ℕ). cond (f (g x)) (some n) o) (first_at_map g (suc n) xs)
+  first_at_map g n (x ∷ xs) = ap (λ (o : Option ℕ). cond (f (g x)) (Some n) o) (first_at_map g (suc n) xs)
 
   pub first_at_same : (g : A → Bool) (n : ℕ) (xs : List A) → ((x : A) → f x ≡ g x) → first_at f n xs ≡ first_at g n xs
   unfolding first_at

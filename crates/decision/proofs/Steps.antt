@@ -10,13 +10,12 @@ use lib.ListN.{length, get_or, length-map, get_or-map}
 use lib.Dec.{eqb, leb, ltb}
 use borrow.Author.Tests.{eqb-true, eqb-false, leb-false, ltb-false}
 use Rattle.format.specs.Policy.{Policy, policy_of}
-use Rattle.format.specs.Answers.{gives}
+use Rattle.std.specs.Prelude.{Ok, None, Some}
 use Rattle.decision.specs.declared.Query.{Query}
-use Rattle.decision.specs.declared.Nearest.{Nearest}
-use Rattle.decision.specs.declared.Nearest.TheVariants.{NoRules, Near}
 use Rattle.decision.specs.Sets.{any_of, all_of, within}
 use Rattle.decision.specs.Reading.{Rule, Request, asks, rule_of, request_of, rules_of, constraints_of}
-use Rattle.decision.specs.Decide.{tests, covers, passes, steps, first_at, nearest_of, nearest_by, nearest, not_permitted, decision_of, judge, decide, answer}
+use Rattle.decision.specs.declared.Decision.TheVariants.{NotPermitted}
+use Rattle.decision.specs.Decide.{tests, covers, passes, steps, first_at, nearest_of, nearest_by, nearest, decision_of, judge, decide, answer, near, Nearest}
 use Rattle.decision.specs.Lowest.{Most}
 use Rattle.decision.specs.Steps.{steps_of, StepsInOrder, CoversAll, steps_at, source_in, dest_in, StepsOfRecord, FewSteps, DeniedSteps, NearestPasses, NearestOfAll, NoRulesExactly}
 use Rattle.decision.proofs.Search.{member_at, any_of_map, any_of_none, none_at, lowest_inside, lowest_at}
@@ -78,10 +77,10 @@ transition_few p q r k e = go (source_in p q r) (dest_in p q r) (steps_of p q r)
     go true false n is few = (omega arith, omega arith)
     go true true n is few = absurd (omega arith)
 
-module _ (l : List ℕ) (q : Query) (x : Nearest) (e : answer l q ≡ gives (not_permitted x)) where
+module _ (l : List ℕ) (q : Query) (x : Nearest) (e : answer l q ≡ Ok (NotPermitted x)) where
   uncovered : any_of (λ r. covers (request_of (policy_of l) q) (rule_of (policy_of l) q.switches r)) (policy_of l).rules ≡ false
   unfolding rules_of
-  uncovered = sym (any_of_map (covers (request_of (policy_of l) q)) (rule_of (policy_of l) q.switches) (policy_of l).rules) ∙ (lowest_answered l q (not_permitted x) e).0
+  uncovered = sym (any_of_map (covers (request_of (policy_of l) q)) (rule_of (policy_of l) q.switches) (policy_of l).rules) ∙ (lowest_answered l q (NotPermitted x) e).0
 
   pub few_steps : (r : List ℕ) → Memᴰ r (policy_of l).rules → FewSteps (policy_of l) q r
   few_steps r m =
@@ -94,9 +93,9 @@ denied_steps = few_steps
 -- ---- the rule that is named
 
 -- what the answer says of the rules as they are read
-most_steps : (l : List ℕ) (q : Query) (s n : ℕ) → answer l q ≡ gives (not_permitted (Near s n)) → Most (steps (request_of (policy_of l) q)) (map (rule_of (policy_of l) q.switches) (policy_of l).rules) s n
+most_steps : (l : List ℕ) (q : Query) (s n : ℕ) → answer l q ≡ Ok (NotPermitted (Some (near s n))) → Most (steps (request_of (policy_of l) q)) (map (rule_of (policy_of l) q.switches) (policy_of l).rules) s n
 unfolding rules_of
-most_steps l q s n e = (lowest_answered l q (not_permitted (Near s n)) e).1
+most_steps l q s n e = (lowest_answered l q (NotPermitted (Some (near s n))) e).1
 
 pub nearest_passes : NearestPasses
 nearest_passes l q s n e =
@@ -107,7 +106,7 @@ nearest_passes l q s n e =
     let at = lowest_at (λ r. eqb (steps a r) s) (map (rule_of p q.switches) p.rules) n (rule_of p q.switches []) low in
     let here : n < length p.rules = omega (arith, inside, length-map p.rules (rule_of p q.switches)) in
     let is : steps_at p q n ≡ s = sym (ap (steps a) (get_or-map (rule_of p q.switches) p.rules n [])) ∙ eqb-true _ s at in
-    (here, is, omega (arith, is, (few_steps l q (Near s n) e (get_or p.rules n []) (member_at p.rules n [] here)).few))
+    (here, is, omega (arith, is, (few_steps l q (Some (near s n)) e (get_or p.rules n []) (member_at p.rules n [] here)).few))
 
 pub nearest_of_all : NearestOfAll
 nearest_of_all l q s n e k h =
@@ -128,7 +127,7 @@ no_elements : {A B : Type 0} (g : A → B) (xs : List A) → map g xs ≡ [] →
 no_elements g [] e = refl
 no_elements g (x ∷ xs) e = let z : suc (length (map g xs)) ≡ 0 = ap length e in absurd (omega arith)
 
-judge_empty : (rs : List Rule) → rs ≡ [] → (cs : _) (a : Request) → judge rs cs a ≡ not_permitted NoRules
+judge_empty : (rs : List Rule) → rs ≡ [] → (cs : _) (a : Request) → judge rs cs a ≡ NotPermitted None
 unfolding judge nearest nearest_by nearest_of first_at decision_of
 judge_empty rs e cs a = rw e refl
 
@@ -137,6 +136,6 @@ unfolding rules_of decide
 no_rules_exactly l q c v =
     let p = policy_of l in
     let d = decided l q c v in (
-      λ e. no_elements (rule_of p q.switches) p.rules (lowest_answered l q (not_permitted NoRules) e).1,
-      λ e. d.1 ∙ ap gives ((answer_accepted l q d.0 d.1).1 ∙ judge_empty (map (rule_of p q.switches) p.rules) (ap (map (rule_of p q.switches)) e) (constraints_of p) (request_of p q)),
+      λ e. no_elements (rule_of p q.switches) p.rules (lowest_answered l q (NotPermitted None) e).1,
+      λ e. d.1 ∙ ap Ok ((answer_accepted l q d.0 d.1).1 ∙ judge_empty (map (rule_of p q.switches) p.rules) (ap (map (rule_of p q.switches)) e) (constraints_of p) (request_of p q)),
     )

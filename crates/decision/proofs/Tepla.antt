@@ -2,7 +2,7 @@
 use Prim.Native.Nat.{ℕ}
 use mathlib.Core.Path.{◌≡◌, refl, sym, ap, ◌∙◌}
 use mathlib.Core.Bool.{Bool, true, false, not, ◌&&◌, ◌||◌, cond, and-true}
-use mathlib.Core.Option.{none, some}
+use Rattle.std.specs.Prelude.{None, Some}
 use mathlib.Core.List.{List, [], ◌∷◌, map}
 use lib.ListN.{get_or}
 use lib.Dec.{eqb, leb-zero}
@@ -12,7 +12,8 @@ use Rattle.decision.specs.declared.Query.{Query}
 use Rattle.decision.specs.Sets.{any_of, all_of, set_of, within}
 use Rattle.decision.specs.Conditions.{is_on}
 use Rattle.decision.specs.Reading.{Rule, Constraint, Request, asks, rule_of, request_of, rules_of, constraints_of}
-use Rattle.decision.specs.Decide.{tests, covers, broken, applies, inside, fails, not_permitted, permitted, unknown, judge, decide}
+use Rattle.decision.specs.declared.Decision.TheVariants.{NotPermitted, Permitted, UnKnown}
+use Rattle.decision.specs.Decide.{tests, covers, broken, applies, inside, fails, judge, decide}
 use Rattle.decision.specs.Tepla.{Dcs, NotPermitted, Permitted, UnKnown, compare_decisions, maximal_dcs, maximum, types_within, allows, permits, eval_rule, prdct, eval_constraint, maximal_policy, eval_policy, forget, PublishedMeaning, PublishedAnswer, PublishedOrder}
 use Rattle.decision.specs.Order.{height}
 use Rattle.decision.proofs.Above.{judge_says}
@@ -31,7 +32,7 @@ allow_tests true true true true a = sym (and-true a)
 rule_tests :
     (t on s d : Bool) (c k e n : ℕ)
     → cond t (s && d) (on && (s && d) && eqb c k && eqb e n)
-    ≡ all_of (λ x. x) (cond t true on ∷ s ∷ d ∷ asks (cond t none (some c)) k ∷ asks (cond t none (some e)) n ∷ [])
+    ≡ all_of (λ x. x) (cond t true on ∷ s ∷ d ∷ asks (cond t None (Some c)) k ∷ asks (cond t None (Some e)) n ∷ [])
 unfolding all_of asks
 rule_tests true on s d c k e n = ap (λ (x : Bool). s && x) (sym (and-true d))
 rule_tests false on s d c k e n = allow_tests on s d (eqb c k) (eqb e n)
@@ -132,18 +133,18 @@ published_answer l q e v =
 
 pub published_order : PublishedOrder
 unfolding height forget compare_decisions
-published_order (not_permitted x) e = leb-zero (height e)
-published_order (permitted r) (not_permitted x) = refl
-published_order (permitted r) (permitted s) = refl
-published_order (permitted r) (unknown s c) = refl
-published_order (unknown r c) (not_permitted x) = refl
-published_order (unknown r c) (permitted s) = refl
-published_order (unknown r c) (unknown s d) = refl
+published_order (NotPermitted x) e = leb-zero (height e)
+published_order (Permitted r) (NotPermitted x) = refl
+published_order (Permitted r) (Permitted s) = refl
+published_order (Permitted r) (UnKnown s c) = refl
+published_order (UnKnown r c) (NotPermitted x) = refl
+published_order (UnKnown r c) (Permitted s) = refl
+published_order (UnKnown r c) (UnKnown s d) = refl
 
-pub forget_unknown : (r c : ℕ) → forget (unknown r c) ≡ Dcs.UnKnown
+pub forget_unknown : (r c : ℕ) → forget (UnKnown r c) ≡ Dcs.UnKnown
 unfolding forget
 forget_unknown r c = refl
 
-pub forget_permitted : (r : ℕ) → forget (permitted r) ≡ Dcs.Permitted
+pub forget_permitted : (r : ℕ) → forget (Permitted r) ≡ Dcs.Permitted
 unfolding forget
 forget_permitted r = refl

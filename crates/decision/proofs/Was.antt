@@ -2,7 +2,7 @@
 use Prim.Native.Nat.{ℕ, ◌<◌}
 use mathlib.Core.Path.{◌≡◌, refl, sym, ap, subst, ◌∙◌}
 use mathlib.Core.Bool.{Bool, true, false, ◌&&◌}
-use mathlib.Core.Option.{Option}
+use Rattle.std.specs.Prelude.{Option}
 use mathlib.Core.List.Memᴰ
 use mathlib.Core.List.{List, [], ◌∷◌, Memᴰ}
 use native.Mathlib.Omega.{arith}
@@ -87,15 +87,15 @@ same_touches (x ∷ a) b h = record { imp = λ t. or_left (is_in x b) (any_of (�
 
 broken⟹ : (rs : List Rule) (c : Constraint) → Sourced rs → broken_was rs c ⟹ broken rs c
 unfolding separation_broken separation_was
-broken⟹ rs c some =
+broken⟹ rs c Some =
     by_test (eqb c.predicate 1)
     (λ e. rw (was_one rs c e, broken_one rs c e)
-    (any_of⟹ (λ a ma. (ma, and⟹ {a = reaches c.first a} id⟹ (any_of⟹ (λ b mb. (mb, and⟹ {a = reaches c.second b} id⟹ (same_touches a.source b.source (some a ma)))))))))
+    (any_of⟹ (λ a ma. (ma, and⟹ {a = reaches c.first a} id⟹ (any_of⟹ (λ b mb. (mb, and⟹ {a = reaches c.second b} id⟹ (same_touches a.source b.source (Some a ma)))))))))
     (λ e. rw (was_other rs c e) id⟹)
 
 pub fails⟹ : (rs : List Rule) (a : Request) (c : Constraint) → Sourced rs → fails_was rs a c ⟹ fails rs a c
 unfolding fails fails_was
-fails⟹ rs a c some = and⟹ {a = applies a c && inside a c} id⟹ (broken⟹ rs c some)
+fails⟹ rs a c Some = and⟹ {a = applies a c && inside a c} id⟹ (broken⟹ rs c Some)
 
 pub sourced : (l : List ℕ) (w : ℕ) → Accepted l → Sourced (rules_of (policy_of l) w)
 unfolding rules_of rule_of

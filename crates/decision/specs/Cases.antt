@@ -12,19 +12,21 @@
 --     MarkedOrder       the sample and a rule more, and a query on group 0 and one on its member, meet the order rule's terms;
 --                       so does a query on a new group; the sample has no companion, nor has a ban, 21 is a member of its group,
 --                       and rules and constraints in another order have other numbers
-use Rattle.std.specs.Prelude.{ℕ, ◌/◌, ◌%◌, ◌≡◌, true, List, [], ◌∷◌, ◌++◌, map, length, replicate}
-use Rattle.std.proofs.Math.Option.{none}
+use Rattle.std.specs.Prelude.{ℕ, ◌/◌, ◌%◌, ◌≡◌, true, List, [], ◌∷◌, ◌++◌, map, length, replicate, Some}
+use Rattle.std.specs.Prelude.{None}
 use Rattle.format.specs.declared.Section.TheVariants.{Rules}
 use Rattle.format.specs.Refusals.{refusal}
 use Rattle.format.specs.Format.{count_of}
 use Rattle.format.specs.Policy.{policy_of}
-use Rattle.format.specs.Answers.{Outcome, refused, gives}
+use Rattle.std.specs.Prelude.{Ok, Err}
+use Rattle.format.specs.Answers.{Outcome}
 use Rattle.format.specs.Sample.{sample, empty}
 use Rattle.extension.specs.Add.{add_fault, new_number, buffer_after}
 use Rattle.decision.specs.declared.Query.{Query}
-use Rattle.decision.specs.declared.Nearest.TheVariants.{NoRules, Near}
 use Rattle.decision.specs.Sets.{is_in, set_of}
-use Rattle.decision.specs.Decide.{Decision, not_permitted, permitted, unknown, decide, answer, query_of}
+use Rattle.decision.specs.declared.Decision.{Decision}
+use Rattle.decision.specs.declared.Decision.TheVariants.{NotPermitted, Permitted, UnKnown}
+use Rattle.decision.specs.Decide.{decide, answer, query_of, near}
 use Rattle.decision.specs.Order.{NoCompanion, Extends}
 use Rattle.decision.specs.Growth.{reordered}
 
@@ -65,20 +67,20 @@ ask = ask_on 0
 
 unfoldable pub cases : List Case
 cases =
-    ask sample 10 21 5 1 (gives (permitted 0))
-    ∷ ask sample 10 g0 5 1 (gives (permitted 0))
-    ∷ ask sample 13 21 5 1 (gives (not_permitted (Near 1 0)))
-    ∷ ask sample 12 20 9 9 (gives (permitted 2))
-    ∷ ask sample 20 30 5 2 (gives (permitted 1))
-    ∷ ask (extended sample (allow 10 30 5 3)) 20 30 5 2 (gives (unknown 1 1))
-    ∷ ask (extended sample (allow 14 g0 7 7)) 10 21 5 1 (gives (unknown 0 0))
-    ∷ ask (extended sample (allow 14 g0 7 7)) 10 g0 5 1 (gives (permitted 0))
-    ∷ ask (extended sample companion) 10 21 5 1 (gives (unknown 0 2))
-    ∷ ask (extended (extended sample companion) (allow 21 10 5 9)) 10 21 5 1 (gives (permitted 0))
-    ∷ ask empty 0 0 0 0 (gives (not_permitted NoRules))
-    ∷ ask sample 1024 21 5 1 (refused (refusal 8 0))
-    ∷ ask sample 32769 21 5 1 (refused (refusal 8 0))
-    ∷ ask sample 1023 21 5 1 (gives (not_permitted (Near 1 0)))
+    ask sample 10 21 5 1 (Ok (Permitted 0))
+    ∷ ask sample 10 g0 5 1 (Ok (Permitted 0))
+    ∷ ask sample 13 21 5 1 (Ok (NotPermitted (Some (near 1 0))))
+    ∷ ask sample 12 20 9 9 (Ok (Permitted 2))
+    ∷ ask sample 20 30 5 2 (Ok (Permitted 1))
+    ∷ ask (extended sample (allow 10 30 5 3)) 20 30 5 2 (Ok (UnKnown 1 1))
+    ∷ ask (extended sample (allow 14 g0 7 7)) 10 21 5 1 (Ok (UnKnown 0 0))
+    ∷ ask (extended sample (allow 14 g0 7 7)) 10 g0 5 1 (Ok (Permitted 0))
+    ∷ ask (extended sample companion) 10 21 5 1 (Ok (UnKnown 0 2))
+    ∷ ask (extended (extended sample companion) (allow 21 10 5 9)) 10 21 5 1 (Ok (Permitted 0))
+    ∷ ask empty 0 0 0 0 (Ok (NotPermitted None))
+    ∷ ask sample 1024 21 5 1 (Err (refusal 8 0))
+    ∷ ask sample 32769 21 5 1 (Err (refusal 8 0))
+    ∷ ask sample 1023 21 5 1 (Ok (NotPermitted (Some (near 1 0))))
     ∷ []
 
 unfoldable pub given : Case → Outcome Decision
@@ -91,10 +93,10 @@ abbrev pub MarkedCases : Type 0
 MarkedCases = map given cases ≡ map expected_of cases
 
 pub record MarkedAdds : Type 0 where
-  pub separated : add_fault (with_space sample (allow 10 30 5 3)) (allow 10 30 5 3) ≡ none
-  pub rostered : add_fault (with_space sample (allow 14 g0 7 7)) (allow 14 g0 7 7) ≡ none
-  pub companied : add_fault (with_space sample companion) companion ≡ none
-  pub helped : add_fault (with_space (extended sample companion) (allow 21 10 5 9)) (allow 21 10 5 9) ≡ none
+  pub separated : add_fault (with_space sample (allow 10 30 5 3)) (allow 10 30 5 3) ≡ None
+  pub rostered : add_fault (with_space sample (allow 14 g0 7 7)) (allow 14 g0 7 7) ≡ None
+  pub companied : add_fault (with_space sample companion) companion ≡ None
+  pub helped : add_fault (with_space (extended sample companion) (allow 21 10 5 9)) (allow 21 10 5 9) ≡ None
   -- the companion is constraint 2, and leaves the rules
   pub numbered : new_number (with_space sample companion) companion ≡ 2
   pub rules_stay : count_of (extended sample companion) Rules ≡ 4
@@ -107,9 +109,9 @@ pub record MarkedOrder : Type 0 where
   pub itself : is_in 10 (set_of (policy_of sample).groups 10) ≡ true
   pub member : is_in 21 (set_of (policy_of sample).groups g0) ≡ true
   -- the other order is another: rule 0 is then rule 3, and constraint 1 constraint 0
-  pub turned : decide (reordered (policy_of sample)) (query_of 10 21 5 1 0) ≡ permitted 3
+  pub turned : decide (reordered (policy_of sample)) (query_of 10 21 5 1 0) ≡ Permitted 3
   pub turned_constraints :
-      decide (reordered (policy_of (extended sample (allow 10 30 5 3)))) (query_of 20 30 5 2 0) ≡ unknown 3 0
+      decide (reordered (policy_of (extended sample (allow 10 30 5 3)))) (query_of 20 30 5 2 0) ≡ UnKnown 3 0
   -- the second query may name a group that only the second policy has
   pub new_group :
       Extends (policy_of sample) (query_of 10 g0 5 1 0)

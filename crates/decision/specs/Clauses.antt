@@ -8,15 +8,15 @@
 --     RefusalCases      document 01's unmarked refusals, and one each of 1 to 7, 10, 11 and 13; the last condition, and one past it
 --                       (request [6])
 use Rattle.std.specs.Prelude.{ℕ, ◌≡◌, List, [], ◌∷◌, ◌++◌, map, take, set}
-use Rattle.std.proofs.Math.Option.{none, some}
+use Rattle.std.specs.Prelude.{None, Some}
 use Rattle.format.specs.Refusals.{refusal}
 use Rattle.format.specs.Check.{check}
-use Rattle.format.specs.Answers.{refused, gives}
+use Rattle.std.specs.Prelude.{Ok, Err}
 use Rattle.format.specs.Sample.{sample}
 use Rattle.extension.specs.Add.{add_fault}
-use Rattle.decision.specs.declared.Nearest.TheVariants.{Near}
-use Rattle.decision.specs.Decide.{not_permitted, permitted, unknown}
+use Rattle.decision.specs.declared.Decision.TheVariants.{NotPermitted, Permitted, UnKnown}
 use Rattle.decision.specs.Cases.{g0, allow, companion, one_member, banned, extended, Case, ask, given, expected_of}
+use Rattle.decision.specs.Decide.{near}
 
 -- an allow rule from group n to a basic type, class 5, action 3
 unfoldable pub allow_group : ℕ → ℕ → List ℕ
@@ -39,42 +39,42 @@ long_roster h l = 15 ∷ 4 ∷ 0 ∷ 5 ∷ 0 ∷ 1 ∷ 0 ∷ 12 ∷ 0 ∷ 20 ∷
 
 unfoldable pub clause_cases : List Case
 clause_cases =
-    ask (extended sample banned) 10 21 5 1 (gives (unknown 0 2))
-    ∷ ask (extended sample banned) 10 g0 5 1 (gives (permitted 0))
-    ∷ ask (extended (extended sample companion) (allow_group 0 10)) 10 21 5 1 (gives (permitted 0))
-    ∷ ask (extended (extended sample companion_of_group) (allow 21 10 7 9)) 10 21 5 1 (gives (permitted 0))
-    ∷ ask (extended (extended sample roster_of_group) (allow 14 21 7 7)) 10 21 5 1 (gives (unknown 0 0))
-    ∷ ask (extended (extended sample roster_of_group) (allow 14 20 7 7)) 10 21 5 1 (gives (unknown 0 2))
-    ∷ ask sample 10 1024 5 1 (refused (refusal 9 0))
-    ∷ ask sample 1024 1024 5 1 (refused (refusal 8 0))
-    ∷ ask (5 ∷ []) 1024 1024 5 1 (refused (refusal 1 0))
-    ∷ ask (extended sample back_transition) 10 21 5 1 (gives (permitted 0))
-    ∷ ask (extended (extended sample back_transition) companion) 10 21 5 1 (gives (unknown 0 2))
-    ∷ ask (extended (extended sample (allow 14 g0 7 7)) (long_roster 0 14)) 12 20 5 1 (gives (permitted 2))
-    ∷ ask (extended (extended sample (allow 15 g0 7 7)) (long_roster 0 14)) 12 20 5 1 (gives (unknown 2 2))
-    ∷ ask (extended (extended sample (allow_group 0 20)) (long_roster 0 21)) 12 20 5 1 (gives (unknown 2 2))
-    ∷ ask (extended (extended sample (allow 21 20 7 7)) (long_roster 128 0)) 12 20 5 1 (gives (permitted 2))
-    ∷ ask (extended (extended sample companion) (allow 21 30 5 9)) 10 21 5 1 (gives (unknown 0 2))
-    ∷ ask (extended (extended sample one_member) (allow 14 0x8001 7 7)) 10 21 5 1 (gives (unknown 0 0))
-    ∷ ask sample 10 21 6 1 (gives (not_permitted (Near 3 0)))
-    ∷ ask sample 10 21 5 2 (gives (not_permitted (Near 4 0)))
-    ∷ ask (extended (extended sample banned) (allow 10 21 6 1)) 10 21 6 1 (gives (permitted 4))
-    ∷ ask (extended (extended sample banned) (allow 10 21 5 2)) 10 21 5 2 (gives (permitted 4))
+    ask (extended sample banned) 10 21 5 1 (Ok (UnKnown 0 2))
+    ∷ ask (extended sample banned) 10 g0 5 1 (Ok (Permitted 0))
+    ∷ ask (extended (extended sample companion) (allow_group 0 10)) 10 21 5 1 (Ok (Permitted 0))
+    ∷ ask (extended (extended sample companion_of_group) (allow 21 10 7 9)) 10 21 5 1 (Ok (Permitted 0))
+    ∷ ask (extended (extended sample roster_of_group) (allow 14 21 7 7)) 10 21 5 1 (Ok (UnKnown 0 0))
+    ∷ ask (extended (extended sample roster_of_group) (allow 14 20 7 7)) 10 21 5 1 (Ok (UnKnown 0 2))
+    ∷ ask sample 10 1024 5 1 (Err (refusal 9 0))
+    ∷ ask sample 1024 1024 5 1 (Err (refusal 8 0))
+    ∷ ask (5 ∷ []) 1024 1024 5 1 (Err (refusal 1 0))
+    ∷ ask (extended sample back_transition) 10 21 5 1 (Ok (Permitted 0))
+    ∷ ask (extended (extended sample back_transition) companion) 10 21 5 1 (Ok (UnKnown 0 2))
+    ∷ ask (extended (extended sample (allow 14 g0 7 7)) (long_roster 0 14)) 12 20 5 1 (Ok (Permitted 2))
+    ∷ ask (extended (extended sample (allow 15 g0 7 7)) (long_roster 0 14)) 12 20 5 1 (Ok (UnKnown 2 2))
+    ∷ ask (extended (extended sample (allow_group 0 20)) (long_roster 0 21)) 12 20 5 1 (Ok (UnKnown 2 2))
+    ∷ ask (extended (extended sample (allow 21 20 7 7)) (long_roster 128 0)) 12 20 5 1 (Ok (Permitted 2))
+    ∷ ask (extended (extended sample companion) (allow 21 30 5 9)) 10 21 5 1 (Ok (UnKnown 0 2))
+    ∷ ask (extended (extended sample one_member) (allow 14 0x8001 7 7)) 10 21 5 1 (Ok (UnKnown 0 0))
+    ∷ ask sample 10 21 6 1 (Ok (NotPermitted (Some (near 3 0))))
+    ∷ ask sample 10 21 5 2 (Ok (NotPermitted (Some (near 4 0))))
+    ∷ ask (extended (extended sample banned) (allow 10 21 6 1)) 10 21 6 1 (Ok (Permitted 4))
+    ∷ ask (extended (extended sample banned) (allow 10 21 5 2)) 10 21 5 2 (Ok (Permitted 4))
     ∷ []
 
 abbrev pub ClauseCases : Type 0
 ClauseCases = map given clause_cases ≡ map expected_of clause_cases
 
 pub record RefusalCases : Type 0 where
-  pub short : check (take 8 sample) ≡ some (refusal 1 0)
-  pub version_two : check (set sample 0 2) ≡ some (refusal 2 0)
-  pub cut : check (take 79 sample) ≡ some (refusal 3 0)
-  pub rules_1025 : check (set (set sample 5 4) 6 1) ≡ some (refusal 4 5)
-  pub cut_said : check (take 79 (set sample 2 79)) ≡ some (refusal 5 69)
-  pub condition_33 : check (set sample 25 33) ≡ none
-  pub condition_34 : check (set sample 25 34) ≡ some (refusal 6 25)
-  pub added_condition_34 : add_fault sample (set (allow 10 21 5 1) 10 34) ≡ some (refusal 11 10)
-  pub more : check (set sample 2 81 ++ (0 ∷ [])) ≡ some (refusal 7 80)
-  pub shape_first : add_fault sample (set companion 0 12) ≡ some (refusal 10 0)
-  pub field : add_fault sample (set companion 10 4) ≡ some (refusal 11 10)
-  pub no_room : add_fault sample companion ≡ some (refusal 13 0)
+  pub short : check (take 8 sample) ≡ Some (refusal 1 0)
+  pub version_two : check (set sample 0 2) ≡ Some (refusal 2 0)
+  pub cut : check (take 79 sample) ≡ Some (refusal 3 0)
+  pub rules_1025 : check (set (set sample 5 4) 6 1) ≡ Some (refusal 4 5)
+  pub cut_said : check (take 79 (set sample 2 79)) ≡ Some (refusal 5 69)
+  pub condition_33 : check (set sample 25 33) ≡ None
+  pub condition_34 : check (set sample 25 34) ≡ Some (refusal 6 25)
+  pub added_condition_34 : add_fault sample (set (allow 10 21 5 1) 10 34) ≡ Some (refusal 11 10)
+  pub more : check (set sample 2 81 ++ (0 ∷ [])) ≡ Some (refusal 7 80)
+  pub shape_first : add_fault sample (set companion 0 12) ≡ Some (refusal 10 0)
+  pub field : add_fault sample (set companion 10 4) ≡ Some (refusal 11 10)
+  pub no_room : add_fault sample companion ≡ Some (refusal 13 0)

@@ -13,7 +13,8 @@
 --     greatest f l        the greatest number that f gives for an element
 --     nearest_of, nearest_by f l   that number, and the first element that has it; of no element, that there are none
 --     nearest a rs        the greatest number of steps, and the lowest rule that has it; or that there are no rules
---     Decision, decision_of   the three decisions, from the nearest rule, and the rule and the constraint that were found
+--     Nearest, near s n   the nearest rule, if there is one; rule n, of which s steps pass
+--     decision_of         the three decisions, from the nearest rule, and the rule and the constraint that were found
 --     judge rs cs a       the decision: the lowest rule that covers the query, the lowest constraint that fails; the nearest rule
 --                         where none covers
 --     decide p q          the decision of a policy: its rules are read under the query's word, for cover and for every predicate
@@ -21,24 +22,23 @@
 --     answer_fault l q     refusals 1 to 7, then 8 and 9
 --     answer l q          the engine's answer, for any bytes and any query
 --     query_of s d c a w   a query of five numbers, the last its switch word
---     answer_outcome r     what an `Answer` says
 --     Valid l q           the query's types are type fields of the image
 use Rattle.std.specs.Prelude.{ℕ, suc, max, ◌≡◌, Bool, true, not, ◌&&◌, cond, List, [], ◌∷◌, eqb}
-use Rattle.std.proofs.Math.Option.{Option, none, some}
+use Rattle.std.specs.Prelude.{Option, None, Some}
 use Rattle.format.specs.declared.Section.TheVariants.{Groups}
 use Rattle.format.specs.declared.Refusal.{Refusal}
 use Rattle.format.specs.Refusals.{refusal, need, ◌or_else◌}
 use Rattle.format.specs.Format.{is_type, count_of}
 use Rattle.format.specs.Policy.{Policy, policy_of}
 use Rattle.format.specs.Check.{check}
-use Rattle.format.specs.Answers.{Outcome, refused, gives, outcome}
+use Rattle.std.specs.Prelude.{Ok, Err}
+use Rattle.format.specs.Answers.{Outcome, outcome}
 use Rattle.decision.specs.declared.Query.{Query}
-use Rattle.decision.specs.declared.Nearest.{Nearest}
-use Rattle.decision.specs.declared.Nearest.TheVariants.{NoRules, Near}
-use Rattle.decision.specs.declared.Answer.{Answer}
-use Rattle.decision.specs.declared.Answer.TheVariants.{NotPermitted, Permitted, UnKnown, Refused}
+use Rattle.decision.specs.declared.Near.{Near}
 use Rattle.decision.specs.Sets.{any_of, all_of, within, touches}
 use Rattle.decision.specs.Reading.{Rule, Constraint, Request, asks, live, request_of, rules_of, constraints_of}
+use Rattle.decision.specs.declared.Decision.{Decision}
+use Rattle.decision.specs.declared.Decision.TheVariants.{NotPermitted, Permitted, UnKnown}
 
 -- condition, source, destination, class, action
 unfoldable pub tests : Request → Rule → List Bool
@@ -60,14 +60,20 @@ passes (b ∷ l) = cond b (suc (passes l)) 0
 unfoldable pub steps : Request → Rule → ℕ
 steps a r = passes (tests a r)
 
+abbrev pub Nearest : Type 0
+Nearest = Option Near
+
+abbrev pub near : ℕ → ℕ → Near
+near s n = record { steps = s; rule = n }
+
 unfoldable pub nearest_of : ℕ → Option ℕ → Nearest
-nearest_of s none = NoRules
-nearest_of s (some n) = Near s n
+nearest_of s None = None
+nearest_of s (Some n) = Some (near s n)
 
 module _ {A : Type 0} where
   unfoldable pub first_at : (A → Bool) → ℕ → List A → Option ℕ
-  first_at f n [] = none
-  first_at f n (x ∷ l) = cond (f x) (some n) (first_at f (suc n) l)
+  first_at f n [] = None
+  first_at f n (x ∷ l) = cond (f x) (Some n) (first_at f (suc n) l)
 
   unfoldable pub greatest : (A → ℕ) → List A → ℕ
   greatest f [] = 0
@@ -106,17 +112,11 @@ inside a c = within a.source c.first && within a.dest c.second
 unfoldable pub fails : List Rule → Request → Constraint → Bool
 fails rs a c = applies a c && inside a c && broken rs c
 
--- with how near a rule came; with the number of the covering rule; with that, and the number of the failing constraint
-pub data Decision : Type 0 where
-  not_permitted : (near : Nearest) → Decision
-  permitted : (rule : ℕ) → Decision
-  unknown : (rule constraint : ℕ) → Decision
-
 -- no rule covers: constraints play no part
 unfoldable pub decision_of : Nearest → Option ℕ → Option ℕ → Decision
-decision_of x none c = not_permitted x
-decision_of x (some r) none = permitted r
-decision_of x (some r) (some c) = unknown r c
+decision_of x None c = NotPermitted x
+decision_of x (Some r) None = Permitted r
+decision_of x (Some r) (Some c) = UnKnown r c
 
 unfoldable pub judge : List Rule → List Constraint → Request → Decision
 judge rs cs a = decision_of (nearest a rs) (first_at (covers a) 0 rs) (first_at (fails rs a) 0 cs)
@@ -132,12 +132,6 @@ answer_fault l q = check l or_else query_fault (count_of l Groups) q
 
 unfoldable pub answer : List ℕ → Query → Outcome Decision
 answer l q = outcome (answer_fault l q) (decide (policy_of l) q)
-
-abbrev pub answer_outcome : Answer → Outcome Decision
-answer_outcome (NotPermitted x) = gives (not_permitted x)
-answer_outcome (Permitted r) = gives (permitted r)
-answer_outcome (UnKnown r c) = gives (unknown r c)
-answer_outcome (Refused f) = refused f
 
 abbrev pub query_of : ℕ → ℕ → ℕ → ℕ → ℕ → Query
 query_of s d c a w = record { source = s; dest = d; class = c; action = a; switches = w }

@@ -8,15 +8,15 @@
 --     LowestNamed            the decision names the lowest, for all rules, constraints and queries
 --     NamedAlone             and no other decision does
 --     LowestAnswered         and so does the engine's answer, of the image's records
-use Rattle.std.specs.Prelude.{ℕ, ◌≡◌, Bool, true, false, List, [], take, drop, eqb, leb, ltb}
+use Rattle.std.specs.Prelude.{ℕ, ◌≡◌, Bool, true, false, List, [], take, drop, eqb, leb, ltb, None, Some}
 use Rattle.format.specs.Policy.{policy_of}
-use Rattle.format.specs.Answers.{gives}
+use Rattle.std.specs.Prelude.{Ok}
 use Rattle.decision.specs.declared.Query.{Query}
-use Rattle.decision.specs.declared.Nearest.{Nearest}
-use Rattle.decision.specs.declared.Nearest.TheVariants.{NoRules, Near}
 use Rattle.decision.specs.Sets.{any_of}
 use Rattle.decision.specs.Reading.{Rule, Constraint, Request, request_of, rules_of, constraints_of}
-use Rattle.decision.specs.Decide.{covers, steps, fails, Decision, not_permitted, permitted, unknown, judge, answer}
+use Rattle.decision.specs.declared.Decision.{Decision}
+use Rattle.decision.specs.declared.Decision.TheVariants.{NotPermitted, Permitted, UnKnown}
+use Rattle.decision.specs.Decide.{covers, steps, fails, judge, answer, near, Nearest}
 
 module _ {A : Type 0} where
   pub record Lowest (f : A → Bool) (xs : List A) (n : ℕ) : Type 0 where
@@ -29,13 +29,13 @@ module _ {A : Type 0} where
     pub before : any_of (λ x. leb s (f x)) (take n xs) ≡ false
 
 abbrev pub Nears : Request → List Rule → Nearest → Type 0
-Nears a rs NoRules = rs ≡ []
-Nears a rs (Near s n) = Most (steps a) rs s n
+Nears a rs None = rs ≡ []
+Nears a rs (Some x) = Most (steps a) rs x.steps x.rule
 
 abbrev pub Names : List Rule → List Constraint → Request → Decision → Type 0
-Names rs cs a (not_permitted x) = (any_of (covers a) rs ≡ false) × Nears a rs x
-Names rs cs a (permitted r) = Lowest (covers a) rs r × (any_of (fails rs a) cs ≡ false)
-Names rs cs a (unknown r c) = Lowest (covers a) rs r × Lowest (fails rs a) cs c
+Names rs cs a (NotPermitted x) = (any_of (covers a) rs ≡ false) × Nears a rs x
+Names rs cs a (Permitted r) = Lowest (covers a) rs r × (any_of (fails rs a) cs ≡ false)
+Names rs cs a (UnKnown r c) = Lowest (covers a) rs r × Lowest (fails rs a) cs c
 
 abbrev pub LowestNamed : Type 0
 LowestNamed = (rs : List Rule) (cs : List Constraint) (a : Request) → Names rs cs a (judge rs cs a)
@@ -45,5 +45,5 @@ NamedAlone = (rs : List Rule) (cs : List Constraint) (a : Request) (d : Decision
 
 abbrev pub LowestAnswered : Type 0
 LowestAnswered =
-    (l : List ℕ) (q : Query) (d : Decision) → answer l q ≡ gives d
+    (l : List ℕ) (q : Query) (d : Decision) → answer l q ≡ Ok d
     → Names (rules_of (policy_of l) q.switches) (constraints_of (policy_of l)) (request_of (policy_of l) q) d

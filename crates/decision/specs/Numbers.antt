@@ -23,15 +23,16 @@
 --     PartsWhole              parts that fit are in the number as they are
 --     PartsRead               and are read back from it: the kind, the third and the fourth part
 --     DecideRead              so what a host reads from the number is the answer itself, of every image of bytes
-use Rattle.std.specs.Prelude.{ℕ, ◌+◌, ◌*◌, ◌/◌, ◌%◌, ◌≤◌, ◌<◌, ◌≡◌, cond, List, eqb}
+use Rattle.std.specs.Prelude.{ℕ, ◌+◌, ◌*◌, ◌/◌, ◌%◌, ◌≤◌, ◌<◌, ◌≡◌, cond, List, eqb, None, Some}
 use Rattle.format.specs.declared.Refusal.{Refusal}
 use Rattle.format.specs.Bytes.{Bytes}
 use Rattle.format.specs.Refusals.{refusal}
-use Rattle.format.specs.Answers.{Outcome, refused, gives}
+use Rattle.std.specs.Prelude.{Ok, Err}
+use Rattle.format.specs.Answers.{Outcome}
 use Rattle.decision.specs.declared.Query.{Query}
-use Rattle.decision.specs.declared.Nearest.{Nearest}
-use Rattle.decision.specs.declared.Nearest.TheVariants.{NoRules, Near}
-use Rattle.decision.specs.Decide.{Decision, not_permitted, permitted, unknown, answer}
+use Rattle.decision.specs.declared.Decision.{Decision}
+use Rattle.decision.specs.declared.Decision.TheVariants.{NotPermitted, Permitted, UnKnown}
+use Rattle.decision.specs.Decide.{answer, near, Nearest}
 
 unfoldable pub parts_of : ℕ → ℕ → ℕ → ℕ
 parts_of kind high low = kind * 4294967296 + high % 65536 * 65536 + low % 65536
@@ -41,17 +42,17 @@ refusal_code f = parts_of 2 f.number f.place
 
 module _ {A : Type 0} where
   abbrev pub code_of : (A → ℕ) → Outcome A → ℕ
-  code_of g (refused f) = refusal_code f
-  code_of g (gives a) = g a
+  code_of g (Err f) = refusal_code f
+  code_of g (Ok a) = g a
 
 abbrev pub nearest_code : Nearest → ℕ
-nearest_code NoRules = parts_of 0 0 65535
-nearest_code (Near s r) = parts_of 0 s r
+nearest_code None = parts_of 0 0 65535
+nearest_code (Some x) = parts_of 0 x.steps x.rule
 
 abbrev pub given_code : Decision → ℕ
-given_code (not_permitted x) = nearest_code x
-given_code (permitted r) = parts_of 1 0 r
-given_code (unknown r c) = parts_of 3 r c
+given_code (NotPermitted x) = nearest_code x
+given_code (Permitted r) = parts_of 1 0 r
+given_code (UnKnown r c) = parts_of 3 r c
 
 abbrev pub decision_code : Outcome Decision → ℕ
 decision_code = code_of given_code
@@ -69,14 +70,14 @@ unfoldable pub host_refusal : ℕ → Refusal
 host_refusal n = refusal (third_part n) (fourth_part n)
 
 unfoldable pub host_nearest : ℕ → ℕ → Nearest
-host_nearest s r = cond (eqb r 65535) NoRules (Near s r)
+host_nearest s r = cond (eqb r 65535) None (Some (near s r))
 
 unfoldable pub host_decision : ℕ → Outcome Decision
 host_decision n =
-    cond (eqb (kind_part n) 2) (refused (host_refusal n))
-    (cond (eqb (kind_part n) 1) (gives (permitted (fourth_part n)))
-    (cond (eqb (kind_part n) 3) (gives (unknown (third_part n) (fourth_part n)))
-    (gives (not_permitted (host_nearest (third_part n) (fourth_part n))))))
+    cond (eqb (kind_part n) 2) (Err (host_refusal n))
+    (cond (eqb (kind_part n) 1) (Ok (Permitted (fourth_part n)))
+    (cond (eqb (kind_part n) 3) (Ok (UnKnown (third_part n) (fourth_part n)))
+    (Ok (NotPermitted (host_nearest (third_part n) (fourth_part n))))))
 
 abbrev pub Part : ℕ → Type 0
 Part n = n < 65536
@@ -86,17 +87,17 @@ RefusalFits f = Part f.number × Part f.place
 
 module _ {A : Type 0} where
   abbrev pub OutcomeFits : (A → Type 0) → Outcome A → Type 0
-  OutcomeFits P (refused f) = RefusalFits f
-  OutcomeFits P (gives a) = P a
+  OutcomeFits P (Err f) = RefusalFits f
+  OutcomeFits P (Ok a) = P a
 
 abbrev pub NearestFits : Nearest → Type 0
-NearestFits NoRules = Unit
-NearestFits (Near s r) = (s ≤ 4) × (r < 1024)
+NearestFits None = Unit
+NearestFits (Some x) = (x.steps ≤ 4) × (x.rule < 1024)
 
 abbrev pub DecisionFits : Decision → Type 0
-DecisionFits (not_permitted x) = NearestFits x
-DecisionFits (permitted r) = r < 1024
-DecisionFits (unknown r c) = (r < 1024) × (c < 256)
+DecisionFits (NotPermitted x) = NearestFits x
+DecisionFits (Permitted r) = r < 1024
+DecisionFits (UnKnown r c) = (r < 1024) × (c < 256)
 
 abbrev pub DecideWhole : Type 0
 DecideWhole = (l : List ℕ) → Bytes l → (q : Query) → OutcomeFits DecisionFits (answer l q)

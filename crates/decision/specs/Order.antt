@@ -18,16 +18,18 @@ use Rattle.std.specs.Prelude.{ℕ, ◌≤◌, ◌<◌, ◌≡◌, ◌⊎◌, tru
 use mathlib.Core.List.{List, [], Memᴰ}
 use Rattle.format.specs.Policy.{Policy, policy_of}
 use Rattle.format.specs.Check.{Accepted}
-use Rattle.format.specs.Answers.{gives}
+use Rattle.std.specs.Prelude.{Ok}
 use Rattle.decision.specs.declared.Query.{Query}
 use Rattle.decision.specs.Sets.{set_of, within}
 use Rattle.decision.specs.Conditions.{switch_on}
-use Rattle.decision.specs.Decide.{Decision, not_permitted, permitted, unknown, answer, Valid}
+use Rattle.decision.specs.declared.Decision.{Decision}
+use Rattle.decision.specs.declared.Decision.TheVariants.{NotPermitted, Permitted, UnKnown}
+use Rattle.decision.specs.Decide.{answer, Valid}
 
 unfoldable pub height : Decision → ℕ
-height (not_permitted x) = 0
-height (permitted r) = 1
-height (unknown r c) = 2
+height (NotPermitted x) = 0
+height (Permitted r) = 1
+height (UnKnown r c) = 2
 
 abbrev pub Holds : List (List ℕ) → List (List ℕ) → Type 0
 Holds rs₁ rs₂ = (r : List ℕ) → Memᴰ r rs₁ → Memᴰ r rs₂
@@ -64,12 +66,12 @@ pub record Extends (p₁ : Policy) (q₁ : Query) (p₂ : Policy) (q₂ : Query)
 
 abbrev pub OrderRule : Type 0
 OrderRule =
-    (l₁ l₂ : List ℕ) (q₁ q₂ : Query) (d₁ d₂ : Decision) → answer l₁ q₁ ≡ gives d₁ → answer l₂ q₂ ≡ gives d₂
+    (l₁ l₂ : List ℕ) (q₁ q₂ : Query) (d₁ d₂ : Decision) → answer l₁ q₁ ≡ Ok d₁ → answer l₂ q₂ ≡ Ok d₂
     → Extends (policy_of l₁) q₁ (policy_of l₂) q₂ → height d₁ ≤ height d₂
 
 abbrev pub QueryOrder : Type 0
 QueryOrder =
-    (l : List ℕ) (q₁ q₂ : Query) (d₁ d₂ : Decision) → answer l q₁ ≡ gives d₁ → answer l q₂ ≡ gives d₂
+    (l : List ℕ) (q₁ q₂ : Query) (d₁ d₂ : Decision) → answer l q₁ ≡ Ok d₁ → answer l q₂ ≡ Ok d₂
     → q₁.class ≡ q₂.class → q₁.action ≡ q₂.action → q₁.switches ≡ q₂.switches
     → within (set_of (policy_of l).groups q₂.source) (set_of (policy_of l).groups q₁.source) ≡ true
     → within (set_of (policy_of l).groups q₂.dest) (set_of (policy_of l).groups q₁.dest) ≡ true
@@ -77,12 +79,12 @@ QueryOrder =
 
 abbrev pub NonDecreasing : Type 0
 NonDecreasing =
-    (l₁ l₂ : List ℕ) (q : Query) (d₁ d₂ : Decision) → answer l₁ q ≡ gives d₁ → answer l₂ q ≡ gives d₂
+    (l₁ l₂ : List ℕ) (q : Query) (d₁ d₂ : Decision) → answer l₁ q ≡ Ok d₁ → answer l₂ q ≡ Ok d₂
     → Grows (policy_of l₁) (policy_of l₂) → NoCompanion (policy_of l₁).constraints
     → height d₁ ≤ height d₂
 
 abbrev pub Decided : Type 0
-Decided = (l : List ℕ) (q : Query) → Accepted l → Valid l q → (d : Decision) × (answer l q ≡ gives d)
+Decided = (l : List ℕ) (q : Query) → Accepted l → Valid l q → (d : Decision) × (answer l q ≡ Ok d)
 
 abbrev pub DecidedOnly : Type 0
-DecidedOnly = (l : List ℕ) (q : Query) (d : Decision) → answer l q ≡ gives d → Accepted l × Valid l q
+DecidedOnly = (l : List ℕ) (q : Query) (d : Decision) → answer l q ≡ Ok d → Accepted l × Valid l q

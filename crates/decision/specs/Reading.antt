@@ -9,7 +9,7 @@
 --     constraint_of p c, request_of p q    a constraint, from a record, and a query on the policy
 --     rules_of p w, constraints_of p       all of a policy's
 use Rattle.std.specs.Prelude.{ℕ, Bool, true, ◌&&◌, cond, List, map, get_or, drop, eqb}
-use Rattle.std.proofs.Math.Option.{Option, none, some}
+use Rattle.std.specs.Prelude.{Option, None, Some}
 use Rattle.format.specs.Bytes.{word_at, words}
 use Rattle.format.specs.Policy.{Policy}
 use Rattle.decision.specs.declared.Query.{Query}
@@ -25,8 +25,8 @@ pub record Rule : Type 0 where
   pub action : Option ℕ
 
 unfoldable pub asks : Option ℕ → ℕ → Bool
-asks none n = true
-asks (some k) n = eqb k n
+asks None n = true
+asks (Some k) n = eqb k n
 
 unfoldable pub live : Rule → Bool
 live r = r.allow && r.on
@@ -40,8 +40,8 @@ rule_of p w r =
       on = cond (eqb (get_or r 1 0) 3) true (eqb (get_or r 1 0) 2 && is_on w (get_or r 10 0));
       source = set_of p.groups (word_at r 2);
       dest = set_of p.groups (word_at r 4);
-      class = cond (eqb (get_or r 1 0) 3) none (some (word_at r 6));
-      action = cond (eqb (get_or r 1 0) 3) none (some (word_at r 8));
+      class = cond (eqb (get_or r 1 0) 3) None (Some (word_at r 6));
+      action = cond (eqb (get_or r 1 0) 3) None (Some (word_at r 8));
     }
 
 pub record Constraint : Type 0 where

@@ -28,14 +28,17 @@ use Rattle.std.specs.Prelude.{ℕ, ◌<◌, ◌≡◌, ◌⊎◌, Bool, true, �
 use mathlib.Core.List.{List, [], ◌∷◌, map, Memᴰ}
 use Rattle.format.specs.Bytes.{word_at}
 use Rattle.format.specs.Policy.{Policy, policy_of}
-use Rattle.format.specs.Answers.{Outcome, gives, outcome}
+use Rattle.std.specs.Prelude.{Ok}
+use Rattle.format.specs.Answers.{Outcome, outcome}
 use Rattle.format.specs.Sample.{sample}
 use Rattle.decision.specs.declared.Query.{Query}
 use Rattle.decision.specs.Sets.{any_of, is_in, set_of, within, touches}
 use Rattle.decision.specs.Conditions.{is_on}
 use Rattle.decision.specs.Reading.{Rule, Constraint, Request, live, constraint_of, request_of, rules_of, constraints_of}
 use Rattle.decision.specs.Decide.{covers, nearest, reaches, separation_broken, broken, applies, inside, first_at}
-use Rattle.decision.specs.Decide.{Decision, permitted, unknown, decision_of, answer_fault, answer}
+use Rattle.decision.specs.declared.Decision.{Decision}
+use Rattle.decision.specs.declared.Decision.TheVariants.{Permitted, UnKnown}
+use Rattle.decision.specs.Decide.{decision_of, answer_fault, answer}
 use Rattle.decision.specs.Growth.{DecidedAbove}
 use Rattle.decision.specs.Cases.{allow, one_member, extended, Case, ask, given, expected_of}
 use Rattle.decision.specs.Clauses.{allow_group}
@@ -117,15 +120,15 @@ abbrev pub AnswersStay : Type 0
 AnswersStay = (l : List ℕ) (q : Query) → OneType (rules_of (policy_of l) q.switches) → answer l q ≡ answer_was l q
 
 abbrev pub AnswersRise : Type 0
-AnswersRise = (l : List ℕ) (q : Query) (d : Decision) → answer_was l q ≡ gives d → DecidedAbove l q d
+AnswersRise = (l : List ℕ) (q : Query) (d : Decision) → answer_was l q ≡ Ok d → DecidedAbove l q d
 
 -- UnKnown by a separation now; before, the same rule made it Permitted, or a later constraint UnKnown
 pub record Raised (l : List ℕ) (q : Query) : Type 0 where
   pub rule : ℕ
   pub constraint : ℕ
-  pub is : answer l q ≡ gives (unknown rule constraint)
+  pub is : answer l q ≡ Ok (UnKnown rule constraint)
   pub separates : get_or (get_or (policy_of l).constraints constraint []) 10 0 ≡ 1
-  pub was : (answer_was l q ≡ gives (permitted rule)) ⊎ ((k : ℕ) × (constraint < k) × (answer_was l q ≡ gives (unknown rule k)))
+  pub was : (answer_was l q ≡ Ok (Permitted rule)) ⊎ ((k : ℕ) × (constraint < k) × (answer_was l q ≡ Ok (UnKnown rule k)))
 
 -- and no other answer changed, refusals included
 abbrev pub AnswersChange : Type 0
@@ -167,26 +170,26 @@ separate_group = 11 ∷ 4 ∷ 0 ∷ 5 ∷ 0 ∷ 2 ∷ 128 ∷ 0 ∷ 0 ∷ 30 ∷
 
 unfoldable pub shared_cases : List Case
 shared_cases =
-    ask story 20 30 5 2 (gives (unknown 1 1))
-    ∷ ask (extended (extended sample (allow_group 0 30)) (allow 21 20 5 3)) 20 30 5 2 (gives (unknown 1 1))
-    ∷ ask (extended sample (allow 21 20 5 3)) 20 30 5 2 (gives (permitted 1))
-    ∷ ask (extended sample (allow 20 20 5 3)) 20 30 5 2 (gives (unknown 1 1))
-    ∷ ask (extended (extended (extended sample one_member) (allow_group 1 20)) (allow 21 30 5 3)) 20 30 5 2 (gives (unknown 1 1))
-    ∷ ask (extended (extended sample (allow 20 21 5 4)) separation) 20 21 5 4 (gives (unknown 4 2))
-    ∷ ask (extended sample (off (allow 10 30 5 3))) 20 30 5 2 (gives (permitted 1))
-    ∷ ask (extended sample cross) 20 30 5 2 (gives (permitted 1))
-    ∷ ask (extended sample (allow 10 30 7 7)) 20 30 5 2 (gives (unknown 1 1))
-    ∷ ask (extended sample (allow 30 20 5 3)) 20 30 5 2 (gives (permitted 1))
-    ∷ ask elsewhere 40 30 5 2 (gives (unknown 5 2))
-    ∷ ask elsewhere 20 30 5 2 (gives (permitted 1))
-    ∷ ask (extended (extended (extended sample (pair 21 22)) (allow_group 1 20)) (allow_group 0 30)) 20 30 5 2 (gives (unknown 1 1))
-    ∷ ask (extended sample (off (allow 20 20 5 3))) 20 30 5 2 (gives (permitted 1))
-    ∷ ask (extended sample own_transition) 20 30 5 2 (gives (permitted 1))
-    ∷ ask (extended sample (allow 20 20 7 7)) 20 30 5 2 (gives (unknown 1 1))
-    ∷ ask (extended (extended (extended (extended sample (pair 21 22)) (pair 22 23)) (allow_group 1 20)) (allow_group 2 30)) 20 30 5 2 (gives (unknown 1 1))
-    ∷ ask (extended (extended (extended (extended sample (pair 21 22)) (pair 23 24)) (allow_group 1 20)) (allow_group 2 30)) 20 30 5 2 (gives (permitted 1))
-    ∷ ask (extended (extended (extended sample (pair 21 22)) (allow 20 0x8001 5 3)) separate_group) 20 30 5 2 (gives (unknown 1 2))
-    ∷ ask (extended (extended (extended sample (pair 22 23)) (allow 20 0x8001 5 3)) separate_group) 20 30 5 2 (gives (permitted 1))
+    ask story 20 30 5 2 (Ok (UnKnown 1 1))
+    ∷ ask (extended (extended sample (allow_group 0 30)) (allow 21 20 5 3)) 20 30 5 2 (Ok (UnKnown 1 1))
+    ∷ ask (extended sample (allow 21 20 5 3)) 20 30 5 2 (Ok (Permitted 1))
+    ∷ ask (extended sample (allow 20 20 5 3)) 20 30 5 2 (Ok (UnKnown 1 1))
+    ∷ ask (extended (extended (extended sample one_member) (allow_group 1 20)) (allow 21 30 5 3)) 20 30 5 2 (Ok (UnKnown 1 1))
+    ∷ ask (extended (extended sample (allow 20 21 5 4)) separation) 20 21 5 4 (Ok (UnKnown 4 2))
+    ∷ ask (extended sample (off (allow 10 30 5 3))) 20 30 5 2 (Ok (Permitted 1))
+    ∷ ask (extended sample cross) 20 30 5 2 (Ok (Permitted 1))
+    ∷ ask (extended sample (allow 10 30 7 7)) 20 30 5 2 (Ok (UnKnown 1 1))
+    ∷ ask (extended sample (allow 30 20 5 3)) 20 30 5 2 (Ok (Permitted 1))
+    ∷ ask elsewhere 40 30 5 2 (Ok (UnKnown 5 2))
+    ∷ ask elsewhere 20 30 5 2 (Ok (Permitted 1))
+    ∷ ask (extended (extended (extended sample (pair 21 22)) (allow_group 1 20)) (allow_group 0 30)) 20 30 5 2 (Ok (UnKnown 1 1))
+    ∷ ask (extended sample (off (allow 20 20 5 3))) 20 30 5 2 (Ok (Permitted 1))
+    ∷ ask (extended sample own_transition) 20 30 5 2 (Ok (Permitted 1))
+    ∷ ask (extended sample (allow 20 20 7 7)) 20 30 5 2 (Ok (UnKnown 1 1))
+    ∷ ask (extended (extended (extended (extended sample (pair 21 22)) (pair 22 23)) (allow_group 1 20)) (allow_group 2 30)) 20 30 5 2 (Ok (UnKnown 1 1))
+    ∷ ask (extended (extended (extended (extended sample (pair 21 22)) (pair 23 24)) (allow_group 1 20)) (allow_group 2 30)) 20 30 5 2 (Ok (Permitted 1))
+    ∷ ask (extended (extended (extended sample (pair 21 22)) (allow 20 0x8001 5 3)) separate_group) 20 30 5 2 (Ok (UnKnown 1 2))
+    ∷ ask (extended (extended (extended sample (pair 22 23)) (allow 20 0x8001 5 3)) separate_group) 20 30 5 2 (Ok (Permitted 1))
     ∷ []
 
 abbrev pub SharedCases : Type 0
@@ -194,11 +197,11 @@ SharedCases = map given shared_cases ≡ map expected_of shared_cases
 
 unfoldable pub was_cases : List Case
 was_cases =
-    ask story 20 30 5 2 (gives (permitted 1))
-    ∷ ask (extended (extended sample (allow_group 0 30)) (allow 21 20 5 3)) 20 30 5 2 (gives (permitted 1))
-    ∷ ask (extended sample (allow 20 20 5 3)) 20 30 5 2 (gives (unknown 1 1))
-    ∷ ask (extended (extended sample (allow_group 0 20)) (allow_group 0 30)) 20 30 5 2 (gives (unknown 1 1))
-    ∷ ask (extended (extended (extended sample one_member) (allow_group 1 20)) (allow 21 30 5 3)) 20 30 5 2 (gives (unknown 1 1))
+    ask story 20 30 5 2 (Ok (Permitted 1))
+    ∷ ask (extended (extended sample (allow_group 0 30)) (allow 21 20 5 3)) 20 30 5 2 (Ok (Permitted 1))
+    ∷ ask (extended sample (allow 20 20 5 3)) 20 30 5 2 (Ok (UnKnown 1 1))
+    ∷ ask (extended (extended sample (allow_group 0 20)) (allow_group 0 30)) 20 30 5 2 (Ok (UnKnown 1 1))
+    ∷ ask (extended (extended (extended sample one_member) (allow_group 1 20)) (allow 21 30 5 3)) 20 30 5 2 (Ok (UnKnown 1 1))
     ∷ []
 
 unfoldable pub given_was : Case → Outcome Decision

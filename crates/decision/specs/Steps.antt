@@ -12,20 +12,19 @@
 --     step_cases           each number of steps at an allow rule and at a transition; the lowest of several; rules that are off;
 --                         the last rule; groups
 --     StepCases           the definitions give these answers
-use Rattle.std.specs.Prelude.{ℕ, ◌≤◌, ◌<◌, ◌≡◌, Bool, true, false, cond, length, get_or, set, eqb}
+use Rattle.std.specs.Prelude.{ℕ, ◌≤◌, ◌<◌, ◌≡◌, Bool, true, false, cond, length, get_or, set, eqb, None, Some}
 use mathlib.Core.List.{List, [], ◌∷◌, map, Memᴰ}
 use Rattle.format.specs.Bytes.{word_at}
 use Rattle.format.specs.Policy.{Policy, policy_of}
 use Rattle.format.specs.Check.{Accepted}
-use Rattle.format.specs.Answers.{gives}
+use Rattle.std.specs.Prelude.{Ok}
 use Rattle.format.specs.Sample.{sample, empty}
 use Rattle.decision.specs.declared.Query.{Query}
-use Rattle.decision.specs.declared.Nearest.{Nearest}
-use Rattle.decision.specs.declared.Nearest.TheVariants.{NoRules, Near}
 use Rattle.decision.specs.Sets.{set_of, within}
 use Rattle.decision.specs.Conditions.{is_on}
 use Rattle.decision.specs.Reading.{Rule, Request, asks, rule_of, request_of}
-use Rattle.decision.specs.Decide.{covers, steps, not_permitted, permitted, answer, Valid}
+use Rattle.decision.specs.declared.Decision.TheVariants.{NotPermitted, Permitted}
+use Rattle.decision.specs.Decide.{covers, steps, answer, Valid, near, Nearest}
 use Rattle.decision.specs.Cases.{g0, allow, banned, extended, Case, ask, given, expected_of}
 use Rattle.decision.specs.Clauses.{allow_group, back_transition}
 
@@ -65,7 +64,7 @@ pub record FewSteps (p : Policy) (q : Query) (r : List ℕ) : Type 0 where
 
 abbrev pub DeniedSteps : Type 0
 DeniedSteps =
-    (l : List ℕ) (q : Query) (x : Nearest) → answer l q ≡ gives (not_permitted x)
+    (l : List ℕ) (q : Query) (x : Nearest) → answer l q ≡ Ok (NotPermitted x)
     → (r : List ℕ) → Memᴰ r (policy_of l).rules → FewSteps (policy_of l) q r
 
 -- of the rule of a number
@@ -74,19 +73,19 @@ steps_at p q n = steps_of p q (get_or p.rules n [])
 
 abbrev pub NearestPasses : Type 0
 NearestPasses =
-    (l : List ℕ) (q : Query) (s n : ℕ) → answer l q ≡ gives (not_permitted (Near s n))
+    (l : List ℕ) (q : Query) (s n : ℕ) → answer l q ≡ Ok (NotPermitted (Some (near s n)))
     → (n < length (policy_of l).rules) × (steps_at (policy_of l) q n ≡ s) × (s ≤ 4)
 
 abbrev pub NearestOfAll : Type 0
 NearestOfAll =
-    (l : List ℕ) (q : Query) (s n : ℕ) → answer l q ≡ gives (not_permitted (Near s n))
+    (l : List ℕ) (q : Query) (s n : ℕ) → answer l q ≡ Ok (NotPermitted (Some (near s n)))
     → (k : ℕ) → k < length (policy_of l).rules → (steps_at (policy_of l) q k ≤ s) × (k < n → steps_at (policy_of l) q k < s)
 
 abbrev pub NoRulesExactly : Type 0
 NoRulesExactly =
     (l : List ℕ) (q : Query) → Accepted l → Valid l q
-    → (answer l q ≡ gives (not_permitted NoRules) → (policy_of l).rules ≡ [])
-    × ((policy_of l).rules ≡ [] → answer l q ≡ gives (not_permitted NoRules))
+    → (answer l q ≡ Ok (NotPermitted None) → (policy_of l).rules ≡ [])
+    × ((policy_of l).rules ≡ [] → answer l q ≡ Ok (NotPermitted None))
 
 unfoldable pub off : List ℕ → List ℕ
 off r = set r 10 0
@@ -94,34 +93,34 @@ off r = set r 10 0
 unfoldable pub step_cases : List Case
 step_cases =
     -- allow 10 to 21, class 5, action 1: stopped at the source, whatever comes after it; at the destination, the class, the action
-    ask (extended empty (allow 10 21 5 1)) 11 21 5 1 (gives (not_permitted (Near 1 0)))
-    ∷ ask (extended empty (allow 10 21 5 1)) 11 22 6 2 (gives (not_permitted (Near 1 0)))
-    ∷ ask (extended empty (allow 10 21 5 1)) 10 22 5 1 (gives (not_permitted (Near 2 0)))
-    ∷ ask (extended empty (allow 10 21 5 1)) 10 21 6 1 (gives (not_permitted (Near 3 0)))
-    ∷ ask (extended empty (allow 10 21 5 1)) 10 21 5 2 (gives (not_permitted (Near 4 0)))
-    ∷ ask (extended empty (allow 10 21 5 1)) 10 21 5 1 (gives (permitted 0))
+    ask (extended empty (allow 10 21 5 1)) 11 21 5 1 (Ok (NotPermitted (Some (near 1 0))))
+    ∷ ask (extended empty (allow 10 21 5 1)) 11 22 6 2 (Ok (NotPermitted (Some (near 1 0))))
+    ∷ ask (extended empty (allow 10 21 5 1)) 10 22 5 1 (Ok (NotPermitted (Some (near 2 0))))
+    ∷ ask (extended empty (allow 10 21 5 1)) 10 21 6 1 (Ok (NotPermitted (Some (near 3 0))))
+    ∷ ask (extended empty (allow 10 21 5 1)) 10 21 5 2 (Ok (NotPermitted (Some (near 4 0))))
+    ∷ ask (extended empty (allow 10 21 5 1)) 10 21 5 1 (Ok (Permitted 0))
     -- off: none of its later steps counts, but it is a rule; a constraint that fails plays no part
-    ∷ ask (extended empty (off (allow 10 21 5 1))) 10 21 5 1 (gives (not_permitted (Near 0 0)))
-    ∷ ask (extended (extended empty (off (allow 10 21 5 1))) (off (allow 10 21 5 2))) 10 21 5 1 (gives (not_permitted (Near 0 0)))
-    ∷ ask (extended (extended empty (off (allow 10 21 5 1))) (allow 11 21 5 1)) 10 21 5 1 (gives (not_permitted (Near 1 1)))
-    ∷ ask (extended (extended empty (off (allow 10 21 5 1))) banned) 10 21 5 1 (gives (not_permitted (Near 0 0)))
+    ∷ ask (extended empty (off (allow 10 21 5 1))) 10 21 5 1 (Ok (NotPermitted (Some (near 0 0))))
+    ∷ ask (extended (extended empty (off (allow 10 21 5 1))) (off (allow 10 21 5 2))) 10 21 5 1 (Ok (NotPermitted (Some (near 0 0))))
+    ∷ ask (extended (extended empty (off (allow 10 21 5 1))) (allow 11 21 5 1)) 10 21 5 1 (Ok (NotPermitted (Some (near 1 1))))
+    ∷ ask (extended (extended empty (off (allow 10 21 5 1))) banned) 10 21 5 1 (Ok (NotPermitted (Some (near 0 0))))
     -- a transition from 21 to 10, of class 5: stopped at the source and at the destination, of its class and of another
-    ∷ ask (extended empty back_transition) 20 10 5 1 (gives (not_permitted (Near 1 0)))
-    ∷ ask (extended empty back_transition) 21 11 5 1 (gives (not_permitted (Near 2 0)))
-    ∷ ask (extended empty back_transition) 21 11 6 1 (gives (not_permitted (Near 2 0)))
-    ∷ ask (extended empty back_transition) 21 10 6 1 (gives (permitted 0))
+    ∷ ask (extended empty back_transition) 20 10 5 1 (Ok (NotPermitted (Some (near 1 0))))
+    ∷ ask (extended empty back_transition) 21 11 5 1 (Ok (NotPermitted (Some (near 2 0))))
+    ∷ ask (extended empty back_transition) 21 11 6 1 (Ok (NotPermitted (Some (near 2 0))))
+    ∷ ask (extended empty back_transition) 21 10 6 1 (Ok (Permitted 0))
     -- the lowest of several, the greatest of all, the last rule
-    ∷ ask (extended (extended empty (allow 10 21 5 1)) (allow 10 21 5 2)) 10 21 5 3 (gives (not_permitted (Near 4 0)))
-    ∷ ask (extended (extended empty (allow 10 22 5 1)) (allow 10 21 6 2)) 10 21 5 3 (gives (not_permitted (Near 3 1)))
-    ∷ ask (extended (extended empty back_transition) (allow 21 11 5 1)) 21 11 6 1 (gives (not_permitted (Near 3 1)))
-    ∷ ask (extended sample (allow 14 21 5 7)) 14 21 5 8 (gives (not_permitted (Near 4 4)))
+    ∷ ask (extended (extended empty (allow 10 21 5 1)) (allow 10 21 5 2)) 10 21 5 3 (Ok (NotPermitted (Some (near 4 0))))
+    ∷ ask (extended (extended empty (allow 10 22 5 1)) (allow 10 21 6 2)) 10 21 5 3 (Ok (NotPermitted (Some (near 3 1))))
+    ∷ ask (extended (extended empty back_transition) (allow 21 11 5 1)) 21 11 6 1 (Ok (NotPermitted (Some (near 3 1))))
+    ∷ ask (extended sample (allow 14 21 5 7)) 14 21 5 8 (Ok (NotPermitted (Some (near 4 4))))
     -- the sample's rule 1 and its transition, rule 2
-    ∷ ask sample 20 30 6 2 (gives (not_permitted (Near 3 1)))
-    ∷ ask sample 12 30 5 1 (gives (not_permitted (Near 2 2)))
+    ∷ ask sample 20 30 6 2 (Ok (NotPermitted (Some (near 3 1))))
+    ∷ ask sample 12 30 5 1 (Ok (NotPermitted (Some (near 2 2))))
     -- group 0 is 20, 21, which is not within 20; and is within itself
-    ∷ ask sample g0 30 5 2 (gives (not_permitted (Near 1 0)))
-    ∷ ask sample 12 g0 5 1 (gives (not_permitted (Near 2 2)))
-    ∷ ask (extended sample (allow_group 0 10)) g0 10 5 1 (gives (not_permitted (Near 4 4)))
+    ∷ ask sample g0 30 5 2 (Ok (NotPermitted (Some (near 1 0))))
+    ∷ ask sample 12 g0 5 1 (Ok (NotPermitted (Some (near 2 2))))
+    ∷ ask (extended sample (allow_group 0 10)) g0 10 5 1 (Ok (NotPermitted (Some (near 4 4))))
     ∷ []
 
 abbrev pub StepCases : Type 0

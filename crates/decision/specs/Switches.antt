@@ -19,19 +19,20 @@
 --                         transition; a rule that is on, and one that is off, under every switch; each predicate by a rule that a
 --                         switch turns on and off; conditions 33 and 34
 --     SwitchCases         the definitions give these answers
-use Rattle.std.specs.Prelude.{ℕ, zero, suc, ◌+◌, ◌*◌, ◌-◌, ◌/◌, ◌<◌, ◌≤◌, ◌^◌, ◌≡◌, true, false, not, cond, get_or, set, eqb}
+use Rattle.std.specs.Prelude.{ℕ, zero, suc, ◌+◌, ◌*◌, ◌-◌, ◌/◌, ◌<◌, ◌≤◌, ◌^◌, ◌≡◌, true, false, not, cond, get_or, set, eqb, Some}
 use mathlib.Core.List.{List, [], ◌∷◌, ◌++◌, map, Memᴰ}
 use Rattle.format.specs.Bytes.{Bytes}
 use Rattle.format.specs.Policy.{Policy, image_of, policy_of}
 use Rattle.format.specs.Check.{Accepted}
 use Rattle.format.specs.Refusals.{refusal}
-use Rattle.format.specs.Answers.{refused, gives}
+use Rattle.std.specs.Prelude.{Ok, Err}
 use Rattle.format.specs.Sample.{sample}
 use Rattle.decision.specs.declared.Query.{Query}
-use Rattle.decision.specs.declared.Nearest.TheVariants.{Near}
 use Rattle.decision.specs.Conditions.{is_on}
 use Rattle.decision.specs.Reading.{rule_of}
-use Rattle.decision.specs.Decide.{Decision, not_permitted, permitted, unknown, decide, answer, query_of}
+use Rattle.decision.specs.declared.Decision.{Decision}
+use Rattle.decision.specs.declared.Decision.TheVariants.{NotPermitted, Permitted, UnKnown}
+use Rattle.decision.specs.Decide.{decide, answer, query_of, near}
 use Rattle.decision.specs.Order.{height, Grows, NoCompanion, SwitchedOn}
 use Rattle.decision.specs.Cases.{g0, allow, companion, extended, Case, ask_on, given, expected_of}
 
@@ -87,7 +88,7 @@ pub record SwitchesAdd : Type 0 where
 
 abbrev pub SwitchOrder : Type 0
 SwitchOrder =
-    (l : List ℕ) (q : Query) (w : ℕ) (d₁ d₂ : Decision) → answer l q ≡ gives d₁ → answer l (with_word w q) ≡ gives d₂
+    (l : List ℕ) (q : Query) (w : ℕ) (d₁ d₂ : Decision) → answer l q ≡ Ok d₁ → answer l (with_word w q) ≡ Ok d₂
     → SwitchedOn q.switches w → NoCompanion (policy_of l).constraints → height d₁ ≤ height d₂
 
 -- ---- cases, worked out by hand from documents 01 and 02
@@ -102,37 +103,37 @@ sample_if b = set sample 55 b
 unfoldable pub switch_cases : List Case
 switch_cases =
     -- switch 0, 1, 16 and 31; a rule that is off passes no step, and rule 0 stops at its source
-    ask_on 0 (sample_if 2) 13 21 5 1 (gives (not_permitted (Near 1 0)))
-    ∷ ask_on 1 (sample_if 2) 13 21 5 1 (gives (permitted 3))
-    ∷ ask_on 2 (sample_if 2) 13 21 5 1 (gives (not_permitted (Near 1 0)))
-    ∷ ask_on 2 (sample_if 3) 13 21 5 1 (gives (permitted 3))
-    ∷ ask_on 1 (sample_if 3) 13 21 5 1 (gives (not_permitted (Near 1 0)))
-    ∷ ask_on 0x10000 (sample_if 18) 13 21 5 1 (gives (permitted 3))
-    ∷ ask_on 0xFFFEFFFF (sample_if 18) 13 21 5 1 (gives (not_permitted (Near 1 0)))
-    ∷ ask_on 0x80000000 (sample_if 33) 13 21 5 1 (gives (permitted 3))
-    ∷ ask_on 0x7FFFFFFF (sample_if 33) 13 21 5 1 (gives (not_permitted (Near 1 0)))
-    ∷ ask_on 0xFFFFFFFF (sample_if 17) 13 21 5 1 (gives (permitted 3))
+    ask_on 0 (sample_if 2) 13 21 5 1 (Ok (NotPermitted (Some (near 1 0))))
+    ∷ ask_on 1 (sample_if 2) 13 21 5 1 (Ok (Permitted 3))
+    ∷ ask_on 2 (sample_if 2) 13 21 5 1 (Ok (NotPermitted (Some (near 1 0))))
+    ∷ ask_on 2 (sample_if 3) 13 21 5 1 (Ok (Permitted 3))
+    ∷ ask_on 1 (sample_if 3) 13 21 5 1 (Ok (NotPermitted (Some (near 1 0))))
+    ∷ ask_on 0x10000 (sample_if 18) 13 21 5 1 (Ok (Permitted 3))
+    ∷ ask_on 0xFFFEFFFF (sample_if 18) 13 21 5 1 (Ok (NotPermitted (Some (near 1 0))))
+    ∷ ask_on 0x80000000 (sample_if 33) 13 21 5 1 (Ok (Permitted 3))
+    ∷ ask_on 0x7FFFFFFF (sample_if 33) 13 21 5 1 (Ok (NotPermitted (Some (near 1 0))))
+    ∷ ask_on 0xFFFFFFFF (sample_if 17) 13 21 5 1 (Ok (Permitted 3))
     -- all of its steps are asked once it is on
-    ∷ ask_on 1 (sample_if 2) 13 21 5 2 (gives (not_permitted (Near 4 3)))
-    ∷ ask_on 0 (sample_if 2) 13 21 5 2 (gives (not_permitted (Near 1 0)))
+    ∷ ask_on 1 (sample_if 2) 13 21 5 2 (Ok (NotPermitted (Some (near 4 3))))
+    ∷ ask_on 0 (sample_if 2) 13 21 5 2 (Ok (NotPermitted (Some (near 1 0))))
     -- no switch turns off a rule that is on, or on one that is off; a transition has no condition
-    ∷ ask_on 0 sample 10 21 5 1 (gives (permitted 0))
-    ∷ ask_on 0xFFFFFFFF sample 10 21 5 1 (gives (permitted 0))
-    ∷ ask_on 0xFFFFFFFF sample 13 21 5 1 (gives (not_permitted (Near 1 0)))
-    ∷ ask_on 0 sample 12 20 9 9 (gives (permitted 2))
-    ∷ ask_on 0xFFFFFFFF sample 12 20 9 9 (gives (permitted 2))
+    ∷ ask_on 0 sample 10 21 5 1 (Ok (Permitted 0))
+    ∷ ask_on 0xFFFFFFFF sample 10 21 5 1 (Ok (Permitted 0))
+    ∷ ask_on 0xFFFFFFFF sample 13 21 5 1 (Ok (NotPermitted (Some (near 1 0))))
+    ∷ ask_on 0 sample 12 20 9 9 (Ok (Permitted 2))
+    ∷ ask_on 0xFFFFFFFF sample 12 20 9 9 (Ok (Permitted 2))
     -- a separation (constraint 1), by a rule 10 to 30 of switch 5
-    ∷ ask_on 32 (extended sample (allow_if 7 (allow 10 30 5 3))) 20 30 5 2 (gives (unknown 1 1))
-    ∷ ask_on 31 (extended sample (allow_if 7 (allow 10 30 5 3))) 20 30 5 2 (gives (permitted 1))
+    ∷ ask_on 32 (extended sample (allow_if 7 (allow 10 30 5 3))) 20 30 5 2 (Ok (UnKnown 1 1))
+    ∷ ask_on 31 (extended sample (allow_if 7 (allow 10 30 5 3))) 20 30 5 2 (Ok (Permitted 1))
     -- a roster (constraint 0), by a rule 14 to g0 of switch 5
-    ∷ ask_on 32 (extended sample (allow_if 7 (allow 14 g0 7 7))) 10 21 5 1 (gives (unknown 0 0))
-    ∷ ask_on 31 (extended sample (allow_if 7 (allow 14 g0 7 7))) 10 21 5 1 (gives (permitted 0))
+    ∷ ask_on 32 (extended sample (allow_if 7 (allow 14 g0 7 7))) 10 21 5 1 (Ok (UnKnown 0 0))
+    ∷ ask_on 31 (extended sample (allow_if 7 (allow 14 g0 7 7))) 10 21 5 1 (Ok (Permitted 0))
     -- a companion (constraint 2), by a rule 21 to 10 of switch 5: turning it on lowers the decision
-    ∷ ask_on 31 (extended (extended sample companion) (allow_if 7 (allow 21 10 5 9))) 10 21 5 1 (gives (unknown 0 2))
-    ∷ ask_on 32 (extended (extended sample companion) (allow_if 7 (allow 21 10 5 9))) 10 21 5 1 (gives (permitted 0))
+    ∷ ask_on 31 (extended (extended sample companion) (allow_if 7 (allow 21 10 5 9))) 10 21 5 1 (Ok (UnKnown 0 2))
+    ∷ ask_on 32 (extended (extended sample companion) (allow_if 7 (allow 21 10 5 9))) 10 21 5 1 (Ok (Permitted 0))
     -- 33 is the last condition, whatever the word
-    ∷ ask_on 0 (sample_if 34) 10 21 5 1 (refused (refusal 6 55))
-    ∷ ask_on 0 (sample_if 255) 10 21 5 1 (refused (refusal 6 55))
+    ∷ ask_on 0 (sample_if 34) 10 21 5 1 (Err (refusal 6 55))
+    ∷ ask_on 0 (sample_if 255) 10 21 5 1 (Err (refusal 6 55))
     ∷ []
 
 abbrev pub SwitchCases : Type 0

@@ -20,12 +20,13 @@ use Rattle.std.specs.Prelude.{ℕ, ◌≡◌, Bool, true, false, not, ◌&&◌, 
 use Rattle.format.specs.Bytes.{word_at}
 use Rattle.format.specs.Policy.{Policy, policy_of}
 use Rattle.format.specs.Check.{Accepted}
-use Rattle.format.specs.Answers.{gives}
+use Rattle.std.specs.Prelude.{Ok}
 use Rattle.decision.specs.declared.Query.{Query}
 use Rattle.decision.specs.Sets.{set_of, within}
 use Rattle.decision.specs.Conditions.{is_on}
 use Rattle.decision.specs.Reading.{Rule, Constraint, Request, request_of, rules_of, constraints_of}
-use Rattle.decision.specs.Decide.{broken, Decision, decide, answer, Valid}
+use Rattle.decision.specs.declared.Decision.{Decision}
+use Rattle.decision.specs.Decide.{broken, decide, answer, Valid}
 use Rattle.decision.specs.Order.{height}
 
 -- 000:211-212 "Inductive DCS:Set := Permitted | NotPermitted | UnKnown."
@@ -94,9 +95,9 @@ eval_policy p q =
     (maximum (map (eval_constraint (rules_of p q.switches) (request_of p q)) (constraints_of p)))
 
 unfoldable pub forget : Decision → Dcs
-forget (Decision.not_permitted x) = NotPermitted
-forget (Decision.permitted r) = Permitted
-forget (Decision.unknown r c) = UnKnown
+forget (Decision.NotPermitted x) = NotPermitted
+forget (Decision.Permitted r) = Permitted
+forget (Decision.UnKnown r c) = UnKnown
 
 abbrev pub PublishedMeaning : Type 0
 PublishedMeaning = (p : Policy) (q : Query) → eval_policy p q ≡ forget (decide p q)
@@ -104,7 +105,7 @@ PublishedMeaning = (p : Policy) (q : Query) → eval_policy p q ≡ forget (deci
 abbrev pub PublishedAnswer : Type 0
 PublishedAnswer =
     (l : List ℕ) (q : Query) → Accepted l → Valid l q
-    → (d : Decision) × (answer l q ≡ gives d) × (eval_policy (policy_of l) q ≡ forget d)
+    → (d : Decision) × (answer l q ≡ Ok d) × (eval_policy (policy_of l) q ≡ forget d)
 
 -- the order of the order rule is the paper's
 abbrev pub PublishedOrder : Type 0

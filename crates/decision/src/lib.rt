@@ -13,18 +13,23 @@ pub struct Query {
     pub switches: u32,
 }
 
-// How near a rule came to a query that none covers: the steps that it passes, and its number; or there are no rules.
+// How near a rule came to a query that none covers: the steps that it passes, and its number.
 #[derive(Clone, Copy)]
-pub enum Nearest {
-    NoRules,
-    Near(usize, usize),
+pub struct Near {
+    pub steps: usize,
+    pub rule: usize,
 }
 
-// What a query is answered: the decision with its rule and its constraint, or how near a rule came; or the refusal.
+// The nearest rule, if there is a rule at all.
+pub type Nearest = Option<Near>;
+
+// What an accepted policy decides: how near a rule came; the covering rule; that rule and the constraint that fails.
 #[derive(Clone, Copy)]
-pub enum Answer {
+pub enum Decision {
     NotPermitted(Nearest),
     Permitted(usize),
     UnKnown(usize, usize),
-    Refused(Refusal),
 }
+
+// What a query is answered: the decision, or the refusal.
+pub type Answer = Result<Decision, Refusal>;

@@ -1,7 +1,7 @@
 -- Laws of the sections' places after one record more. Assumes nothing.
 use Prim.Native.Nat.{ℕ, ◌+◌, ◌≤◌, ◌<◌}
 use mathlib.Core.Path.{◌≡◌, sym, ap, ap₂, ◌∙◌}
-use mathlib.Core.Option.{none, some}
+use Rattle.std.specs.Prelude.{None, Some, Err}
 use mathlib.Core.List.{List, [], ◌∷◌, ◌++◌, flatten}
 use native.Mathlib.Omega.{arith}
 use lib.ListN.{length, get_or, length-append}
@@ -13,7 +13,8 @@ use Rattle.format.specs.Refusals.{refusal}
 use Rattle.format.specs.Format.{count_place}
 use Rattle.format.specs.Policy.{Policy, image_of, policy_of, start_of}
 use Rattle.format.specs.Check.{image_in, check_front}
-use Rattle.format.specs.Answers.{gives, starts}
+use Rattle.std.specs.Prelude.{Ok}
+use Rattle.format.specs.Answers.{starts, Outcome}
 use Rattle.format.proofs.ByCase.{count_place_groups, count_place_rules, count_place_constraints}
 use Rattle.format.proofs.Chain.{or_else_split}
 use Rattle.format.proofs.Front.{front_accepted, front_bytes}
@@ -21,7 +22,6 @@ use Rattle.format.proofs.Reach.{longest_image}
 use Rattle.format.proofs.Images.{Sound, policy_sound, image_of_policy, start_rules, start_constraints}
 use Rattle.extension.specs.Add.{section_of, with_record, own_fault, add_fault, buffer_after}
 use Rattle.format.specs.declared.Refusal.{Refusal}
-use Rattle.format.specs.declared.Sections.TheVariants.{At, Refused}
 use Rattle.format.proofs.Shapes.{length_cases, shape_kind}
 use Rattle.format.proofs.Accepted.{accepted_header, accepted_body, start_inside}
 use Rattle.extension.specs.Inner.Splice.{inserted}
@@ -55,12 +55,12 @@ starts_with Constraints p r w v =
     (ap₂ places (omega (arith, start_rules p w.regular, start_rules _ v.regular)) (omega (arith, start_constraints p w.regular, start_constraints _ v.regular)))
 
 pub starts_moved :
-    (b r : List ℕ) → Bytes b → Bytes r → add_fault b r ≡ none
+    (b r : List ℕ) → Bytes b → Bytes r → add_fault b r ≡ None
     → moved_starts (starts (image_in b)) (count_place (section_of (get_or r 1 0))) (length r) ≡ starts (image_in (buffer_after b r))
 unfolding add_fault
 starts_moved b r by bytes e =
     let s : Section = section_of (get_or r 1 0) in
-    let f : check_front b ≡ none = (or_else_split (check_front b) (own_fault b r) e).0 in
+    let f : check_front b ≡ None = (or_else_split (check_front b) (own_fault b r) e).0 in
     let q = added_accepted b r by bytes e in
     let i : image_of (policy_of (image_in b)) ≡ image_in b = image_of_policy (image_in b) (front_bytes b f by) (front_accepted b f) in
     let l : List ℕ = image_in (buffer_after b r) in
@@ -72,7 +72,7 @@ starts_moved b r by bytes e =
     ∙ ap starts j
 
 pub starts_small :
-    (b r : List ℕ) → add_fault b r ≡ none → (y : Starts) → y ≡ starts (image_in b) → (y.rules + length r < 131072) × (y.constraints + length r < 131072)
+    (b r : List ℕ) → add_fault b r ≡ None → (y : Starts) → y ≡ starts (image_in b) → (y.rules + length r < 131072) × (y.constraints + length r < 131072)
 unfolding add_fault
 starts_small b r e y is =
     let f = or_else_split (check_front b) (own_fault b r) e in
@@ -88,17 +88,17 @@ starts_small b r e y is =
     (omega arith, omega arith)
 
 pub grown :
-    (at : ℕ) (b r : List ℕ) → Bytes b → Bytes r → add_fault b r ≡ none → (y : Starts) (slot : Slot) {z : Starts} {after : List ℕ}
+    (at : ℕ) (b r : List ℕ) → Bytes b → Bytes r → add_fault b r ≡ None → (y : Starts) (slot : Slot) {z : Starts} {after : List ℕ}
     → y ≡ starts (image_in b) → slot ≡ slot_of b r → z ≡ moved_starts y slot.field (length r)
-    → after ≡ inserted b r slot.at slot.size slot.field slot.count → Grows at b r (At z) after
+    → after ≡ inserted b r slot.at slot.size slot.field slot.count → Grows at b r (Ok z) after
 unfolding slot_of moved_to
 grown at b r by bytes e y slot {z} {after} is where_to moved put =
     let k : after ≡ buffer_after b r = put ∙ ap (λ (x : Slot). inserted b r x.at x.size x.field x.count) where_to ∙ buffer_inserted b r by e in
     let m : z ≡ starts (image_in after) =
     moved ∙ ap₂ (λ (x : Starts) (q : Slot). moved_starts x q.field (length r)) is where_to ∙ starts_moved b r by bytes e
     ∙ ap (λ (x : List ℕ). starts (image_in x)) (sym k) in
-    record { answer = rw e (ap gives m); buffer = k; accepted = rw k (added_accepted b r by bytes e).0 }
+    record { answer = rw e (ap Ok m); buffer = k; accepted = rw k (added_accepted b r by bytes e).0 }
 
-pub not_grown : (at : ℕ) (b r : List ℕ) {f : Refusal} → check_front b ≡ none → add_fault b r ≡ some f → Grows at b r (Refused (refusal f.number at)) b
+pub not_grown : (at : ℕ) (b r : List ℕ) {f : Refusal} → check_front b ≡ None → add_fault b r ≡ Some f → Grows at b r (Err (refusal f.number at)) b
 unfolding moved_to
 not_grown at b r {f} ok e = record { answer = rw e; buffer = sym (buffer_refused b r f e); accepted = ok }

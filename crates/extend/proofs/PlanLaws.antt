@@ -2,7 +2,7 @@
 use Prim.Native.Nat.{ℕ, suc, ◌+◌, ◌-◌, ◌≤◌, ◌<◌}
 use mathlib.Core.Path.{◌≡◌, refl, sym, ap, ◌∙◌}
 use mathlib.Core.Bool.{Bool, true, false}
-use mathlib.Core.Option.{none, some}
+use Rattle.std.specs.Prelude.{None, Some, Err}
 use mathlib.Core.List.{List, [], ◌∷◌}
 use native.Mathlib.Omega.{arith}
 use native.Mathlib.Nat.{add-sub_cancel_left}
@@ -11,7 +11,7 @@ use lib.Seq.{drop-cons}
 use borrow.Author.Tests.{le-ltb, lt-ltb, lt-leb}
 use Rattle.format.specs.declared.Section.{Section}
 use Rattle.format.specs.declared.Section.TheVariants.{Groups, Rules, Constraints}
-use Rattle.format.specs.declared.Read.TheVariants.{Whole, Malformed, BadField}
+use Rattle.format.specs.declared.Misread.TheVariants.{Malformed, BadField}
 use Rattle.format.specs.declared.Starts.{Starts}
 use Rattle.format.specs.Bytes.{Bytes, word_at}
 use Rattle.format.specs.Refusals.{refusal}
@@ -20,7 +20,8 @@ use Rattle.format.specs.Policy.{Policy, policy_of, record_at, place_of}
 use Rattle.format.specs.Twins.{same_bytes, listed}
 use Rattle.format.specs.Inner.Places.{Stands}
 use Rattle.format.specs.Check.{read_of, image_in, check_front, Accepted}
-use Rattle.format.specs.Answers.{gives, outcome, starts}
+use Rattle.std.specs.Prelude.{Ok}
+use Rattle.format.specs.Answers.{outcome, starts}
 use Rattle.format.proofs.Chain.{or_else_split, or_else_next, or_else_first, need_none, need_some}
 use Rattle.format.proofs.Shapes.{Formed, record_part, length_least, length_cases, shape_length, shape_kind, first_whole, read_whole, read_bad_field, read_malformed}
 use Rattle.format.proofs.ByCase.{limit_most, count_place_most}
@@ -37,7 +38,7 @@ use Rattle.extend.specs.Inner.Moves.{Fits}
 
 -- ---- refusal 10
 
-pub own_shape : (b r : List ℕ) → (shape_ok r ≡ true → ⊥) → own_fault b r ≡ some (refusal 10 0)
+pub own_shape : (b r : List ℕ) → (shape_ok r ≡ true → ⊥) → own_fault b r ≡ Some (refusal 10 0)
 unfolding own_fault
 own_shape b r f = or_else_first _ (need_some _ (go (shape_ok r) refl))
   where
@@ -46,13 +47,13 @@ own_shape b r f = or_else_first _ (need_some _ (go (shape_ok r) refl))
     go false e = e
 
 module _ (b r : List ℕ) where
-  pub own_tiny : length r < 2 → own_fault b r ≡ some (refusal 10 0)
+  pub own_tiny : length r < 2 → own_fault b r ≡ Some (refusal 10 0)
   own_tiny h = own_shape b r (λ e. (let n = length_least (get_or r 1 0) (length r) (shape_kind r e) in omega arith))
 
-  pub own_length : (n : ℕ) → n ≡ get_or r 0 0 → (n ≡ length r → ⊥) → own_fault b r ≡ some (refusal 10 0)
+  pub own_length : (n : ℕ) → n ≡ get_or r 0 0 → (n ≡ length r → ⊥) → own_fault b r ≡ Some (refusal 10 0)
   own_length n is h = own_shape b r (λ e. h (is ∙ sym (shape_length r e)))
 
-  pub own_kind : (k : ℕ) → k ≡ get_or r 1 0 → (k ≡ 1 → ⊥) → (k ≡ 2 → ⊥) → (k ≡ 3 → ⊥) → (k ≡ 4 → ⊥) → own_fault b r ≡ some (refusal 10 0)
+  pub own_kind : (k : ℕ) → k ≡ get_or r 1 0 → (k ≡ 1 → ⊥) → (k ≡ 2 → ⊥) → (k ≡ 3 → ⊥) → (k ≡ 4 → ⊥) → own_fault b r ≡ Some (refusal 10 0)
   own_kind k is a₁ a₂ a₃ a₄ =
       own_shape b r (λ e. length_cases (get_or r 1 0) (length r) (shape_kind r e)
       (λ j _ _ _. a₁ (is ∙ j)) (λ j _. a₂ (is ∙ j)) (λ j _. a₃ (is ∙ j)) (λ j _ _ _. a₄ (is ∙ j)))
@@ -66,26 +67,26 @@ module _ (b r : List ℕ) (s : Section) (size : get_or r 0 0 ≡ length r) (kind
   is_section : section_of (get_or r 1 0) ≡ s
   is_section = section_of_lem s (get_or r 1 0) kind
 
-  pub own_malformed : read_of s (count_of b Groups) r ≡ Malformed → own_fault b r ≡ some (refusal 10 0)
+  pub own_malformed : read_of s (count_of b Groups) r ≡ Err Malformed → own_fault b r ≡ Some (refusal 10 0)
   own_malformed e = own_shape b r (λ h. read_malformed s (count_of b Groups) r e (rw whole_first h) (rw whole_first kind))
 
-  pub own_field : (i : ℕ) → read_of s (count_of b Groups) r ≡ BadField i → own_fault b r ≡ some (refusal 11 i)
+  pub own_field : (i : ℕ) → read_of s (count_of b Groups) r ≡ Err (BadField i) → own_fault b r ≡ Some (refusal 11 i)
   unfolding own_fault field_fault
   own_field i e =
       let q = rw whole_first at (read_bad_field s (count_of b Groups) i r e) in
       or_else_next _ (need_none _ q.0) ∙ or_else_first _ (rw q.1)
 
-  module _ (n : ℕ) (e : read_of s (count_of b Groups) r ≡ Whole n) where
+  module _ (n : ℕ) (e : read_of s (count_of b Groups) r ≡ Ok n) where
     whole_formed : Formed s (count_of b Groups) r
     whole_formed = rw whole_first at (read_whole s (count_of b Groups) n r e).0
 
-    pub own_twin : added_twin s (policy_of (image_in b)) r ≡ true → own_fault b r ≡ some (refusal 20 0)
+    pub own_twin : added_twin s (policy_of (image_in b)) r ≡ true → own_fault b r ≡ Some (refusal 20 0)
     unfolding own_fault field_fault
     own_twin h =
         or_else_next _ (need_none _ whole_formed.shape) ∙ or_else_next _ (rw whole_formed.fields)
         ∙ or_else_first _ (need_some _ (rw (is_section, h)))
 
-    pub own_full : added_twin s (policy_of (image_in b)) r ≡ false → limit_of s ≤ count_of b s → own_fault b r ≡ some (refusal 12 0)
+    pub own_full : added_twin s (policy_of (image_in b)) r ≡ false → limit_of s ≤ count_of b s → own_fault b r ≡ Some (refusal 12 0)
     unfolding own_fault field_fault new_number
     own_full t h =
         or_else_next _ (need_none _ whole_formed.shape) ∙ or_else_next _ (rw whole_formed.fields)
@@ -93,7 +94,7 @@ module _ (b r : List ℕ) (s : Section) (size : get_or r 0 0 ≡ length r) (kind
         ∙ or_else_first _ (need_some _ (rw is_section (le-ltb (count_of b s) (limit_of s) h)))
 
     module _ (fresh : added_twin s (policy_of (image_in b)) r ≡ false) (few : count_of b s < limit_of s) where
-      pub own_short : length b < word_at b 1 + length r → own_fault b r ≡ some (refusal 13 0)
+      pub own_short : length b < word_at b 1 + length r → own_fault b r ≡ Some (refusal 13 0)
       unfolding own_fault field_fault new_number
       own_short h =
           or_else_next _ (need_none _ whole_formed.shape) ∙ or_else_next _ (rw whole_formed.fields)
@@ -101,7 +102,7 @@ module _ (b r : List ℕ) (s : Section) (size : get_or r 0 0 ≡ length r) (kind
           ∙ or_else_next _ (need_none _ (rw is_section (lt-ltb (count_of b s) (limit_of s) few)))
           ∙ need_some _ (lt-leb (word_at b 1 + length r) (length b) h)
 
-      pub own_none : word_at b 1 + length r ≤ length b → own_fault b r ≡ none
+      pub own_none : word_at b 1 + length r ≤ length b → own_fault b r ≡ None
       own_none h = passes_own b r (record { formed = rw is_section whole_formed; fresh = rw is_section fresh; few = rw is_section few; room = h })
 
   -- the slot at the end of the section is the record's
@@ -111,7 +112,7 @@ module _ (b r : List ℕ) (s : Section) (size : get_or r 0 0 ≡ length r) (kind
 
 -- ---- where the sections end
 
-module _ (b : List ℕ) (e : check_front b ≡ none) (y : Starts) (is : y ≡ starts (image_in b)) where
+module _ (b : List ℕ) (e : check_front b ≡ None) (y : Starts) (is : y ≡ starts (image_in b)) where
   pub end_groups : y.rules ≡ end_of_section (image_in b) Groups
   unfolding end_of_section
   end_groups = ap (λ z. z.rules) is
@@ -120,7 +121,7 @@ module _ (b : List ℕ) (e : check_front b ≡ none) (y : Starts) (is : y ≡ st
   unfolding end_of_section
   end_rules = ap (λ z. z.constraints) is
 
-pub end_constraints : (b : List ℕ) (n : ℕ) → check_front b ≡ none → n ≡ word_at b 1 → n ≡ end_of_section (image_in b) Constraints
+pub end_constraints : (b : List ℕ) (n : ℕ) → check_front b ≡ None → n ≡ word_at b 1 → n ≡ end_of_section (image_in b) Constraints
 unfolding end_of_section
 end_constraints b n e is = is ∙ sym (front_length b e)
 
@@ -139,7 +140,7 @@ module _ (l : List ℕ) (e : Accepted l) where
   end_least Rules = start_least l Constraints
   end_least Constraints = (accepted_header l e).long
 
-pub slot_fits : (b r : List ℕ) → Bytes r → add_fault b r ≡ none → Fits b r (slot_of b r)
+pub slot_fits : (b r : List ℕ) → Bytes r → add_fault b r ≡ None → Fits b r (slot_of b r)
 unfolding add_fault slot_of
 slot_fits b r bytes e =
     let s : Section = section_of (get_or r 1 0) in
@@ -157,8 +158,8 @@ slot_fits b r bytes e =
     }
 
 pub slot_made :
-    (b r : List ℕ) (s : Section) (at size field count : ℕ) → size ≡ word_at b 1 → field ≡ count_place s → count ≡ count_of b s → own_fault b r ≡ none
-    → gives (record { at = at; size = size; field = field; count = count }) ≡ outcome (own_fault b r) (slot_at b s at)
+    (b r : List ℕ) (s : Section) (at size field count : ℕ) → size ≡ word_at b 1 → field ≡ count_place s → count ≡ count_of b s → own_fault b r ≡ None
+    → Ok (record { at = at; size = size; field = field; count = count }) ≡ outcome (own_fault b r) (slot_at b s at)
 slot_made b r s at size field count x y z e = rw (e, x, y, z)
 
 -- ---- the groups, one after the other

@@ -6,7 +6,7 @@
 use Prim.Native.Nat.{ℕ, zero, suc, ◌+◌, ◌-◌, ◌/◌, ◌%◌, ◌≤◌, ◌<◌}
 use mathlib.Core.Path.{◌≡◌, refl, sym, ap, ◌∙◌}
 use mathlib.Core.Bool.{Bool, true, false, cond}
-use mathlib.Core.Option.{Option, none, some}
+use Rattle.std.specs.Prelude.{Option, None, Some}
 use mathlib.Core.List.{List, [], ◌∷◌, ◌++◌, append-nil, append_assoc}
 use native.Mathlib.Omega.{arith}
 use native.Mathlib.Nat.{sub-zero}
@@ -114,7 +114,7 @@ module _ (k i : ℕ) where
   unfolding fields_from fields_in
   fields_next w ws h = next_field (form_of k).fields (form_of k).more i w ws h
 
-  pub fields_past : (w : List ℕ) (ws : List (List ℕ)) → length (fields_in (form_of k)) ≤ i → fields_from k i (w ∷ ws) ≡ none
+  pub fields_past : (w : List ℕ) (ws : List (List ℕ)) → length (fields_in (form_of k)) ≤ i → fields_from k i (w ∷ ws) ≡ None
   unfolding fields_from fields_in fields_of
   fields_past w ws h =
       let n = length-append (form_of k).fields (form_of k).more in
@@ -122,60 +122,60 @@ module _ (k i : ℕ) where
       let b : length (form_of k).more ≤ i - length (form_of k).fields = omega arith in
       rw (drop_of_length-le (form_of k).fields a, drop_of_length-le (form_of k).more b)
 
-  pub fields_end : fields_from k i [] ≡ cond (ltb i (length (form_of k).fields)) none (some [])
+  pub fields_end : fields_from k i [] ≡ cond (ltb i (length (form_of k).fields)) None (Some [])
   unfolding fields_from fields_of
   fields_end = step (ltb i (length (form_of k).fields)) refl where
     step :
         (t : Bool) → ltb i (length (form_of k).fields) ≡ t
-        → fields_of (drop i (form_of k).fields) (drop (i - length (form_of k).fields) (form_of k).more) [] ≡ cond t none (some [])
+        → fields_of (drop i (form_of k).fields) (drop (i - length (form_of k).fields) (form_of k).more) [] ≡ cond t None (Some [])
     step true e = rw (drop-cons (form_of k).fields i Member (ltb-true i (length (form_of k).fields) e))
     step false e = rw (drop_of_length-le (form_of k).fields (ltb-false i (length (form_of k).fields) e))
 
 -- ---- joined bytes
 
-join_nothing : (o : Option (List ℕ)) → joined (some []) o ≡ o
+join_nothing : (o : Option (List ℕ)) → joined (Some []) o ≡ o
 unfolding joined
-join_nothing none = refl
-join_nothing (some x) = refl
+join_nothing None = refl
+join_nothing (Some x) = refl
 
-join_more : (p b : List ℕ) (o : Option (List ℕ)) → joined (some p) (joined (some b) o) ≡ joined (some (p ++ b)) o
+join_more : (p b : List ℕ) (o : Option (List ℕ)) → joined (Some p) (joined (Some b) o) ≡ joined (Some (p ++ b)) o
 unfolding joined
-join_more p b none = refl
-join_more p b (some x) = ap some (sym (append_assoc p b x))
+join_more p b None = refl
+join_more p b (Some x) = ap Some (sym (append_assoc p b x))
 
 -- ---- the words of a row
 
 -- F is what all words of the row give, p the bytes of i words so far; l is the part of the text that is left
-module _ (F : Option (List ℕ)) (k i : ℕ) (p l : List ℕ) (h : F ≡ joined (some p) (fields_from k i (split 32 (row_of l)))) where
-  pub fill_past : length (fields_in (form_of k)) ≤ i → F ≡ none
+module _ (F : Option (List ℕ)) (k i : ℕ) (p l : List ℕ) (h : F ≡ joined (Some p) (fields_from k i (split 32 (row_of l)))) where
+  pub fill_past : length (fields_in (form_of k)) ≤ i → F ≡ None
   unfolding joined
   fill_past n = let q = words_first l in h ∙ rw (q.1, fields_past k i (word_of l) q.0 n)
 
   module _ (few : i < length (fields_in (form_of k))) (f : Field) (e : f ≡ get_or (fields_in (form_of k)) i Member) where
-    pub fill_outside : value_of f (word_of l) ≡ none → F ≡ none
+    pub fill_outside : value_of f (word_of l) ≡ None → F ≡ None
     unfolding joined as_bytes
     fill_outside n = let q = words_first l in h ∙ rw (q.1, fields_next k i (word_of l) q.0 few, ← e, n)
 
-    module _ (n : ℕ) (v : value_of f (word_of l) ≡ some n) where
-      word_put : (ws : List (List ℕ)) → split 32 (row_of l) ≡ word_of l ∷ ws → F ≡ joined (some (p ++ field_bytes f n)) (fields_from k (suc i) ws)
+    module _ (n : ℕ) (v : value_of f (word_of l) ≡ Some n) where
+      word_put : (ws : List (List ℕ)) → split 32 (row_of l) ≡ word_of l ∷ ws → F ≡ joined (Some (p ++ field_bytes f n)) (fields_from k (suc i) ws)
       unfolding as_bytes
       word_put ws q = h ∙ rw (q, fields_next k i (word_of l) ws few, ← e, v) (join_more p (field_bytes f n) (fields_from k (suc i) ws))
 
       pub fill_more :
           word_size l < length l → get_or l (word_size l) 0 ≡ 32
-          → F ≡ joined (some (p ++ field_bytes f n)) (fields_from k (suc i) (split 32 (row_of (drop (suc (word_size l)) l))))
+          → F ≡ joined (Some (p ++ field_bytes f n)) (fields_from k (suc i) (split 32 (row_of (drop (suc (word_size l)) l))))
       fill_more s c = word_put (split 32 (row_of (drop (suc (word_size l)) l))) (words_more l s c).0
 
       pub fill_last :
           (word_size l < length l → get_or l (word_size l) 0 ≡ 10)
-          → F ≡ joined (some (p ++ field_bytes f n)) (cond (ltb (suc i) (length (form_of k).fields)) none (some []))
-      fill_last c = word_put [] (words_last l c).0 ∙ ap (joined (some (p ++ field_bytes f n))) (fields_end k (suc i))
+          → F ≡ joined (Some (p ++ field_bytes f n)) (cond (ltb (suc i) (length (form_of k).fields)) None (Some []))
+      fill_last c = word_put [] (words_last l c).0 ∙ ap (joined (Some (p ++ field_bytes f n))) (fields_end k (suc i))
 
 -- ---- the word at a place of the text
 
 -- what is known where a word says something
 pub record Spelled (f : Field) (text : List ℕ) (start : ℕ) (w : Word) : Type 0 where
-  pub value : value_of f (word_of (drop start text)) ≡ some w.number
+  pub value : value_of f (word_of (drop start text)) ≡ Some w.number
   pub end : w.end ≡ start + word_size (drop start text)
   pub small : w.number < 65536
   pub short : is_short f ≡ true → w.number < 256
@@ -204,24 +204,24 @@ module _ (f : Field) (text : List ℕ) (start : ℕ) (w : Word) (s : Says (value
       let m = value_most_lem f (word_of (drop start text)) w.number v in
       record { value = v; end = s.end few; small = few; short = λ e. omega (arith, value_short f e) }
 
-  pub not_spelled : w.number ≡ 65536 → value_of f (word_of (drop start text)) ≡ none
+  pub not_spelled : w.number ≡ 65536 → value_of f (word_of (drop start text)) ≡ None
   unfolding said
   not_spelled h = nothing (value_of f (word_of (drop start text))) refl where
-    nothing : (o : Option ℕ) → value_of f (word_of (drop start text)) ≡ o → o ≡ none
-    nothing none e = refl
-    nothing (some n) e =
+    nothing : (o : Option ℕ) → value_of f (word_of (drop start text)) ≡ o → o ≡ None
+    nothing None e = refl
+    nothing (Some n) e =
         let m = value_most_lem f (word_of (drop start text)) n e in
-        let k : said (some n) ≡ 65536 = sym (ap said e) ∙ sym s.number ∙ h in
+        let k : said (Some n) ≡ 65536 = sym (ap said e) ∙ sym s.number ∙ h in
         absurd (said_is n k m)
       where
-        said_is : (n : ℕ) → said (some n) ≡ 65536 → n ≤ value_most f → ⊥
+        said_is : (n : ℕ) → said (Some n) ≡ 65536 → n ≤ value_most f → ⊥
         said_is n k m = omega (arith, value_small f)
 
 -- ---- one word more
 
 -- what all words of the row give, where the first i are in the part, and the text goes on from `start`
 abbrev pub Filling : Option (List ℕ) → ℕ → ℕ → List ℕ → ℕ → List ℕ → Type 0
-Filling F k i text start p = F ≡ joined (some p) (fields_from k i (split 32 (row_of (drop start text))))
+Filling F k i text start p = F ≡ joined (Some p) (fields_from k i (split 32 (row_of (drop start text))))
 
 module _ (F : Option (List ℕ)) (k i : ℕ) (text part part' : List ℕ) (start at next : ℕ) (f : Field) (w : Word)
     (h : Filling F k i text start (drop 2 (take at part))) (few : i < length (fields_in (form_of k))) (e : f ≡ get_or (fields_in (form_of k)) i Member)
@@ -262,9 +262,9 @@ module _ (F : Option (List ℕ)) (k i : ℕ) (text part part' : List ℕ) (start
     filling_on =
         let n : suc i ≡ i + 1 = omega arith in
         fill_more F k i (drop 2 (take at part)) left h few f e w.number s.value room space
-        ∙ ap (λ (x : List ℕ). joined (some x) (fields_from k (suc i) (split 32 (row_of (drop (suc (word_size left)) left))))) bytes_are
-        ∙ ap (λ (x : List ℕ). joined (some (drop 2 (take next part'))) (fields_from k (suc i) (split 32 (row_of x)))) behind
-        ∙ ap (λ (x : ℕ). joined (some (drop 2 (take next part'))) (fields_from k x (split 32 (row_of (drop (w.end + 1) text))))) n
+        ∙ ap (λ (x : List ℕ). joined (Some x) (fields_from k (suc i) (split 32 (row_of (drop (suc (word_size left)) left))))) bytes_are
+        ∙ ap (λ (x : List ℕ). joined (Some (drop 2 (take next part'))) (fields_from k (suc i) (split 32 (row_of x)))) behind
+        ∙ ap (λ (x : ℕ). joined (Some (drop 2 (take next part'))) (fields_from k x (split 32 (row_of (drop (w.end + 1) text))))) n
 
     pub row_on : start + run_of 10 (drop start text) ≡ w.end + 1 + run_of 10 (drop (w.end + 1) text)
     unfolding left
@@ -282,13 +282,13 @@ module _ (F : Option (List ℕ)) (k i : ℕ) (text part part' : List ℕ) (start
     unfolding left
     row_ends = omega (arith, (words_last left ended).1, s.end)
 
-    put_all : F ≡ joined (some (drop 2 (take next part'))) (cond (ltb (i + 1) (length (form_of k).fields)) none (some []))
+    put_all : F ≡ joined (Some (drop 2 (take next part'))) (cond (ltb (i + 1) (length (form_of k).fields)) None (Some []))
     unfolding left
     put_all =
         let n : suc i ≡ i + 1 = omega arith in
         fill_last F k i (drop 2 (take at part)) left h few f e w.number s.value ended
-        ∙ ap (λ (x : List ℕ). joined (some x) (cond (ltb (suc i) (length (form_of k).fields)) none (some []))) bytes_are
-        ∙ ap (λ (x : ℕ). joined (some (drop 2 (take next part'))) (cond (ltb x (length (form_of k).fields)) none (some []))) n
+        ∙ ap (λ (x : List ℕ). joined (Some x) (cond (ltb (suc i) (length (form_of k).fields)) None (Some []))) bytes_are
+        ∙ ap (λ (x : ℕ). joined (Some (drop 2 (take next part'))) (cond (ltb x (length (form_of k).fields)) None (Some []))) n
 
     pub filled :
         (from : ℕ) → F ≡ fields_from k 0 (split 32 (row_of (drop from text)))
@@ -297,7 +297,7 @@ module _ (F : Option (List ℕ)) (k i : ℕ) (text part part' : List ℕ) (start
     unfolding closed_row fields_of_part joined
     filled from is same_row two most = step (ltb (i + 1) (length (form_of k).fields)) put_all where
       step :
-          (t : Bool) → F ≡ joined (some (drop 2 (take next part'))) (cond t none (some []))
+          (t : Bool) → F ≡ joined (Some (drop 2 (take next part'))) (cond t None (Some []))
           → Fills k text from (record { length = cond t 0 next; end = w.end }) part'
       step true q = record { fields = sym is ∙ q; few = omega arith; end = λ x. absurd (omega arith) }
       step false q =
@@ -308,7 +308,7 @@ module _ (F : Option (List ℕ)) (k i : ℕ) (text part part' : List ℕ) (start
           }
 
 pub not_filled :
-    {F : Option (List ℕ)} (k : ℕ) (text : List ℕ) (from e : ℕ) (part : List ℕ) → F ≡ fields_from k 0 (split 32 (row_of (drop from text))) → F ≡ none
+    {F : Option (List ℕ)} (k : ℕ) (text : List ℕ) (from e : ℕ) (part : List ℕ) → F ≡ fields_from k 0 (split 32 (row_of (drop from text))) → F ≡ None
     → Fills k text from (record { length = 0; end = e }) part
 unfolding fields_of_part
 not_filled k text from e part is h = record { fields = sym is ∙ h; few = omega arith; end = λ x. absurd (omega arith) }
@@ -319,19 +319,19 @@ pub filling_start :
 filling_start k text from part =
     let n : length (take 2 part) ≤ 2 = omega (arith, length-take 2 part) in
     let o : Option (List ℕ) = fields_from k 0 (split 32 (row_of (drop from text))) in
-    sym (ap (λ (x : List ℕ). joined (some x) o) (drop_of_length-le (take 2 part) n) ∙ join_nothing o)
+    sym (ap (λ (x : List ℕ). joined (Some x) o) (drop_of_length-le (take 2 part) n) ∙ join_nothing o)
 
 -- ---- the whole record
 
-kind_none : (w : List ℕ) (ws : List (List ℕ)) → kind_of w ≡ 0 → record_by forms w ws ≡ none
+kind_none : (w : List ℕ) (ws : List (List ℕ)) → kind_of w ≡ 0 → record_by forms w ws ≡ None
 unfolding record_by forms kind_of group allow transition constraint
 kind_none w ws e = step (same w group.word) (same w allow.word) (same w transition.word) (same w constraint.word) e where
   step :
       (a b c d : Bool) → ◌≡◌ {A = ℕ} (cond a 1 (cond b 2 (cond c 3 (cond d 4 0)))) 0
       → cond a (headed 1 (fields_of group.fields group.more ws))
       (cond b (headed 2 (fields_of allow.fields allow.more ws))
-      (cond c (headed 3 (fields_of transition.fields transition.more ws)) (cond d (headed 4 (fields_of constraint.fields constraint.more ws)) none)))
-      ≡ none
+      (cond c (headed 3 (fields_of transition.fields transition.more ws)) (cond d (headed 4 (fields_of constraint.fields constraint.more ws)) None)))
+      ≡ None
   step true b c d q = absurd (omega arith)
   step false true c d q = absurd (omega arith)
   step false false true d q = absurd (omega arith)
@@ -345,7 +345,7 @@ kind_some w ws e = step (same w group.word) (same w allow.word) (same w transiti
       (a b c d : Bool) → (◌≡◌ {A = ℕ} (cond a 1 (cond b 2 (cond c 3 (cond d 4 0)))) 0 → ⊥)
       → cond a (headed 1 (fields_of group.fields group.more ws))
       (cond b (headed 2 (fields_of allow.fields allow.more ws))
-      (cond c (headed 3 (fields_of transition.fields transition.more ws)) (cond d (headed 4 (fields_of constraint.fields constraint.more ws)) none)))
+      (cond c (headed 3 (fields_of transition.fields transition.more ws)) (cond d (headed 4 (fields_of constraint.fields constraint.more ws)) None)))
       ≡ headed (cond a 1 (cond b 2 (cond c 3 (cond d 4 0)))) (fields_from (cond a 1 (cond b 2 (cond c 3 (cond d 4 0)))) 0 ws)
   step true b c d q = refl
   step false true c d q = refl
@@ -354,28 +354,28 @@ kind_some w ws e = step (same w group.word) (same w allow.word) (same w transiti
   step false false false false q = absurd (q refl)
 
 -- no form has a first word alone
-word_alone : (w : List ℕ) → record_by forms w [] ≡ none
+word_alone : (w : List ℕ) → record_by forms w [] ≡ None
 unfolding record_by forms group allow transition constraint fields_of headed
 word_alone w = step (same w group.word) (same w allow.word) (same w transition.word) (same w constraint.word) where
-  step : (a b c d : Bool) → ◌≡◌ {A = Option (List ℕ)} (cond a none (cond b none (cond c none (cond d none none)))) none
+  step : (a b c d : Bool) → ◌≡◌ {A = Option (List ℕ)} (cond a None (cond b None (cond c None (cond d None None)))) None
   step true b c d = refl
   step false true c d = refl
   step false false true d = refl
   step false false false true = refl
   step false false false false = refl
 
-pub record_nothing : (text : List ℕ) (at e : ℕ) (part : List ℕ) → record_of_row (row_of (drop at text)) ≡ none → Records text at (record { length = 0; end = e }) part
+pub record_nothing : (text : List ℕ) (at e : ℕ) (part : List ℕ) → record_of_row (row_of (drop at text)) ≡ None → Records text at (record { length = 0; end = e }) part
 unfolding record_of_part
 record_nothing text at e part h = record { bytes = h; few = omega arith; end = λ x. absurd (omega arith) }
 
-made : (n k b : ℕ) (l : List ℕ) → 2 ≤ n → n ≤ length l → b ≡ n → headed k (some (drop 2 (take n l))) ≡ some (take n (set (set l 0 b) 1 k))
+made : (n k b : ℕ) (l : List ℕ) → 2 ≤ n → n ≤ length l → b ≡ n → headed k (Some (drop 2 (take n l))) ≡ Some (take n (set (set l 0 b) 1 k))
 unfolding headed
 made zero k b l h j e = absurd (omega arith)
 made (suc zero) k b l h j e = absurd (omega arith)
 made (suc (suc m)) k b [] h j e = absurd (omega arith)
 made (suc (suc m)) k b (x ∷ []) h j e = absurd (omega arith)
 made (suc (suc m)) k b (x ∷ y ∷ t) h j e =
-    let n : 2 + length (take m t) ≡ b = omega (arith, length-take-le m t (omega arith)) in ap (λ (z : ℕ). some (z ∷ k ∷ take m t)) n
+    let n : 2 + length (take m t) ≡ b = omega (arith, length-take-le m t (omega arith)) in ap (λ (z : ℕ). Some (z ∷ k ∷ take m t)) n
 
 module _ (text : List ℕ) (at end : ℕ) (inside : at ≤ length text) (e : end ≡ at + word_size (drop at text)) where
   abbrev line : List ℕ

@@ -5,7 +5,7 @@
 use Prim.Native.Nat.{ℕ, suc, ◌+◌, ◌≤◌, ◌<◌}
 use mathlib.Core.Path.{◌≡◌, refl, sym, ap, ap₂, ◌∙◌}
 use mathlib.Core.Bool.{Bool, true, false}
-use mathlib.Core.Option.{Option, none, some}
+use Rattle.std.specs.Prelude.{Option, None, Some, Ok}
 use mathlib.Core.List.{List, [], ◌∷◌}
 use native.Mathlib.Omega.{arith}
 use lib.ListN.{length, get_or, take, drop, drop_of_length-le, length-drop}
@@ -14,12 +14,11 @@ use lib.Dec.{ltb}
 use borrow.Author.Tests.{lt-ltb, le-ltb, ltb-true, ltb-false}
 use Rattle.format.specs.declared.Refusal.{Refusal}
 use Rattle.format.specs.declared.Starts.{Starts}
-use Rattle.format.specs.declared.Sections.{Sections}
-use Rattle.format.specs.declared.Sections.TheVariants.{At, Refused}
 use Rattle.format.specs.Refusals.{refusal}
 use Rattle.format.specs.Sample.{empty}
 use Rattle.format.specs.Check.{image_in, check_front}
-use Rattle.format.specs.Answers.{refused, starts, sections_outcome}
+use Rattle.std.specs.Prelude.{Err}
+use Rattle.format.specs.Answers.{starts, Outcome}
 use Rattle.format.proofs.Chain.{outcome_gives, outcome_refused}
 use Rattle.format.proofs.Front.{front_of, image_in_of}
 use Rattle.format.proofs.Sample.{sample_accepted, empty_sections}
@@ -74,28 +73,28 @@ module _ (text : List ℕ) (at : ℕ) (b : List ℕ) where
     is_record : (o : Option (List ℕ)) → record_of_part r.length part ≡ o → (row_fault at row b ≡ record_fault at o b) × (after_row row b ≡ after_record o b)
     is_record o e = row_record at row b o (omega (arith, size, some_bytes)) (s.bytes ∙ e)
 
-    pub rows_outside : r.length < 2 → From text at b ≡ record { answer = refused (refusal 18 at); buffer = b }
+    pub rows_outside : r.length < 2 → From text at b ≡ record { answer = Err (refusal 18 at); buffer = b }
     unfolding record_of_part record_fault
     rows_outside k =
-        rw rows_are (rows_first_refused at row (rest 10 (drop at text)) b (is_record none (rw (lt-ltb r.length 2 k))).0)
+        rw rows_are (rows_first_refused at row (rest 10 (drop at text)) b (is_record None (rw (lt-ltb r.length 2 k))).0)
 
     module _ (k : 2 ≤ r.length) where
       whole : (row_fault at row b ≡ moved_to at (add_fault b (take r.length part))) × (after_row row b ≡ buffer_after b (take r.length part))
       unfolding record_of_part record_fault after_record
-      whole = is_record (some (take r.length part)) (rw (le-ltb r.length 2 k))
+      whole = is_record (Some (take r.length part)) (rw (le-ltb r.length 2 k))
 
       pub rows_refused :
-          {f : Refusal} {g : Sections} {after : List ℕ} → g ≡ Refused f → Grows at b (take r.length part) g after
-          → From text at b ≡ record { answer = refused f; buffer = after }
+          {f : Refusal} {g : Sections} {after : List ℕ} → g ≡ Err f → Grows at b (take r.length part) g after
+          → From text at b ≡ record { answer = Err f; buffer = after }
       rows_refused {f} {g} {after} e q =
-          let x = outcome_refused (moved_to at (add_fault b (take r.length part))) _ (sym (ap sections_outcome e) ∙ q.answer) in
-          let y : row_fault at row b ≡ some f = whole.0 ∙ x in
+          let x = outcome_refused (moved_to at (add_fault b (take r.length part))) _ (sym e ∙ q.answer) in
+          let y : row_fault at row b ≡ Some f = whole.0 ∙ x in
           let z : after ≡ b = q.buffer ∙ sym whole.1 ∙ rows_kept at row b f y in
           rw (rows_are, z) (rows_first_refused at row (rest 10 (drop at text)) b y)
 
-      module _ {y : Starts} {g : Sections} {after : List ℕ} (e : g ≡ At y) (q : Grows at b (take r.length part) g after) where
-        passed : (moved_to at (add_fault b (take r.length part)) ≡ none) × (y ≡ starts (image_in after))
-        passed = outcome_gives (moved_to at (add_fault b (take r.length part))) _ (sym (ap sections_outcome e) ∙ q.answer)
+      module _ {y : Starts} {g : Sections} {after : List ℕ} (e : g ≡ Ok y) (q : Grows at b (take r.length part) g after) where
+        passed : (moved_to at (add_fault b (take r.length part)) ≡ None) × (y ≡ starts (image_in after))
+        passed = outcome_gives (moved_to at (add_fault b (take r.length part))) _ (sym e ∙ q.answer)
 
         pub rows_starts : y ≡ starts (image_in after)
         rows_starts = passed.1
@@ -136,7 +135,7 @@ module _ (text : List ℕ) (at : ℕ) (b : List ℕ) where
 
 -- ---- the empty policy
 
-pub empty_accepted : (b : List ℕ) {b₀ : List ℕ} → b₀ ≡ overwrite empty b → check_front b₀ ≡ none
+pub empty_accepted : (b : List ℕ) {b₀ : List ℕ} → b₀ ≡ overwrite empty b → check_front b₀ ≡ None
 unfolding overwrite
 empty_accepted b e = rw e (front_of empty (drop (length empty) b) sample_accepted.empty_passes)
 

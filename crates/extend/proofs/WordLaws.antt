@@ -10,7 +10,7 @@
 use Prim.Native.Nat.{ℕ, zero, suc, ◌+◌, ◌-◌, ◌*◌, ◌≤◌, ◌<◌}
 use mathlib.Core.Path.{◌≡◌, refl, sym, ap, ◌∙◌}
 use mathlib.Core.Bool.{Bool, true, false, cond, ◌&&◌, ◌||◌}
-use mathlib.Core.Option.{Option, none, some}
+use Rattle.std.specs.Prelude.{Option, None, Some}
 use mathlib.Core.List.{List, [], ◌∷◌}
 use native.Mathlib.Omega.{arith}
 use lib.ListN.{length, get_or, take, drop, drop_of_length-le, length-drop}
@@ -78,22 +78,22 @@ module _ (a b : List ℕ) (i : ℕ) (n : length a ≡ length b) where
 
 -- ---- digits
 
-pub digits_end : (l : List ℕ) (n : ℕ) → word_size l ≡ 0 → digits_from n (word_of l) ≡ some n
+pub digits_end : (l : List ℕ) (n : ℕ) → word_size l ≡ 0 → digits_from n (word_of l) ≡ Some n
 unfolding digits_from
 digits_end l n e = rw (word_empty l e)
 
 module _ (l : List ℕ) (i n c : ℕ) (e : c ≡ get_or l i 0) (h : i < length l) where
-  first_digit : (c ≡ 32 → ⊥) → (c ≡ 10 → ⊥) → digits_from n (word_of (drop i l)) ≡ cond (is_digit c) (digits_from (n * 10 + (c - 48)) (word_of (drop (i + 1) l))) none
+  first_digit : (c ≡ 32 → ⊥) → (c ≡ 10 → ⊥) → digits_from n (word_of (drop i l)) ≡ cond (is_digit c) (digits_from (n * 10 + (c - 48)) (word_of (drop (i + 1) l))) None
   unfolding digits_from
   first_digit s f =
       let q : suc i ≡ i + 1 = omega arith in
       rw (e, word_byte l i h (λ x. s (e ∙ x)) (λ x. f (e ∙ x)), q)
 
-  pub digits_low : c < 48 → (c ≡ 32 → ⊥) → (c ≡ 10 → ⊥) → digits_from n (word_of (drop i l)) ≡ none
+  pub digits_low : c < 48 → (c ≡ 32 → ⊥) → (c ≡ 10 → ⊥) → digits_from n (word_of (drop i l)) ≡ None
   unfolding is_digit
   digits_low k s f = first_digit s f ∙ rw (lt-leb 48 c k)
 
-  pub digits_high : 57 < c → digits_from n (word_of (drop i l)) ≡ none
+  pub digits_high : 57 < c → digits_from n (word_of (drop i l)) ≡ None
   unfolding is_digit
   digits_high k =
       first_digit (λ x. absurd (omega arith)) (λ x. absurd (omega arith)) ∙ rw (le-leb 48 c (omega arith), lt-leb c 57 k)
@@ -103,48 +103,48 @@ module _ (l : List ℕ) (i n c : ℕ) (e : c ≡ get_or l i 0) (h : i < length l
   digits_next k j = first_digit (λ x. absurd (omega arith)) (λ x. absurd (omega arith)) ∙ rw (le-leb 48 c k, le-leb c 57 j)
 
 -- digits never make a number smaller
-pub upto_over : (most n : ℕ) (w : List ℕ) → most < n → up_to most (digits_from n w) ≡ none
+pub upto_over : (most n : ℕ) (w : List ℕ) → most < n → up_to most (digits_from n w) ≡ None
 unfolding digits_from up_to
 upto_over most n [] h = rw (lt-leb n most h)
 upto_over most n (c ∷ w) h = step (is_digit c) (upto_over most (n * 10 + (c - 48)) w (omega arith)) where
-  step : (t : Bool) → up_to most (digits_from (n * 10 + (c - 48)) w) ≡ none → up_to most (cond t (digits_from (n * 10 + (c - 48)) w) none) ≡ none
+  step : (t : Bool) → up_to most (digits_from (n * 10 + (c - 48)) w) ≡ None → up_to most (cond t (digits_from (n * 10 + (c - 48)) w) None) ≡ None
   step true k = k
   step false k = refl
 
-pub upto_none : (most : ℕ) {o : Option ℕ} → o ≡ none → up_to most o ≡ none
+pub upto_none : (most : ℕ) {o : Option ℕ} → o ≡ None → up_to most o ≡ None
 unfolding up_to
 upto_none most e = rw e
 
-pub upto_some : (most n : ℕ) {o : Option ℕ} → o ≡ some n → n ≤ most → up_to most o ≡ some n
+pub upto_some : (most n : ℕ) {o : Option ℕ} → o ≡ Some n → n ≤ most → up_to most o ≡ Some n
 unfolding up_to
 upto_some most n e h = rw (e, le-leb n most h)
 
 -- ---- what a word says
 
-pub said_none : (o : Option ℕ) (most : ℕ) → most < 65536 → said (up_to most o) ≡ 65536 → up_to most o ≡ none
+pub said_none : (o : Option ℕ) (most : ℕ) → most < 65536 → said (up_to most o) ≡ 65536 → up_to most o ≡ None
 unfolding said up_to
-said_none none most h e = refl
-said_none (some n) most h e = step (leb n most) refl e where
-  step : (t : Bool) → leb n most ≡ t → said (cond t (some n) none) ≡ 65536 → cond t (some n) none ≡ none
+said_none None most h e = refl
+said_none (Some n) most h e = step (leb n most) refl e where
+  step : (t : Bool) → leb n most ≡ t → said (cond t (Some n) None) ≡ 65536 → cond t (Some n) None ≡ None
   step true q k = let j = leb-true n most q in absurd (omega arith)
   step false q k = refl
 
-pub said_some : (o : Option ℕ) (n : ℕ) → n ≡ said o → n < 65536 → o ≡ some n
+pub said_some : (o : Option ℕ) (n : ℕ) → n ≡ said o → n < 65536 → o ≡ Some n
 unfolding said
-said_some none n e h = absurd (omega arith)
-said_some (some m) n e h = ap some (sym e)
+said_some None n e h = absurd (omega arith)
+said_some (Some m) n e h = ap Some (sym e)
 
 module _ {o : Option ℕ} (text : List ℕ) (at e : ℕ) where
-  pub says_outside : o ≡ none → Says o text at (record { number = 65536; end = e })
+  pub says_outside : o ≡ None → Says o text at (record { number = 65536; end = e })
   unfolding said
   says_outside h = record { number = rw h; few = omega arith; end = λ k. absurd (omega arith) }
 
-  pub says_number : (n : ℕ) → o ≡ some n → n < 65536 → e ≡ at + word_size (drop at text) → Says o text at (record { number = n; end = e })
+  pub says_number : (n : ℕ) → o ≡ Some n → n < 65536 → e ≡ at + word_size (drop at text) → Says o text at (record { number = n; end = e })
   unfolding said
   says_number n h k j = record { number = rw h; few = omega arith; end = λ _. j }
 
 -- a word that says nothing, for a lesser reason
-pub says_nothing : {o o' : Option ℕ} {text : List ℕ} {at : ℕ} (w : Word) → Says o text at w → w.number ≡ 65536 → o' ≡ none → Says o' text at w
+pub says_nothing : {o o' : Option ℕ} {text : List ℕ} {at : ℕ} (w : Word) → Says o text at w → w.number ≡ 65536 → o' ≡ None → Says o' text at w
 unfolding said
 says_nothing w s e h = record { number = rw h e; few = s.few; end = λ k. absurd (omega arith) }
 
@@ -153,7 +153,7 @@ says_same w s e = rw e s
 
 -- ---- decimal numbers
 
-decimal_empty : (w : List ℕ) → length w ≡ 0 → number_of w ≡ none
+decimal_empty : (w : List ℕ) → length w ≡ 0 → number_of w ≡ None
 unfolding number_of
 decimal_empty [] e = refl
 decimal_empty (c ∷ w) e = absurd (omega arith)
@@ -164,7 +164,7 @@ decimal_one [] e = absurd (omega arith)
 decimal_one (c ∷ []) e = refl
 decimal_one (c ∷ d ∷ w) e = absurd (omega arith)
 
-decimal_zero : (w : List ℕ) → 1 < length w → get_or w 0 0 ≡ 48 → number_of w ≡ none
+decimal_zero : (w : List ℕ) → 1 < length w → get_or w 0 0 ≡ 48 → number_of w ≡ None
 unfolding number_of
 decimal_zero [] h e = absurd (omega arith)
 decimal_zero (c ∷ []) h e = absurd (omega arith)
@@ -177,12 +177,12 @@ decimal_more (c ∷ []) h e = absurd (omega arith)
 decimal_more (c ∷ d ∷ w) h e = rw (ne_eqb c 48 e)
 
 -- no number in range by the digits is none without leading zeros
-decimal_over : (most : ℕ) (w : List ℕ) → up_to most (digits_from 0 w) ≡ none → number_to most w ≡ none
+decimal_over : (most : ℕ) (w : List ℕ) → up_to most (digits_from 0 w) ≡ None → number_to most w ≡ None
 unfolding number_to number_of up_to
 decimal_over most [] e = refl
 decimal_over most (c ∷ []) e = e
 decimal_over most (c ∷ d ∷ w) e = step (eqb c 48) where
-  step : (t : Bool) → up_to most (cond t none (digits_from 0 (c ∷ d ∷ w))) ≡ none
+  step : (t : Bool) → up_to most (cond t None (digits_from 0 (c ∷ d ∷ w))) ≡ None
   step true = refl
   step false = e
 
@@ -247,7 +247,7 @@ module _ (text : List ℕ) (from base most : ℕ) (x : List ℕ) (small : base +
   unfolding number_to above
   above_number e =
       let few : w.number < 65536 = omega (arith, s.few) in
-      let o : up_to most (number_of x) ≡ some w.number = said_some (up_to most (number_of x)) w.number s.number few in
+      let o : up_to most (number_of x) ≡ Some w.number = said_some (up_to most (number_of x)) w.number s.number few in
       says_number text from w.end (base + w.number) (rw o) (omega (arith, number_most most x w.number o)) (s.end few)
 
 -- ---- a word by its first byte
@@ -260,13 +260,13 @@ first_byte letter (c ∷ l) h e = step (eqb c 32 || eqb c 10) e where
   step true k = absurd (omega arith)
   step false k = k
 
-letter_other : (letter base most : ℕ) (w : List ℕ) → (get_or w 0 0 ≡ letter → ⊥) → lettered letter base most w ≡ none
+letter_other : (letter base most : ℕ) (w : List ℕ) → (get_or w 0 0 ≡ letter → ⊥) → lettered letter base most w ≡ None
 unfolding lettered
 letter_other letter base most [] h = refl
 letter_other letter base most (c ∷ w) h = rw (ne_eqb c letter h)
 
 module _ (letter : ℕ) (text : List ℕ) (from : ℕ) where
-  other_none : (base most : ℕ) → 0 < letter → (get_or text from 0 ≡ letter → ⊥) → lettered letter base most (word_of (drop from text)) ≡ none
+  other_none : (base most : ℕ) → 0 < letter → (get_or text from 0 ≡ letter → ⊥) → lettered letter base most (word_of (drop from text)) ≡ None
   other_none base most h e =
       letter_other letter base most (word_of (drop from text))
       (λ x. e (ap (λ (k : ℕ). get_or text k 0) (omega arith) ∙ sym (get_or-drop from text 0 0) ∙ first_byte letter (drop from text) h x))
@@ -291,7 +291,7 @@ module _ (letter : ℕ) (text : List ℕ) (from : ℕ) where
 -- ---- types
 
 -- `g` is no digit
-letter_none : (most : ℕ) (w : List ℕ) → number_to most (103 ∷ w) ≡ none
+letter_none : (most : ℕ) (w : List ℕ) → number_to most (103 ∷ w) ≡ None
 unfolding number_to number_of digits_from is_digit up_to
 letter_none most [] = refl
 letter_none most (d ∷ w) = refl

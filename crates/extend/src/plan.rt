@@ -1,6 +1,5 @@
 // Where a record goes, or why it does not: decided before a byte is written.
 ghost use Rattle.std.specs.Prelude.{◌≡◌, true, ◌≤◌, length, get_or};
-ghost use Rattle.std.proofs.Math.Option.{none};
 ghost use Rattle.format.specs.Refusals.{refusal};
 ghost use Rattle.format.specs.Format.{count_place, limit_of, kind_in};
 ghost use Rattle.format.specs.Policy.{policy_of};
@@ -8,7 +7,7 @@ ghost use Rattle.format.specs.Twins.{listed};
 ghost use Rattle.format.specs.Check.{image_in, check_front, Accepted};
 ghost use Rattle.format.specs.Answers.{outcome, starts};
 ghost use Rattle.extension.specs.Add.{added_twin, own_fault, add_fault};
-ghost use Rattle.extend.specs.Inner.Plans.{plan_outcome, slot_at, slot_of};
+ghost use Rattle.extend.specs.Inner.Plans.{slot_at, slot_of};
 
 use crate::word::wide;
 use format::{Read, Refusal, Section, Sections, Starts, header};
@@ -74,7 +73,7 @@ fn is_listed(image: &[u8], part: &[u8]) -> bool
 
 // Whether a record of a section would be a twin.
 fn is_twin(buffer: &[u8], part: &[u8], section: Section) -> bool
-    requires { check_front buffer.now ≡ none }
+    requires { check_front buffer.now ≡ None }
     ensures { result ≡ added_twin section (policy_of (image_in buffer.now)) part.now }
 {
     match section {
@@ -86,8 +85,8 @@ fn is_twin(buffer: &[u8], part: &[u8], section: Section) -> bool
 
 // A whole record of a section that ends at a place of an accepted image: refusals 11, 20, 12 and 13, and 10 for its length.
 fn room(buffer: &[u8], part: &[u8], section: Section, at: usize) -> Plan
-    requires { (check_front buffer.now ≡ none) × (get_or part.now 0 0 ≡ length part.now) × (kind_in section (get_or part.now 1 0) ≡ true) }
-    ensures { plan_outcome result ≡ outcome (own_fault buffer.now part.now) (slot_at buffer.now section at) }
+    requires { (check_front buffer.now ≡ None) × (get_or part.now 0 0 ≡ length part.now) × (kind_in section (get_or part.now 1 0) ≡ true) }
+    ensures { result ≡ outcome (own_fault buffer.now part.now) (slot_at buffer.now section at) }
 {
     match image::read_record(part, section, word_at(buffer, header::GROUPS_AT)) {
         Read::Malformed => refused(10, 0),
@@ -117,8 +116,8 @@ fn room(buffer: &[u8], part: &[u8], section: Section, at: usize) -> Plan
 
 // The call's own causes, for a buffer whose image is accepted and whose sections start at given places.
 pub(crate) fn own_causes(buffer: &[u8], part: &[u8], sections: Starts) -> Plan
-    requires { (check_front buffer.now ≡ none) × (sections ≡ starts (image_in buffer.now)) }
-    ensures { plan_outcome result ≡ outcome (own_fault buffer.now part.now) (slot_of buffer.now part.now) }
+    requires { (check_front buffer.now ≡ None) × (sections ≡ starts (image_in buffer.now)) }
+    ensures { result ≡ outcome (own_fault buffer.now part.now) (slot_of buffer.now part.now) }
 {
     if part.len() < 2 {
         return refused(10, 0);
@@ -140,7 +139,7 @@ pub(crate) fn own_causes(buffer: &[u8], part: &[u8], sections: Starts) -> Plan
 }
 
 pub(crate) fn planned(buffer: &[u8], part: &[u8]) -> Plan
-    ensures { plan_outcome result ≡ outcome (add_fault buffer.now part.now) (slot_of buffer.now part.now) }
+    ensures { result ≡ outcome (add_fault buffer.now part.now) (slot_of buffer.now part.now) }
 {
     match image::front(buffer) {
         Sections::Refused(f) => Plan::Refused(f),

@@ -1,6 +1,5 @@
 // The rows of a text, one after the other, into an image that is known to be accepted: it is not checked again.
 ghost use Rattle.std.specs.Prelude.{◌≡◌, ◌+◌, ◌≤◌, ◌<◌, length};
-ghost use Rattle.std.proofs.Math.Option.{none};
 ghost use Rattle.format.specs.Check.{image_in, check_front};
 ghost use Rattle.format.specs.Answers.{starts};
 ghost use Rattle.format.specs.Sample.{empty};
@@ -37,7 +36,7 @@ fn moved(sections: Starts, field: usize, by: usize) -> Starts
 
 // Adds the record of the row at a place, and answers the sections' places after it.
 fn grow(buffer: &mut [u8], part: &[u8], at: usize, sections: Starts) -> Sections
-    requires { (check_front buffer.old ≡ none) × (sections ≡ starts (image_in buffer.old)) }
+    requires { (check_front buffer.old ≡ None) × (sections ≡ starts (image_in buffer.old)) }
     ensures { Grows at buffer.old part.now result buffer.new }
 {
     match own_causes(buffer, part, sections) {
@@ -64,7 +63,7 @@ pub(crate) fn put_empty(buffer: &mut [u8])
 // Adds the records of all rows, up to the first that is refused. A line feed is met where a row is empty, and behind a
 // row.
 pub(crate) fn add_each(text: &[u8], buffer: &mut [u8], sections: Starts) -> Built
-    requires { (check_front buffer.old ≡ none) × (sections ≡ starts (image_in buffer.old)) }
+    requires { (check_front buffer.old ≡ None) × (sections ≡ starts (image_in buffer.old)) }
     ensures { AddsEach text.now buffer.old result buffer.new }
 {
     let mut part = [0u8; 130];

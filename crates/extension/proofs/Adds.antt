@@ -13,7 +13,7 @@ use Prim.Native.Nat.{ℕ, ◌+◌, ◌≤◌, ◌<◌}
 use mathlib.Core.Path.{◌≡◌, refl, sym, subst, ap, ◌∙◌}
 use mathlib.Core.Logic.{◌⊎◌, inl, inr, ⊎_elim}
 use mathlib.Core.Bool.{Bool, true, false, not}
-use mathlib.Core.Option.{Option, none, some}
+use Rattle.std.specs.Prelude.{Option, None, Some}
 use mathlib.Core.List.Memᴰ
 use mathlib.Core.List.{List, [], ◌∷◌, ◌++◌, Memᴰ}
 use native.Mathlib.Omega.{arith}
@@ -76,17 +76,17 @@ pub not_true : (t : Bool) → not t ≡ true → t ≡ false
 not_true true e = false_not_true e
 not_true false e = refl
 
-pub field_none : (f : Option ℕ) → field_fault f ≡ none → f ≡ none
+pub field_none : (f : Option ℕ) → field_fault f ≡ None → f ≡ None
 unfolding field_fault
-field_none none e = refl
-field_none (some i) e = some_not_none e
+field_none None e = refl
+field_none (Some i) e = some_not_none e
 
-none_field : {f : Option ℕ} → f ≡ none → field_fault f ≡ none
+none_field : {f : Option ℕ} → f ≡ None → field_fault f ≡ None
 unfolding field_fault
 none_field e = rw e
 
 module _ (b r : List ℕ) where
-  pub own_passes : own_fault b r ≡ none → OwnPasses b r
+  pub own_passes : own_fault b r ≡ None → OwnPasses b r
   unfolding own_fault new_number
   own_passes e =
       let s : Section = section_of (get_or r 1 0) in
@@ -102,7 +102,7 @@ module _ (b r : List ℕ) where
         room = leb-true (word_at b 1 + length r) (length b) (need_true _ _ d.1);
       }
 
-  pub passes_own : OwnPasses b r → own_fault b r ≡ none
+  pub passes_own : OwnPasses b r → own_fault b r ≡ None
   unfolding own_fault new_number
   passes_own q =
       let s : Section = section_of (get_or r 1 0) in
@@ -115,16 +115,16 @@ module _ (b r : List ℕ) where
   abbrev Own : Refusal → Type 0
   Own f = (10 ≤ f.number) × (f.number ≤ 20) × (f.place < 130)
 
-  field_refused : shape_ok r ≡ true → (o : Option ℕ) → bad_field (count_of b Groups) r ≡ o → (f : Refusal) → field_fault o ≡ some f → Own f
+  field_refused : shape_ok r ≡ true → (o : Option ℕ) → bad_field (count_of b Groups) r ≡ o → (f : Refusal) → field_fault o ≡ Some f → Own f
   unfolding field_fault
-  field_refused h none e f q = some_not_none (sym q)
-  field_refused h (some i) e f q =
+  field_refused h None e f q = some_not_none (sym q)
+  field_refused h (Some i) e f q =
       let k = field_inside (count_of b Groups) r i h e in
       let n = shape_most r h in
       let z : refusal 11 i ≡ f = cc in
       subst Own z (omega arith, omega arith, omega arith)
 
-  pub own_refused : (f : Refusal) → own_fault b r ≡ some f → (10 ≤ f.number) × (f.number ≤ 20) × (f.place < 130)
+  pub own_refused : (f : Refusal) → own_fault b r ≡ Some f → (10 ≤ f.number) × (f.number ≤ 20) × (f.place < 130)
   unfolding own_fault
   own_refused =
       let s : Section = section_of (get_or r 1 0) in
@@ -137,17 +137,17 @@ module _ (b r : List ℕ) where
       (need_refuses Own (ltb (new_number b r) (limit_of s)) (refusal 12 0) (omega arith, omega arith, omega arith))
       (λ _. need_refuses Own (leb (word_at b 1 + length r) (length b)) (refusal 13 0) (omega arith, omega arith, omega arith)))))
 
-  pub add_refused : (f : Refusal) → add_fault b r ≡ some f → (check_front b ≡ some f) ⊎ (own_fault b r ≡ some f)
+  pub add_refused : (f : Refusal) → add_fault b r ≡ Some f → (check_front b ≡ Some f) ⊎ (own_fault b r ≡ Some f)
   unfolding add_fault
   add_refused =
-      or_else_refuses (λ f. (check_front b ≡ some f) ⊎ (own_fault b r ≡ some f)) (check_front b) (own_fault b r) (λ f e. inl e) (λ _ f e. inr e)
+      or_else_refuses (λ f. (check_front b ≡ Some f) ⊎ (own_fault b r ≡ Some f)) (check_front b) (own_fault b r) (λ f e. inl e) (λ _ f e. inr e)
 
   -- the new record's number is below its section's limit
-  pub number_few : add_fault b r ≡ none → new_number b r < limit_of (section_of (get_or r 1 0))
+  pub number_few : add_fault b r ≡ None → new_number b r < limit_of (section_of (get_or r 1 0))
   unfolding add_fault new_number
   number_few e = (own_passes (or_else_split (check_front b) (own_fault b r) e).1).few
 
-  pub buffer_refused : (f : Refusal) → add_fault b r ≡ some f → buffer_after b r ≡ b
+  pub buffer_refused : (f : Refusal) → add_fault b r ≡ Some f → buffer_after b r ≡ b
   unfolding buffer_after
   buffer_refused f e = unless_refused_lem _ _ e
 
@@ -265,7 +265,7 @@ module _ (p : Policy) (t : List ℕ) (s : Section) (r : List ℕ) (w : Sound p) 
   policy_is : policy_of (image_in (image_of p ++ t)) ≡ p
   policy_is = ap policy_of (image_in_of (image_of p) t (image_accepted p w)) ∙ policy_of_image p w.regular
 
-  pub add_passes : add_fault (image_of p ++ t) r ≡ none
+  pub add_passes : add_fault (image_of p ++ t) r ≡ None
   unfolding add_fault
   add_passes =
       or_else_none (front_of (image_of p) t (image_accepted p w))
@@ -289,8 +289,8 @@ module _ (p : Policy) (t : List ℕ) (s : Section) (r : List ℕ) (w : Sound p) 
 
 -- ---- adding to any buffer that passes
 
-module _ (b r : List ℕ) (by : Bytes b) (e : add_fault b r ≡ none) where
-  front_none : check_front b ≡ none
+module _ (b r : List ℕ) (by : Bytes b) (e : add_fault b r ≡ None) where
+  front_none : check_front b ≡ None
   unfolding add_fault
   front_none = (or_else_split (check_front b) (own_fault b r) e).0
 
@@ -383,7 +383,7 @@ module _ (b r : List ℕ) (by : Bytes b) (e : add_fault b r ≡ none) where
     with_accepted : Accepted (image_of (with_record s p r))
     with_accepted = image_accepted (with_record s p r) sound_with
 
-    after_accepted : check_front (buffer_after b r) ≡ none
+    after_accepted : check_front (buffer_after b r) ≡ None
     after_accepted = rw buffer_image (front_of (image_of (with_record s p r)) (drop (length r) t) with_accepted)
 
     after_bytes : Bytes (buffer_after b r)

@@ -7,7 +7,7 @@
 use Prim.Native.Nat.{ℕ, ◌+◌, ◌<◌}
 use mathlib.Core.Path.{◌≡◌, sym, subst, ◌∙◌}
 use mathlib.Core.Bool.{true, false, not}
-use mathlib.Core.Option.{Option, none, some}
+use Rattle.std.specs.Prelude.{Option, None, Some}
 use mathlib.Core.List.{List}
 use native.Mathlib.Omega.{arith}
 use lib.ListN.{length, get_or}
@@ -26,17 +26,17 @@ use Rattle.format.proofs.Shapes.{Formed}
 use Rattle.extension.specs.Add.{section_of, added_twin, field_fault, new_number, own_fault, add_fault}
 use Rattle.extension.proofs.Adds.{OwnPasses, own_passes, kind_of_lem, field_none, not_true}
 
-pub add_own : (b r : List ℕ) → add_fault b r ≡ none → OwnPasses b r
+pub add_own : (b r : List ℕ) → add_fault b r ≡ None → OwnPasses b r
 unfolding add_fault
 add_own b r e = own_passes b r (or_else_split (check_front b) (own_fault b r) e).1
 
-module _ (b r : List ℕ) (ok : check_front b ≡ none) where
+module _ (b r : List ℕ) (ok : check_front b ≡ None) where
   pub own_is : add_fault b r ≡ own_fault b r
   unfolding add_fault
   own_is = or_else_next (own_fault b r) ok
 
   -- it can be refused with 11, 12, 13 and 20
-  pub formed_refused : (P : ℕ → Type 0) → P 11 → P 12 → P 13 → P 20 → shape_ok r ≡ true → (f : Refusal) → add_fault b r ≡ some f → P f.number
+  pub formed_refused : (P : ℕ → Type 0) → P 11 → P 12 → P 13 → P 20 → shape_ok r ≡ true → (f : Refusal) → add_fault b r ≡ Some f → P f.number
   unfolding own_fault field_fault
   formed_refused P eleven twelve thirteen twenty shape f e =
       or_else_refuses (λ x. P x.number) (need (shape_ok r) (refusal 10 0)) _ (λ x q. some_not_none (sym q ∙ need_none (refusal 10 0) shape))
@@ -48,13 +48,13 @@ module _ (b r : List ℕ) (ok : check_front b ≡ none) where
       (λ _. need_refuses (λ x. P x.number) (leb (word_at b 1 + length r) (length b)) (refusal 13 0) thirteen))))
       f (sym own_is ∙ e)
     where
-      field : (o : Option ℕ) (x : Refusal) → field_fault o ≡ some x → P x.number
-      field none x q = some_not_none (sym q)
-      field (some i) x q = let z : refusal 11 i ≡ x = cc in subst (λ (y : Refusal). P y.number) z eleven
+      field : (o : Option ℕ) (x : Refusal) → field_fault o ≡ Some x → P x.number
+      field None x q = some_not_none (sym q)
+      field (Some i) x q = let z : refusal 11 i ≡ x = cc in subst (λ (y : Refusal). P y.number) z eleven
 
   -- with 13 only where nothing else is amiss
   pub short_formed :
-      (f : Refusal) → add_fault b r ≡ some f → f.number ≡ 13
+      (f : Refusal) → add_fault b r ≡ Some f → f.number ≡ 13
       → Formed (section_of (get_or r 1 0)) (count_of b Groups) r × (count_of b (section_of (get_or r 1 0)) < limit_of (section_of (get_or r 1 0)))
       × (added_twin (section_of (get_or r 1 0)) (policy_of (image_in b)) r ≡ false)
   unfolding own_fault field_fault new_number
@@ -80,9 +80,9 @@ module _ (b r : List ℕ) (ok : check_front b ≡ none) where
           x.number ≡ 13 → Formed (section_of (get_or r 1 0)) (count_of b Groups) r × (count_of b (section_of (get_or r 1 0)) < limit_of (section_of (get_or r 1 0)))
           × (added_twin (section_of (get_or r 1 0)) (policy_of (image_in b)) r ≡ false)
 
-      field : (o : Option ℕ) (x : Refusal) → field_fault o ≡ some x → Short x
-      field none x q = some_not_none (sym q)
-      field (some i) x q = let z : refusal 11 i ≡ x = cc in subst Short z (λ y. absurd (omega arith))
+      field : (o : Option ℕ) (x : Refusal) → field_fault o ≡ Some x → Short x
+      field None x q = some_not_none (sym q)
+      field (Some i) x q = let z : refusal 11 i ≡ x = cc in subst Short z (λ y. absurd (omega arith))
 
-  pub not_short : (f : Refusal) → add_fault b r ≡ some f → own_fault b r ≡ none → ⊥
+  pub not_short : (f : Refusal) → add_fault b r ≡ Some f → own_fault b r ≡ None → ⊥
   not_short f e h = some_not_none (sym e ∙ own_is ∙ h)

@@ -2,7 +2,7 @@
 use Prim.Native.Nat.{ℕ, ◌+◌}
 use mathlib.Core.Path.{◌≡◌, refl, sym, subst, ◌∙◌}
 use mathlib.Core.Bool.{Bool, true, false, not}
-use mathlib.Core.Option.{Option, none, some}
+use Rattle.std.specs.Prelude.{Option, None, Some}
 use mathlib.Core.List.{List, Memᴰ}
 use native.Mathlib.Omega.{arith}
 use lib.ListN.{length, get_or}
@@ -28,7 +28,7 @@ use Rattle.extension.specs.Claims.{TwinRefused}
 use Rattle.extension.proofs.Adds.{section_of_lem}
 
 -- a group that the policy has
-module _ (b r : List ℕ) (e : check_front b ≡ none) (m : Memᴰ r (policy_of (image_in b)).groups) where
+module _ (b r : List ℕ) (e : check_front b ≡ None) (m : Memᴰ r (policy_of (image_in b)).groups) where
   formed : Formed Groups (count_of b Groups) r
   formed =
       subst (λ (g : ℕ). Formed Groups g r) (front_count b e Groups)
@@ -41,7 +41,7 @@ module _ (b r : List ℕ) (e : check_front b ≡ none) (m : Memᴰ r (policy_of 
   unfolding added_twin
   twin = rw is_group (mem_listed (policy_of (image_in b)).groups m)
 
-  refused : add_fault b r ≡ some (refusal 20 0)
+  refused : add_fault b r ≡ Some (refusal 20 0)
   unfolding add_fault own_fault field_fault
   refused =
       or_else_next _ e ∙ or_else_next _ (need_none _ formed.shape) ∙ or_else_next _ (rw formed.fields)
@@ -61,20 +61,20 @@ in_groups Rules p r t = false_not_true t
 in_groups Constraints p r t = false_not_true t
 
 module _ (b r : List ℕ) where
-  twin_need : (f : Refusal) → need (not (added_twin (section_of (get_or r 1 0)) (policy_of (image_in b)) r)) (refusal 20 0) ≡ some f → Twin b r f
+  twin_need : (f : Refusal) → need (not (added_twin (section_of (get_or r 1 0)) (policy_of (image_in b)) r)) (refusal 20 0) ≡ Some f → Twin b r f
   twin_need f = go (added_twin (section_of (get_or r 1 0)) (policy_of (image_in b)) r) refl
     where
-      go : (t : Bool) → added_twin (section_of (get_or r 1 0)) (policy_of (image_in b)) r ≡ t → need (not t) (refusal 20 0) ≡ some f → Twin b r f
+      go : (t : Bool) → added_twin (section_of (get_or r 1 0)) (policy_of (image_in b)) r ≡ t → need (not t) (refusal 20 0) ≡ Some f → Twin b r f
       go true h q =
           need_refuses (Twin b r) (not true) (refusal 20 0) (λ _. (refl, in_groups (section_of (get_or r 1 0)) (policy_of (image_in b)) r h)) f q
       go false h q = some_not_none (sym q ∙ need_none (refusal 20 0) refl)
 
-  field_need : (o : Option ℕ) (f : Refusal) → field_fault o ≡ some f → Twin b r f
+  field_need : (o : Option ℕ) (f : Refusal) → field_fault o ≡ Some f → Twin b r f
   unfolding field_fault
-  field_need none f q = some_not_none (sym q)
-  field_need (some i) f q = let z : refusal 11 i ≡ f = cc in subst (Twin b r) z (known b r 11 i (omega arith))
+  field_need None f q = some_not_none (sym q)
+  field_need (Some i) f q = let z : refusal 11 i ≡ f = cc in subst (Twin b r) z (known b r 11 i (omega arith))
 
-  only : (f : Refusal) → add_fault b r ≡ some f → Twin b r f
+  only : (f : Refusal) → add_fault b r ≡ Some f → Twin b r f
   unfolding add_fault own_fault
   only =
       or_else_refuses (Twin b r) (check_front b) _ (λ f e k. absurd (front_number b f e k))

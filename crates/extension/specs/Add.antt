@@ -9,10 +9,9 @@
 --     new_image b r         the image with the record
 --     overwrite new b      the buffer b with other bytes at its front; those past them stay
 --     buffer_after b r      the buffer after the call
---     added_outcome a       what an `Added` says
 --     Adds b r a after     what a call answers and leaves
 use Rattle.std.specs.Prelude.{ℕ, ◌+◌, ◌≡◌, Bool, false, not, cond, List, [], ◌∷◌, ◌++◌, length, get_or, drop, leb, ltb, eqb}
-use Rattle.std.proofs.Math.Option.{Option, none, some}
+use Rattle.std.specs.Prelude.{Option, None, Some}
 use Rattle.format.specs.declared.Section.{Section}
 use Rattle.format.specs.declared.Section.TheVariants.{Groups, Rules, Constraints}
 use Rattle.format.specs.declared.Refusal.{Refusal}
@@ -22,9 +21,8 @@ use Rattle.format.specs.Format.{limit_of, count_of, shape_ok, bad_field}
 use Rattle.format.specs.Policy.{Policy, image_of, policy_of}
 use Rattle.format.specs.Twins.{listed}
 use Rattle.format.specs.Check.{image_in, check_front}
-use Rattle.format.specs.Answers.{Outcome, refused, gives, outcome}
-use Rattle.extension.specs.declared.Added.{Added}
-use Rattle.extension.specs.declared.Added.TheVariants.{Number, Refused}
+use Rattle.std.specs.Prelude.{Ok, Err}
+use Rattle.format.specs.Answers.{Outcome, outcome}
 
 unfoldable pub section_of : ℕ → Section
 section_of k = cond (eqb k 1) Groups (cond (eqb k 4) Constraints Rules)
@@ -39,8 +37,8 @@ with_record Constraints p r =
 
 -- a bad field of the lent record: its place is in the record
 unfoldable pub field_fault : Option ℕ → Option Refusal
-field_fault none = none
-field_fault (some i) = some (refusal 11 i)
+field_fault None = None
+field_fault (Some i) = Some (refusal 11 i)
 
 unfoldable pub new_number : List ℕ → List ℕ → ℕ
 new_number b r = count_of b (section_of (get_or r 1 0))
@@ -71,10 +69,6 @@ overwrite new b = new ++ drop (length new) b
 unfoldable pub buffer_after : List ℕ → List ℕ → List ℕ
 buffer_after b r = unless_refused (add_fault b r) (overwrite (new_image b r) b) b
 
-abbrev pub added_outcome : Added → Outcome ℕ
-added_outcome (Number n) = gives n
-added_outcome (Refused f) = refused f
-
-pub record Adds (b r : List ℕ) (a : Added) (after : List ℕ) : Type 0 where
-  pub answer : added_outcome a ≡ outcome (add_fault b r) (new_number b r)
+pub record Adds (b r : List ℕ) (a : Outcome ℕ) (after : List ℕ) : Type 0 where
+  pub answer : a ≡ outcome (add_fault b r) (new_number b r)
   pub buffer : after ≡ buffer_after b r

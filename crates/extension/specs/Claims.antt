@@ -13,7 +13,7 @@
 --                       gives it byte for byte, and the bytes past it stay
 --     RoundTripExact    a buffer that has just the space is enough
 use Rattle.std.specs.Prelude.{ℕ, ◌≤◌, ◌<◌, ◌≡◌, length, get_or, drop}
-use Rattle.std.proofs.Math.Option.{none, some}
+use Rattle.std.specs.Prelude.{None, Some}
 use mathlib.Core.List.{List, [], ◌∷◌, ◌++◌, Memᴰ}
 use Rattle.format.specs.declared.Refusal.{Refusal}
 use Rattle.format.specs.Bytes.{Bytes}
@@ -32,35 +32,35 @@ all_records p = p.groups ++ (p.rules ++ p.constraints)
 
 abbrev pub AddedAccepted : Type 0
 AddedAccepted =
-    (b r : List ℕ) → Bytes b → Bytes r → add_fault b r ≡ none
-    → (check_front (buffer_after b r) ≡ none)
+    (b r : List ℕ) → Bytes b → Bytes r → add_fault b r ≡ None
+    → (check_front (buffer_after b r) ≡ None)
     × (policy_of (image_in (buffer_after b r)) ≡ with_record (section_of (get_or r 1 0)) (policy_of (image_in b)) r)
     × Bytes (buffer_after b r)
 
 abbrev pub GroupsKept : Type 0
 GroupsKept =
-    (b r : List ℕ) → Bytes b → Bytes r → add_fault b r ≡ none
+    (b r : List ℕ) → Bytes b → Bytes r → add_fault b r ≡ None
     → (n : ℕ) → n < length (policy_of (image_in b)).groups
     → get_or (policy_of (image_in (buffer_after b r))).groups n [] ≡ get_or (policy_of (image_in b)).groups n []
 
 abbrev pub NumberNamed : Type 0
 NumberNamed =
-    (b r : List ℕ) → Bytes b → Bytes r → add_fault b r ≡ none
+    (b r : List ℕ) → Bytes b → Bytes r → add_fault b r ≡ None
     → get_or (records_of (policy_of (image_in (buffer_after b r))) (section_of (get_or r 1 0))) (new_number b r) [] ≡ r
 
 abbrev pub RestStays : Type 0
 RestStays =
-    (b r : List ℕ) → Bytes b → add_fault b r ≡ none
+    (b r : List ℕ) → Bytes b → add_fault b r ≡ None
     → (drop (length (new_image b r)) (buffer_after b r) ≡ drop (length (new_image b r)) b) × (length (buffer_after b r) ≡ length b)
 
 abbrev pub RefusedUnchanged : Type 0
-RefusedUnchanged = (b r : List ℕ) (f : Refusal) → add_fault b r ≡ some f → buffer_after b r ≡ b
+RefusedUnchanged = (b r : List ℕ) (f : Refusal) → add_fault b r ≡ Some f → buffer_after b r ≡ b
 
 pub record TwinRefused : Type 0 where
   pub refused :
-      (b r : List ℕ) → check_front b ≡ none → Memᴰ r (policy_of (image_in b)).groups → add_fault b r ≡ some (refusal 20 0)
+      (b r : List ℕ) → check_front b ≡ None → Memᴰ r (policy_of (image_in b)).groups → add_fault b r ≡ Some (refusal 20 0)
   pub only :
-      (b r : List ℕ) (f : Refusal) → add_fault b r ≡ some f → f.number ≡ 20
+      (b r : List ℕ) (f : Refusal) → add_fault b r ≡ Some f → f.number ≡ 20
       → (f.place ≡ 0) × Memᴰ r (policy_of (image_in b)).groups
 
 abbrev pub RoundTrip : Type 0

@@ -16,7 +16,7 @@
 use Prim.Native.Nat.{ℕ, zero, suc, ◌+◌, ◌≤◌, ◌<◌}
 use mathlib.Core.Path.{◌≡◌, refl, sym, ap, ap₂, ◌∙◌}
 use mathlib.Core.Bool.{Bool, true, ◌&&◌}
-use mathlib.Core.Option.{Option, none, some}
+use Rattle.std.specs.Prelude.{Option, None, Some}
 use mathlib.Core.List.{List, [], ◌∷◌}
 use native.Mathlib.Omega.{arith}
 use native.Mathlib.Nat.{add-zero}
@@ -48,7 +48,7 @@ pub record Header (fits : ℕ → ℕ → Bool) (l : List ℕ) : Type 0 where
   pub fit : fits (word_at l 1) (length l) ≡ true
   pub few : (s : Section) → count_of l s ≤ limit_of s
 
-pub header_holds : (fits : ℕ → ℕ → Bool) (l : List ℕ) → header_fault fits l ≡ none → Header fits l
+pub header_holds : (fits : ℕ → ℕ → Bool) (l : List ℕ) → header_fault fits l ≡ None → Header fits l
 unfolding header_fault count_fault
 header_holds fits l e =
     let e₁ = or_else_split (need (leb 9 (length l)) (refusal 1 0)) _ e in
@@ -65,12 +65,12 @@ header_holds fits l e =
       few = few e₄.0 e₅.0 e₅.1;
     }
   where
-    few : count_fault l Groups ≡ none → count_fault l Rules ≡ none → count_fault l Constraints ≡ none → (s : Section) → count_of l s ≤ limit_of s
+    few : count_fault l Groups ≡ None → count_fault l Rules ≡ None → count_fault l Constraints ≡ None → (s : Section) → count_of l s ≤ limit_of s
     few a b c Groups = leb-true (count_of l Groups) (limit_of Groups) (need_true _ _ a)
     few a b c Rules = leb-true (count_of l Rules) (limit_of Rules) (need_true _ _ b)
     few a b c Constraints = leb-true (count_of l Constraints) (limit_of Constraints) (need_true _ _ c)
 
-pub holds_header : (fits : ℕ → ℕ → Bool) (l : List ℕ) → Header fits l → header_fault fits l ≡ none
+pub holds_header : (fits : ℕ → ℕ → Bool) (l : List ℕ) → Header fits l → header_fault fits l ≡ None
 unfolding header_fault count_fault
 holds_header fits l h =
     or_else_none (need_none _ (le-leb 9 (length l) h.long))
@@ -78,7 +78,7 @@ holds_header fits l h =
     (or_else_none (need_none _ (and_true (le-leb 9 (word_at l 1) h.least) h.fit))
     (or_else_none (few Groups) (or_else_none (few Rules) (few Constraints)))))
   where
-    few : (s : Section) → count_fault l s ≡ none
+    few : (s : Section) → count_fault l s ≡ None
     few s = need_none _ (le-leb (count_of l s) (limit_of s) (h.few s))
 
 module _ (l : List ℕ) (e : LaidOut l) where
@@ -89,24 +89,24 @@ module _ (l : List ℕ) (e : LaidOut l) where
   pub laid_length : word_at l 1 ≡ length l
   laid_length = eqb-true (word_at l 1) (length l) laid_header.fit
 
-  pub laid_body : body_fault l ≡ none
+  pub laid_body : body_fault l ≡ None
   unfolding layout_fault
   laid_body = (or_else_split (header_fault eqb l) (body_fault l) e).1
 
-twin_at_none : (l : List ℕ) (o : Option ℕ) → twin_at l o ≡ none → o ≡ none
+twin_at_none : (l : List ℕ) (o : Option ℕ) → twin_at l o ≡ None → o ≡ None
 unfolding twin_at
-twin_at_none l none e = refl
-twin_at_none l (some n) e = some_not_none e
+twin_at_none l None e = refl
+twin_at_none l (Some n) e = some_not_none e
 
-pub twins_none : (l : List ℕ) → twin_fault l ≡ none → NoTwins (policy_of l).groups
+pub twins_none : (l : List ℕ) → twin_fault l ≡ None → NoTwins (policy_of l).groups
 unfolding twin_fault
 twins_none l e = twin_at_none l _ e
 
-pub none_twins : (l : List ℕ) → NoTwins (policy_of l).groups → twin_fault l ≡ none
+pub none_twins : (l : List ℕ) → NoTwins (policy_of l).groups → twin_fault l ≡ None
 unfolding twin_fault twin_at
 none_twins l e = rw e
 
-pub twin_fault_some : (l : List ℕ) (n : ℕ) → first_twin [] 0 (policy_of l).groups ≡ some n → twin_fault l ≡ some (refusal 19 (place_of l Groups n))
+pub twin_fault_some : (l : List ℕ) (n : ℕ) → first_twin [] 0 (policy_of l).groups ≡ Some n → twin_fault l ≡ Some (refusal 19 (place_of l Groups n))
 unfolding twin_fault twin_at
 twin_fault_some l n e = rw e
 
@@ -120,11 +120,11 @@ unfolding check rest_fault layout_fault ◌or_else◌
 check_split l = go (header_fault eqb l)
   where
     go : (o : Option Refusal) → o or_else rest_fault l ≡ (o or_else body_fault l) or_else twin_fault l
-    go none = refl
-    go (some f) = refl
+    go None = refl
+    go (Some f) = refl
 
 module _ (l : List ℕ) (e : Accepted l) where
-  pub accepted_rest : rest_fault l ≡ none
+  pub accepted_rest : rest_fault l ≡ None
   unfolding check
   accepted_rest = (or_else_split (header_fault eqb l) (rest_fault l) e).1
 
@@ -142,7 +142,7 @@ module _ (l : List ℕ) (e : Accepted l) where
   pub accepted_length : word_at l 1 ≡ length l
   accepted_length = laid_length l accepted_laid
 
-  pub accepted_body : body_fault l ≡ none
+  pub accepted_body : body_fault l ≡ None
   accepted_body = laid_body l accepted_laid
 
 pub laid_accepted : (l : List ℕ) → LaidOut l → NoTwins (policy_of l).groups → Accepted l
@@ -154,15 +154,15 @@ laid_accepted l e n =
 pub accepted_means : AcceptedMeans
 accepted_means l = (λ e. (accepted_laid l e, accepted_twins l e), laid_accepted l)
 
-pub section_inside : (l : List ℕ) (s : Section) (at n : ℕ) → at ≤ length l → section_fault l s at n ≡ none → place_after l at n ≤ length l
+pub section_inside : (l : List ℕ) (s : Section) (at n : ℕ) → at ≤ length l → section_fault l s at n ≡ None → place_after l at n ≤ length l
 unfolding place_after
 section_inside l s at zero h e = h
 section_inside l s at (suc n) h e =
     let f = stands l at (section_formed l s at (suc n) 0 (omega arith) e).shape in
     section_inside l s (at + get_or l at 0) n (omega (arith, f.size, f.inside)) (section_rest l s at n e)
 
-module _ (l : List ℕ) (e : body_fault l ≡ none) where
-  pub body_sections : (s : Section) → section_fault l s (start_of l s) (count_of l s) ≡ none
+module _ (l : List ℕ) (e : body_fault l ≡ None) where
+  pub body_sections : (s : Section) → section_fault l s (start_of l s) (count_of l s) ≡ None
   unfolding body_fault
   body_sections Groups = (or_else_split (section_fault l Groups (start_of l Groups) (count_of l Groups)) _ e).0
   body_sections Rules =
@@ -267,7 +267,7 @@ pub records_count : (l : List ℕ) (s : Section) → length (records_of (policy_
 records_count l s = ap length (policy_records l s) ∙ records_length l (start_of l s) (count_of l s)
 
 module _ (l : List ℕ) (e : Accepted l) (s : Section) (n : ℕ) (h : n < count_of l s) where
-  pub give_none : give_fault l s n ≡ none
+  pub give_none : give_fault l s n ≡ None
   unfolding give_fault
   give_none = or_else_none e (need_none _ (lt-ltb n (count_of l s) h))
 
@@ -306,16 +306,16 @@ unfolding give_fault
 none_given l e s n h = or_else_next _ e ∙ need_some _ (le-ltb n (count_of l s) (rw (records_count l s) at h))
 
 -- what it says that nothing is refused, for the callers of `find` and `record`
-pub give_split : (l : List ℕ) (s : Section) (n : ℕ) → give_fault l s n ≡ none → (Accepted l) × (n < count_of l s)
+pub give_split : (l : List ℕ) (s : Section) (n : ℕ) → give_fault l s n ≡ None → (Accepted l) × (n < count_of l s)
 unfolding give_fault
 give_split l s n e =
     let q = or_else_split (check l) (need (ltb n (count_of l s)) (refusal 14 0)) e in
     (q.0, ltb-true n (count_of l s) (need_true _ _ q.1))
 
-pub given_at : (l : List ℕ) (s : Section) (n : ℕ) → give_fault l s n ≡ none → GivenAt l s n
+pub given_at : (l : List ℕ) (s : Section) (n : ℕ) → give_fault l s n ≡ None → GivenAt l s n
 given_at l s n e = let q = give_split l s n e in records_given l q.0 s n (rw (records_count l s) q.1)
 
-pub given_none : (l : List ℕ) (s : Section) (n : ℕ) {f : Refusal} → give_fault l s n ≡ some f → given_record l s n ≡ []
+pub given_none : (l : List ℕ) (s : Section) (n : ℕ) {f : Refusal} → give_fault l s n ≡ Some f → given_record l s n ≡ []
 unfolding given_record unless_refused
 given_none l s n e = rw e
 
@@ -329,6 +329,6 @@ unfolding given_from
 given_one l s k = refl
 
 -- a refused image gives nothing, for the image's own cause
-pub give_image : (l : List ℕ) (s : Section) (n : ℕ) {f : Refusal} → check l ≡ some f → give_fault l s n ≡ some f
+pub give_image : (l : List ℕ) (s : Section) (n : ℕ) {f : Refusal} → check l ≡ Some f → give_fault l s n ≡ Some f
 unfolding give_fault
 give_image l s n e = or_else_first _ e

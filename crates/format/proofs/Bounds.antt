@@ -8,7 +8,7 @@ use Prim.Native.Nat.{ℕ, ◌≤◌}
 use mathlib.Core.Path.{◌≡◌, refl, sym, subst, ◌∙◌}
 use mathlib.Core.Logic.{◌⊎◌, inl, inr, ⊎_elim}
 use mathlib.Core.Bool.{Bool, ◌&&◌}
-use mathlib.Core.Option.{Option, none, some}
+use Rattle.std.specs.Prelude.{Option, None, Some}
 use mathlib.Core.List.{List, []}
 use native.Mathlib.Omega.{arith}
 use lib.ListN.{length, get_or}
@@ -40,7 +40,7 @@ Near n f = (f.number ≤ 7) × (f.place ≤ n)
 
 -- ---- the header: the place is 0, 3, 5 or 7
 
-header_refused : (fits : ℕ → ℕ → Bool) (l : List ℕ) (f : Refusal) → header_fault fits l ≡ some f → Near 7 f
+header_refused : (fits : ℕ → ℕ → Bool) (l : List ℕ) (f : Refusal) → header_fault fits l ≡ Some f → Near 7 f
 unfolding header_fault count_fault
 header_refused fits l =
     or_else_refuses (Near 7) (need (leb 9 (length l)) (refusal 1 0)) _ (need_refuses (Near 7) (leb 9 (length l)) (refusal 1 0) (omega arith, omega arith))
@@ -51,7 +51,7 @@ header_refused fits l =
     (λ _. or_else_refuses (Near 7) (count_fault l Groups) _ (count_refused Groups)
     (λ _. or_else_refuses (Near 7) (count_fault l Rules) (count_fault l Constraints) (count_refused Rules) (λ _. count_refused Constraints)))))
   where
-    count_refused : (s : Section) (f : Refusal) → count_fault l s ≡ some f → Near 7 f
+    count_refused : (s : Section) (f : Refusal) → count_fault l s ≡ Some f → Near 7 f
     count_refused s =
         need_refuses (Near 7) (leb (count_of l s) (limit_of s)) (refusal 4 (count_place s)) (omega arith, count_place_most s)
 
@@ -65,7 +65,7 @@ stop_number l s k f =
     ⊎_elim (λ e. known_number 5 _ f e.1 (omega arith))
     (⊎_elim (λ e. known_number 6 _ f e.1.2 (omega arith)) (λ e. known_number 7 _ f e.2 (omega arith)))
 
-pub layout_small : (l : List ℕ) (f : Refusal) → layout_fault l ≡ some f → (f.number ≤ 7) × (f.place ≤ longest_length)
+pub layout_small : (l : List ℕ) (f : Refusal) → layout_fault l ≡ Some f → (f.number ≤ 7) × (f.place ≤ longest_length)
 unfolding layout_fault
 layout_small l =
     or_else_refuses (Near longest_length) (header_fault eqb l) (body_fault l)
@@ -78,33 +78,33 @@ abbrev Refuses : Refusal → Type 0
 Refuses f = (f.number ≤ 19) × (f.place ≤ longest_length)
 
 -- the number of a twin is that of a group
-twin_refused : (l : List ℕ) → LaidOut l → (f : Refusal) → twin_fault l ≡ some f → Refuses f
+twin_refused : (l : List ℕ) → LaidOut l → (f : Refusal) → twin_fault l ≡ Some f → Refuses f
 unfolding twin_fault twin_at
 twin_refused l e f = go (first_twin [] 0 (policy_of l).groups) refl
   where
-    go : (o : Option ℕ) → first_twin [] 0 (policy_of l).groups ≡ o → twin_at l o ≡ some f → Refuses f
-    go none q t = some_not_none (sym t)
-    go (some n) q t =
+    go : (o : Option ℕ) → first_twin [] 0 (policy_of l).groups ≡ o → twin_at l o ≡ Some f → Refuses f
+    go None q t = some_not_none (sym t)
+    go (Some n) q t =
         let i = (first_twin_lem (policy_of l).groups n q).inside in
         let b = (laid_bounded l e Groups n (omega (arith, group_count l))).whole in
         let z : refusal 19 (place_of l Groups n) ≡ f = cc in
         subst Refuses z (omega arith, b)
 
-pub check_small : (l : List ℕ) (f : Refusal) → check l ≡ some f → (f.number ≤ 19) × (f.place ≤ longest_length)
+pub check_small : (l : List ℕ) (f : Refusal) → check l ≡ Some f → (f.number ≤ 19) × (f.place ≤ longest_length)
 check_small l f e =
     or_else_refuses Refuses (layout_fault l) (twin_fault l)
     (λ x q. let k = layout_small l x q in (omega (arith, k.0), k.1)) (λ h x q. twin_refused l h x q)
     f (sym (check_split l) ∙ e)
 
-pub front_small : (b : List ℕ) (f : Refusal) → check_front b ≡ some f → (f.number ≤ 19) × (f.place ≤ longest_length)
+pub front_small : (b : List ℕ) (f : Refusal) → check_front b ≡ Some f → (f.number ≤ 19) × (f.place ≤ longest_length)
 front_small b f e = check_small (leading b) f (leading_check b ∙ e)
 
 -- 20 is none of these
-pub front_number : (b : List ℕ) (f : Refusal) → check_front b ≡ some f → f.number ≡ 20 → ⊥
+pub front_number : (b : List ℕ) (f : Refusal) → check_front b ≡ Some f → f.number ≡ 20 → ⊥
 front_number b f e k = omega (arith, (front_small b f e).0)
 
-pub give_refused : (l : List ℕ) (s : Section) (n : ℕ) (f : Refusal) → give_fault l s n ≡ some f → (check l ≡ some f) ⊎ (f ≡ refusal 14 0)
+pub give_refused : (l : List ℕ) (s : Section) (n : ℕ) (f : Refusal) → give_fault l s n ≡ Some f → (check l ≡ Some f) ⊎ (f ≡ refusal 14 0)
 unfolding give_fault
 give_refused l s n =
-    or_else_refuses (λ f. (check l ≡ some f) ⊎ (f ≡ refusal 14 0)) (check l) (need (ltb n (count_of l s)) (refusal 14 0)) (λ f e. inl e)
-    (λ _. need_refuses (λ f. (check l ≡ some f) ⊎ (f ≡ refusal 14 0)) (ltb n (count_of l s)) (refusal 14 0) (inr refl))
+    or_else_refuses (λ f. (check l ≡ Some f) ⊎ (f ≡ refusal 14 0)) (check l) (need (ltb n (count_of l s)) (refusal 14 0)) (λ f e. inl e)
+    (λ _. need_refuses (λ f. (check l ≡ Some f) ⊎ (f ≡ refusal 14 0)) (ltb n (count_of l s)) (refusal 14 0) (inr refl))

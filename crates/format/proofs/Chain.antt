@@ -7,75 +7,76 @@
 use Prim.Native.Nat.{ℕ}
 use mathlib.Core.Path.{◌≡◌, refl, sym, subst}
 use mathlib.Core.Bool.{Bool, true, false}
-use mathlib.Core.Option.{Option, none, some}
+use Rattle.std.specs.Prelude.{Option, None, Some}
 use native.Mathlib.Omega.{arith}
 use Rattle.format.specs.declared.Refusal.{Refusal}
 use Rattle.format.specs.Refusals.{need, ◌or_else◌, unless_refused}
-use Rattle.format.specs.Answers.{refused, gives, outcome}
+use Rattle.std.specs.Prelude.{Ok, Err}
+use Rattle.format.specs.Answers.{outcome}
 
 module _ {A : Type 0} where
-  pub some_not_none : {C : Type 0} {a : A} → some a ≡ none → C
+  pub some_not_none : {C : Type 0} {a : A} → Some a ≡ None → C
   some_not_none e = let z : ◌≡◌ {A = ℕ} 0 1 = cc in absurd (omega arith)
 
-  pub or_else_split : (a b : Option A) → a or_else b ≡ none → (a ≡ none) × (b ≡ none)
+  pub or_else_split : (a b : Option A) → a or_else b ≡ None → (a ≡ None) × (b ≡ None)
   unfolding ◌or_else◌
-  or_else_split none b e = (refl, e)
-  or_else_split (some x) b e = some_not_none e
+  or_else_split None b e = (refl, e)
+  or_else_split (Some x) b e = some_not_none e
 
-  pub or_else_none : {a b : Option A} → a ≡ none → b ≡ none → a or_else b ≡ none
+  pub or_else_none : {a b : Option A} → a ≡ None → b ≡ None → a or_else b ≡ None
   unfolding ◌or_else◌
   or_else_none h k = rw (h, k)
 
-  pub or_else_next : {a : Option A} (b : Option A) → a ≡ none → a or_else b ≡ b
+  pub or_else_next : {a : Option A} (b : Option A) → a ≡ None → a or_else b ≡ b
   unfolding ◌or_else◌
   or_else_next b h = rw h
 
-  pub or_else_first : {a : Option A} {x : A} (b : Option A) → a ≡ some x → a or_else b ≡ some x
+  pub or_else_first : {a : Option A} {x : A} (b : Option A) → a ≡ Some x → a or_else b ≡ Some x
   unfolding ◌or_else◌
   or_else_first b h = rw h
 
-  pub or_else_nothing : (a : Option A) → a or_else none ≡ a
+  pub or_else_nothing : (a : Option A) → a or_else None ≡ a
   unfolding ◌or_else◌
-  or_else_nothing none = refl
-  or_else_nothing (some x) = refl
+  or_else_nothing None = refl
+  or_else_nothing (Some x) = refl
 
-  pub need_true : (t : Bool) (x : A) → need t x ≡ none → t ≡ true
+  pub need_true : (t : Bool) (x : A) → need t x ≡ None → t ≡ true
   unfolding need
   need_true true x e = refl
   need_true false x e = some_not_none e
 
-  pub need_none : {t : Bool} (x : A) → t ≡ true → need t x ≡ none
+  pub need_none : {t : Bool} (x : A) → t ≡ true → need t x ≡ None
   unfolding need
   need_none x h = rw h
 
-  pub need_some : {t : Bool} (x : A) → t ≡ false → need t x ≡ some x
+  pub need_some : {t : Bool} (x : A) → t ≡ false → need t x ≡ Some x
   unfolding need
   need_some x h = rw h
 
   pub or_else_refuses :
-      (P : A → Type 0) (a b : Option A) → ((x : A) → a ≡ some x → P x) → (a ≡ none → (x : A) → b ≡ some x → P x) → (x : A) → a or_else b ≡ some x → P x
+      (P : A → Type 0) (a b : Option A) → ((x : A) → a ≡ Some x → P x) → (a ≡ None → (x : A) → b ≡ Some x → P x) → (x : A) → a or_else b ≡ Some x → P x
   unfolding ◌or_else◌
-  or_else_refuses P none b h k x e = k refl x e
-  or_else_refuses P (some a) b h k x e = h x e
+  or_else_refuses P None b h k x e = k refl x e
+  or_else_refuses P (Some a) b h k x e = h x e
 
-  pub need_refuses : (P : A → Type 0) (t : Bool) (a : A) → P a → (x : A) → need t a ≡ some x → P x
+  pub need_refuses : (P : A → Type 0) (t : Bool) (a : A) → P a → (x : A) → need t a ≡ Some x → P x
   unfolding need
   need_refuses P true a h x e = some_not_none (sym e)
   need_refuses P false a h x e = let z : a ≡ x = cc in subst P z h
 
-  pub unless_accepted : {f : Option Refusal} (a b : A) → f ≡ none → unless_refused f a b ≡ a
+  pub unless_accepted : {f : Option Refusal} (a b : A) → f ≡ None → unless_refused f a b ≡ a
   unfolding unless_refused
   unless_accepted a b e = rw e
 
-  pub unless_refused_lem : {f : Option Refusal} {x : Refusal} (a b : A) → f ≡ some x → unless_refused f a b ≡ b
+  pub unless_refused_lem : {f : Option Refusal} {x : Refusal} (a b : A) → f ≡ Some x → unless_refused f a b ≡ b
   unfolding unless_refused
   unless_refused_lem a b e = rw e
 
 module _ {A : Type 0} where
-  pub outcome_gives : (f : Option Refusal) (a : A) {b : A} → gives b ≡ outcome f a → (f ≡ none) × (b ≡ a)
-  outcome_gives none a e = (refl, cc)
-  outcome_gives (some x) a e = let z : ◌≡◌ {A = ℕ} 0 1 = cc in absurd (omega arith)
+  pub outcome_gives : (f : Option Refusal) (a : A) {b : A} → Ok b ≡ outcome f a → (f ≡ None) × (b ≡ a)
+  outcome_gives None a e = (refl, cc)
+  outcome_gives (Some x) a e = let z : ◌≡◌ {A = ℕ} 0 1 = cc in absurd (omega arith)
 
-  pub outcome_refused : (f : Option Refusal) (a : A) {x : Refusal} → refused x ≡ outcome f a → f ≡ some x
-  outcome_refused none a e = let z : ◌≡◌ {A = ℕ} 0 1 = cc in absurd (omega arith)
-  outcome_refused (some y) a e = cc
+  pub outcome_refused : (f : Option Refusal) (a : A) {x : Refusal} → Err x ≡ outcome f a → f ≡ Some x
+  outcome_refused None a e = let z : ◌≡◌ {A = ℕ} 0 1 = cc in absurd (omega arith)
+  outcome_refused (Some y) a e = cc

@@ -11,7 +11,7 @@ use Prim.Native.Nat.{ℕ, zero, suc, ◌+◌, ◌-◌, ◌*◌, ◌/◌, ◌%◌
 use mathlib.Core.Path.{◌≡◌, refl, sym, ap, ◌∙◌}
 use mathlib.Core.Logic.{◌⊎◌, inl, inr}
 use mathlib.Core.Bool.{Bool, true, false, ◌&&◌, cond}
-use mathlib.Core.Option.{Option, none, some}
+use Rattle.std.specs.Prelude.{Option, None, Some}
 use mathlib.Core.List.{List, [], ◌∷◌}
 use native.Mathlib.Omega.{arith}
 use lib.ListN.{length, get_or, drop, length-drop}
@@ -48,13 +48,13 @@ is_type_lem g t (inr q) =
     simp (le-ltb t 1024 (omega arith), le-leb 32768 t (omega arith), lt-ltb (t - 32768) g (omega (arith, q.1)))
 
 module _ (g : ℕ) where
-  pub types_hold : (at : ℕ) (ts : List ℕ) → bad_type g at ts ≡ none → (i : ℕ) → i < length ts → is_type g (get_or ts i 0) ≡ true
+  pub types_hold : (at : ℕ) (ts : List ℕ) → bad_type g at ts ≡ None → (i : ℕ) → i < length ts → is_type g (get_or ts i 0) ≡ true
   unfolding bad_type
   types_hold at [] e i h = absurd (omega arith)
   types_hold at (t ∷ ts) e zero h = need_true _ _ (or_else_split (need (is_type g t) at) _ e).0
   types_hold at (t ∷ ts) e (suc i) h = types_hold (at + 2) ts (or_else_split (need (is_type g t) at) _ e).1 i (omega arith)
 
-  pub hold_types : (at : ℕ) (ts : List ℕ) → ((i : ℕ) → i < length ts → is_type g (get_or ts i 0) ≡ true) → bad_type g at ts ≡ none
+  pub hold_types : (at : ℕ) (ts : List ℕ) → ((i : ℕ) → i < length ts → is_type g (get_or ts i 0) ≡ true) → bad_type g at ts ≡ None
   unfolding bad_type
   hold_types at [] h = refl
   hold_types at (t ∷ ts) h = or_else_none (need_none _ (h 0 (omega arith))) (hold_types (at + 2) ts (λ i k. h (suc i) (omega arith)))
@@ -77,7 +77,7 @@ module _ (low m : ℕ) (ms : List ℕ) where
 pub rising_one : (m : ℕ) → m < 1024 → Rising 0 (m ∷ [])
 rising_one m h = rising_cons 0 m [] (omega arith) h (rising_nil (suc m))
 
-pub members_rising : (at low : ℕ) (ms : List ℕ) → bad_member at low ms ≡ none → Rising low ms
+pub members_rising : (at low : ℕ) (ms : List ℕ) → bad_member at low ms ≡ None → Rising low ms
 unfolding bad_member Rising
 members_rising at low [] e = tt
 members_rising at low (m ∷ ms) e =
@@ -85,7 +85,7 @@ members_rising at low (m ∷ ms) e =
     let t = both (leb low m) (ltb m 1024) (need_true _ _ q.0) in
     (leb-true low m t.0, ltb-true m 1024 t.1, members_rising (at + 2) (suc m) ms q.1)
 
-pub rising_members : (at low : ℕ) (ms : List ℕ) → Rising low ms → bad_member at low ms ≡ none
+pub rising_members : (at low : ℕ) (ms : List ℕ) → Rising low ms → bad_member at low ms ≡ None
 unfolding bad_member Rising
 rising_members at low [] r = refl
 rising_members at low (m ∷ ms) r =
@@ -144,7 +144,7 @@ module _ (g : ℕ) (r : List ℕ) where
   shape_is k e s h = and_true (eq-eqb (length r) (get_or r 0 0) (sym s)) (rw e h)
 
 module _ (r : List ℕ) where
-  group_is : bad_group r ≡ none → get_or r 0 0 ≡ length r → get_or r 1 0 ≡ 1 → 4 ≤ length r → length r ≤ 130 → length r % 2 ≡ 0 → IsGroup r ((length r - 2) / 2)
+  group_is : bad_group r ≡ None → get_or r 0 0 ≡ length r → get_or r 1 0 ≡ 1 → 4 ≤ length r → length r ≤ 130 → length r % 2 ≡ 0 → IsGroup r ((length r - 2) / 2)
   unfolding bad_group
   group_is e s k low high even =
       let ms : List ℕ = words (drop 2 r) in
@@ -162,7 +162,7 @@ module _ (r : List ℕ) where
             rw (words_nth r 2 i p, words_nth r 2 (suc i) q) at (rising_steps 0 ms up i q));
       }
 
-  is_group : (n : ℕ) → IsGroup r n → bad_group r ≡ none
+  is_group : (n : ℕ) → IsGroup r n → bad_group r ≡ None
   unfolding bad_group
   is_group n f =
       let ms : List ℕ = words (drop 2 r) in
@@ -193,7 +193,7 @@ cases_list p n h f g = go (eqb p 2) refl
     go false e = simp (e, le-leb p 3 h, eq-eqb n 0 (g (eqb-false p 2 e)))
 
 module _ (g : ℕ) (r : List ℕ) where
-  allow_is : bad_allow g r ≡ none → get_or r 0 0 ≡ length r → get_or r 1 0 ≡ 2 → length r ≡ 11 → IsAllow g r
+  allow_is : bad_allow g r ≡ None → get_or r 0 0 ≡ length r → get_or r 1 0 ≡ 2 → length r ≡ 11 → IsAllow g r
   unfolding bad_allow is_condition
   allow_is e s k n =
       let a = or_else_split (need (is_type g (word_at r 2)) 2) _ e in
@@ -206,24 +206,24 @@ module _ (g : ℕ) (r : List ℕ) where
         condition = leb-true (get_or r 10 0) 33 (need_true _ _ b.1);
       }
 
-  is_allow : IsAllow g r → bad_allow g r ≡ none
+  is_allow : IsAllow g r → bad_allow g r ≡ None
   unfolding bad_allow is_condition
   is_allow f =
       or_else_none (need_none _ (is_type_lem g _ f.source))
       (or_else_none (need_none _ (is_type_lem g _ f.dest)) (need_none _ (le-leb (get_or r 10 0) 33 f.condition)))
 
-  transition_is : bad_transition g r ≡ none → get_or r 0 0 ≡ length r → get_or r 1 0 ≡ 3 → length r ≡ 8 → IsTransition g r
+  transition_is : bad_transition g r ≡ None → get_or r 0 0 ≡ length r → get_or r 1 0 ≡ 3 → length r ≡ 8 → IsTransition g r
   unfolding bad_transition
   transition_is e s k n =
       let a = or_else_split (need (is_type g (word_at r 2)) 2) _ e in
       record { size = (s, n); kind = k; source = type_is g _ (need_true _ _ a.0); dest = type_is g _ (need_true _ _ a.1) }
 
-  is_transition : IsTransition g r → bad_transition g r ≡ none
+  is_transition : IsTransition g r → bad_transition g r ≡ None
   unfolding bad_transition
   is_transition f = or_else_none (need_none _ (is_type_lem g _ f.source)) (need_none _ (is_type_lem g _ f.dest))
 
   constraint_is :
-      bad_constraint g r ≡ none → get_or r 0 0 ≡ length r → get_or r 1 0 ≡ 4 → 11 ≤ length r → length r ≤ 43 → length r % 2 ≡ 1
+      bad_constraint g r ≡ None → get_or r 0 0 ≡ length r → get_or r 1 0 ≡ 4 → 11 ≤ length r → length r ≤ 43 → length r % 2 ≡ 1
       → IsConstraint g r ((length r - 11) / 2)
   unfolding bad_constraint
   constraint_is e s k low high odd =
@@ -245,7 +245,7 @@ module _ (g : ℕ) (r : List ℕ) where
         list = λ i h. let q : i < length ts = omega arith in type_is g _ (rw (words_nth r 11 i q) at (types_hold g 11 ts c.1 i q));
       }
 
-  is_constraint : (n : ℕ) → IsConstraint g r n → bad_constraint g r ≡ none
+  is_constraint : (n : ℕ) → IsConstraint g r n → bad_constraint g r ≡ None
   unfolding bad_constraint
   is_constraint n f =
       let ts : List ℕ = words (drop 11 r) in
@@ -346,8 +346,8 @@ module _ (g : ℕ) (r : List ℕ) where
 -- ---- a bad field's place lies within its record
 
 abbrev pub Below : Option ℕ → ℕ → Type 0
-Below none n = Unit
-Below (some i) n = i < n
+Below None n = Unit
+Below (Some i) n = i < n
 
 below_need : (t : Bool) (i n : ℕ) → i < n → Below (need t i) n
 unfolding need
@@ -356,8 +356,8 @@ below_need false i n h = h
 
 below_or_else : (a b : Option ℕ) (n : ℕ) → Below a n → Below b n → Below (a or_else b) n
 unfolding ◌or_else◌
-below_or_else none b n h k = k
-below_or_else (some i) b n h k = h
+below_or_else None b n h k = k
+below_or_else (Some i) b n h k = h
 
 below_member : (at low n : ℕ) (ms : List ℕ) → at + 2 * length ms ≤ n → Below (bad_member at low ms) n
 unfolding bad_member
@@ -407,7 +407,7 @@ module _ (g : ℕ) (r : List ℕ) where
       (λ k h. rw (field_transition g r k) (below_transition (omega arith)))
       (λ k h _ _. rw (field_constraint g r k) (below_constraint h))
 
-  pub field_inside : (i : ℕ) → shape_ok r ≡ true → bad_field g r ≡ some i → i < length r
+  pub field_inside : (i : ℕ) → shape_ok r ≡ true → bad_field g r ≡ Some i → i < length r
   field_inside i e q = rw q at (below_field e)
 
 -- ---- what is a record where there are g groups is one where there are more

@@ -10,7 +10,7 @@
 use Prim.Native.Nat.{ℕ, ◌+◌, ◌≤◌, ◌<◌}
 use mathlib.Core.Path.{◌≡◌, refl, sym, ap, ◌∙◌}
 use mathlib.Core.Bool.{Bool, true, false, ◌&&◌}
-use mathlib.Core.Option.{Option, none}
+use Rattle.std.specs.Prelude.{Option, None}
 use mathlib.Core.List.{List, ◌++◌}
 use native.Mathlib.Omega.{arith}
 use lib.ListN.{length, get_or, take, drop, length-append, take-append-drop, get_or-append}
@@ -55,7 +55,7 @@ pub image_in_is : (b : List ℕ) → image_in b ≡ take (word_at b 1) b
 unfolding image_in
 image_in_is b = refl
 
-module _ (b : List ℕ) (e : check_front b ≡ none) where
+module _ (b : List ℕ) (e : check_front b ≡ None) where
   pub front_header : Header leb b
   unfolding check_front
   front_header = header_holds leb b (or_else_split (header_fault leb b) (rest_fault (image_in b)) e).0
@@ -105,7 +105,7 @@ module _ (l t : List ℕ) (e : Accepted l) where
   unfolding image_in
   image_in_of = rw front_of_length (take_at l t (length l) refl)
 
-  pub front_of : check_front (l ++ t) ≡ none
+  pub front_of : check_front (l ++ t) ≡ None
   unfolding check_front
   front_of =
       let n = length-append l t in
@@ -163,7 +163,7 @@ leading_check b = go (leb 9 (length b) && leb 9 (word_at b 1) && leb (word_at b 
     go true e = rw e (leading_same b e)
     go false e = rw e (short_same b e)
 
-pub leading_image : (b : List ℕ) → check_front b ≡ none → leading b ≡ image_in b
+pub leading_image : (b : List ℕ) → check_front b ≡ None → leading b ≡ image_in b
 unfolding leading
 leading_image b e =
     let h = front_header b e in

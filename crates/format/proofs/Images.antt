@@ -9,7 +9,7 @@
 use Prim.Native.Nat.{ℕ, suc, ◌+◌, ◌≤◌, ◌<◌}
 use mathlib.Core.Path.{◌≡◌, refl, sym, subst, ap, ◌∙◌}
 use mathlib.Core.Bool.{true}
-use mathlib.Core.Option.{none}
+use Rattle.std.specs.Prelude.{None}
 use mathlib.Core.List.{List, [], ◌∷◌, ◌++◌, flatten, append_assoc, append-nil, Memᴰ}
 use native.Mathlib.Omega.{arith}
 use lib.ListN.{length, get_or, drop, length-append, length-drop}
@@ -278,7 +278,7 @@ module _ (p : Policy) (w : Regular p) where
       ∙ rw (image_length p, length-append (flatten p.groups) (flatten p.rules ++ flatten p.constraints), length-append (flatten p.rules) (flatten p.constraints))
       (omega arith)
 
-  image_section : (s : Section) → section_fault (image_of p) s (start_of (image_of p) s) (count_of (image_of p) s) ≡ none
+  image_section : (s : Section) → section_fault (image_of p) s (start_of (image_of p) s) (count_of (image_of p) s) ≡ None
   image_section s = rw (image_count p s) (runs_fault s (image_runs s).1 (formed s))
 
   image_records : (s : Section) → records_at (image_of p) (start_of (image_of p) s) (count_of (image_of p) s) ≡ records_of p s
@@ -288,7 +288,7 @@ module _ (p : Policy) (w : Regular p) where
   unfolding policy_of records_of
   policy_of_image = λ i. record { version = image_version p i; groups = image_records Groups i; rules = image_records Rules i; constraints = image_records Constraints i }
 
-  header_passes : header_fault eqb (image_of p) ≡ none
+  header_passes : header_fault eqb (image_of p) ≡ None
   header_passes =
       let n : 9 ≤ length (image_of p) = rw (image_length p) (omega arith) in
       holds_header eqb (image_of p)
@@ -300,7 +300,7 @@ module _ (p : Policy) (w : Regular p) where
         few = λ s. rw (image_count p s) (w.few s);
       })
 
-  body_passes : body_fault (image_of p) ≡ none
+  body_passes : body_fault (image_of p) ≡ None
   unfolding body_fault
   body_passes =
       or_else_none (image_section Groups)

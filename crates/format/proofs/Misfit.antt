@@ -3,7 +3,7 @@
 use Prim.Native.Nat.{ℕ, ◌≤◌}
 use mathlib.Core.Path.{◌≡◌, refl}
 use mathlib.Core.Bool.{Bool, true, false}
-use mathlib.Core.Option.{some}
+use Rattle.std.specs.Prelude.{Some}
 use mathlib.Core.List.{List}
 use lib.ListN.{length, get_or}
 use lib.Dec.{leb, eqb}
@@ -15,7 +15,7 @@ use Rattle.format.specs.Check.{header_fault, layout_fault}
 
 pub misfit_refused :
     (l : List ℕ) → 9 ≤ length l → (word_at l 1 ≡ length l → ⊥)
-    → layout_fault l ≡ need (known_version (get_or l 0 0)) (refusal 2 0) or_else some (refusal 3 0)
+    → layout_fault l ≡ need (known_version (get_or l 0 0)) (refusal 2 0) or_else Some (refusal 3 0)
 unfolding layout_fault header_fault need ◌or_else◌
 misfit_refused l h n =
     go (le-leb 9 (length l) h) (ne_eqb (word_at l 1) (length l) n) (known_version (get_or l 0 0)) refl (leb 9 (word_at l 1)) refl
@@ -23,7 +23,7 @@ misfit_refused l h n =
     go :
         leb 9 (length l) ≡ true → eqb (word_at l 1) (length l) ≡ false → (v : Bool) → known_version (get_or l 0 0) ≡ v
         → (x : Bool) → leb 9 (word_at l 1) ≡ x
-        → layout_fault l ≡ need (known_version (get_or l 0 0)) (refusal 2 0) or_else some (refusal 3 0)
+        → layout_fault l ≡ need (known_version (get_or l 0 0)) (refusal 2 0) or_else Some (refusal 3 0)
     go p q false k x r = simp (p, k)
     go p q true k false r = simp (p, k, r)
     go p q true k true r = simp (p, k, r, q)

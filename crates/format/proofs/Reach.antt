@@ -8,7 +8,7 @@
 use Prim.Native.Nat.{ℕ, zero, suc, ◌+◌, ◌*◌, ◌≤◌, ◌<◌}
 use mathlib.Core.Path.{◌≡◌, refl}
 use mathlib.Core.Bool.{true}
-use mathlib.Core.Option.{none}
+use Rattle.std.specs.Prelude.{None}
 use mathlib.Core.List.{List}
 use native.Mathlib.Omega.{arith}
 use lib.ListN.{length, get_or}
@@ -55,7 +55,7 @@ place_most l at c (suc n) h =
     let b = h n (omega arith) in
     rw (place_snoc l at n) (omega arith)
 
-section_most : (l : List ℕ) (s : Section) (at n : ℕ) → section_fault l s at n ≡ none → place_after l at n ≤ at + longest_of s * n
+section_most : (l : List ℕ) (s : Section) (at n : ℕ) → section_fault l s at n ≡ None → place_after l at n ≤ at + longest_of s * n
 section_most l s at n e = place_most l at (longest_of s) n (λ k h. short k (section_formed l s at n k h e))
   where
     short : (k : ℕ) → Formed s (count_of l Groups) (record_at l (place_after l at k)) → get_or l (place_after l at k) 0 ≤ longest_of s
@@ -73,24 +73,24 @@ most_further Constraints k = omega arith
 
 -- what stands before a section
 module _ (l : List ℕ) where
-  pub before_groups : fault_before l Groups ≡ none
+  pub before_groups : fault_before l Groups ≡ None
   unfolding fault_before
   before_groups = refl
 
-  pub before_rules : section_fault l Groups (start_of l Groups) (count_of l Groups) ≡ none → fault_before l Rules ≡ none
+  pub before_rules : section_fault l Groups (start_of l Groups) (count_of l Groups) ≡ None → fault_before l Rules ≡ None
   unfolding fault_before
   before_rules e = e
 
   pub before_constraints :
-      section_fault l Groups (start_of l Groups) (count_of l Groups) ≡ none
-      → section_fault l Rules (start_of l Rules) (count_of l Rules) ≡ none
-      → fault_before l Constraints ≡ none
+      section_fault l Groups (start_of l Groups) (count_of l Groups) ≡ None
+      → section_fault l Rules (start_of l Rules) (count_of l Rules) ≡ None
+      → fault_before l Constraints ≡ None
   unfolding fault_before
   before_constraints e h = or_else_none e h
 
 module _ (l : List ℕ) (few : (s : Section) → count_of l s ≤ limit_of s) where
   -- where a section starts, behind sections that are full at most
-  start_most : (s : Section) → fault_before l s ≡ none → start_of l s ≤ most_place s 0
+  start_most : (s : Section) → fault_before l s ≡ None → start_of l s ≤ most_place s 0
   unfolding fault_before start_of most_place limit_of longest_of
   start_most Groups e = omega arith
   start_most Rules e =
@@ -131,7 +131,7 @@ places_bounded fits l e s k r =
 -- ---- an image that passes 1 to 7, and an accepted one
 
 module _ (l : List ℕ) (e : LaidOut l) where
-  none_before : (s : Section) → fault_before l s ≡ none
+  none_before : (s : Section) → fault_before l s ≡ None
   none_before Groups = before_groups l
   none_before Rules = before_rules l (body_sections l (laid_body l e) Groups)
   none_before Constraints = before_constraints l (body_sections l (laid_body l e) Groups) (body_sections l (laid_body l e) Rules)

@@ -7,7 +7,7 @@ use Prim.Native.Nat.{ℕ, zero, suc, ◌+◌, ◌≤◌, ◌<◌}
 use mathlib.Core.Path.{◌≡◌, refl, sym, ap, ap₂, ◌∙◌}
 use mathlib.Core.Logic.{⊎_elim}
 use mathlib.Core.Bool.{true}
-use mathlib.Core.Option.{none}
+use Rattle.std.specs.Prelude.{None}
 use mathlib.Core.List.Memᴰ
 use mathlib.Core.List.{List, [], ◌∷◌, ◌++◌, flatten, append_assoc, Memᴰ}
 use native.Mathlib.Omega.{arith}
@@ -72,11 +72,11 @@ records_flatten l at (suc n) =
     ∙ ap (λ (j : ℕ). take (get_or (drop at l) 0 0) (drop at l) ++ drop j (drop at l)) (sym k)
     ∙ take-append-drop (get_or (drop at l) 0 0) (drop at l)
 
-pub section_rest : (l : List ℕ) (s : Section) (at n : ℕ) → section_fault l s at (suc n) ≡ none → section_fault l s (at + get_or l at 0) n ≡ none
+pub section_rest : (l : List ℕ) (s : Section) (at n : ℕ) → section_fault l s at (suc n) ≡ None → section_fault l s (at + get_or l at 0) n ≡ None
 unfolding section_fault
 section_rest l s at n e = (or_else_split (read_fault at (read_of s (count_of l Groups) (drop at l))) _ e).1
 
-pub section_prefix : (l : List ℕ) (s : Section) (at n k : ℕ) → k ≤ n → section_fault l s at n ≡ none → section_fault l s at k ≡ none
+pub section_prefix : (l : List ℕ) (s : Section) (at n k : ℕ) → k ≤ n → section_fault l s at n ≡ None → section_fault l s at k ≡ None
 unfolding section_fault
 section_prefix l s at n zero h e = refl
 section_prefix l s at zero (suc k) h e = absurd (omega arith)
@@ -86,7 +86,7 @@ section_prefix l s at (suc n) (suc k) h e =
     (section_prefix l s (at + get_or l at 0) n k (omega arith) (section_rest l s at n e))
 
 pub section_formed :
-    (l : List ℕ) (s : Section) (at n k : ℕ) → k < n → section_fault l s at n ≡ none → Formed s (count_of l Groups) (record_at l (place_after l at k))
+    (l : List ℕ) (s : Section) (at n k : ℕ) → k < n → section_fault l s at n ≡ None → Formed s (count_of l Groups) (record_at l (place_after l at k))
 unfolding section_fault place_after record_at
 section_formed l s at zero k h e = absurd (omega arith)
 section_formed l s at (suc n) zero h e =
@@ -112,7 +112,7 @@ module _ {l : List ℕ} where
 
   pub runs_fault :
       (s : Section) {at e : ℕ} {rs : List (List ℕ)} → Runs l at rs e → ((r : List ℕ) → Memᴰ r rs → Formed s (count_of l Groups) r)
-      → section_fault l s at (length rs) ≡ none
+      → section_fault l s at (length rs) ≡ None
   unfolding section_fault read_fault record_at
   runs_fault s done f = refl
   runs_fault s (next {at} h q) f =
@@ -124,7 +124,7 @@ module _ {l : List ℕ} where
 module _ (r t : List ℕ) (h : shape_ok r ≡ true) where
   front_length : get_or (r ++ t) 0 0 ≡ length r
   front_length =
-      let some = length_least (get_or r 1 0) (length r) (shape_kind r h) in
+      let Some = length_least (get_or r 1 0) (length r) (shape_kind r h) in
       get_or-append r t 0 0 (omega arith) ∙ sym (shape_length r h)
 
   front_record : first_record (r ++ t) ≡ r

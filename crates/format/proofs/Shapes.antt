@@ -8,7 +8,7 @@
 use Prim.Native.Nat.{ℕ, ◌+◌, ◌%◌, ◌≤◌, ◌<◌}
 use mathlib.Core.Path.{◌≡◌, refl, sym, ap, ◌∙◌}
 use mathlib.Core.Bool.{Bool, true, false, ◌&&◌, cond}
-use mathlib.Core.Option.{Option, none, some}
+use Rattle.std.specs.Prelude.{Option, None, Some, Ok, Err}
 use mathlib.Core.List.{List, ◌∷◌}
 use native.Mathlib.Omega.{arith}
 use native.Mathlib.Nat.{add-zero, add_assoc}
@@ -17,8 +17,8 @@ use lib.Seq.{get_or-take, get_or-drop, take-length}
 use lib.Dec.{eqb, leb}
 use borrow.Author.Tests.{eqb-true, leb-true, eq-eqb, le-leb}
 use Rattle.format.specs.declared.Section.{Section}
-use Rattle.format.specs.declared.Read.{Read}
-use Rattle.format.specs.declared.Read.TheVariants.{Whole, Malformed, BadField}
+use Rattle.format.specs.Check.{Read}
+use Rattle.format.specs.declared.Misread.TheVariants.{Malformed, BadField}
 use Rattle.format.specs.Bytes.{word_at}
 use Rattle.format.specs.Format.{kind_in, length_ok, first_record, shape_ok, bad_field}
 use Rattle.format.specs.Policy.{record_at}
@@ -30,7 +30,7 @@ use Rattle.format.proofs.Chain.{some_not_none}
 pub record Formed (s : Section) (g : ℕ) (r : List ℕ) : Type 0 where
   pub shape : shape_ok r ≡ true
   pub kind : kind_in s (get_or r 1 0) ≡ true
-  pub fields : bad_field g r ≡ none
+  pub fields : bad_field g r ≡ None
 
 pub length_cases :
     {C : Type 0} (k n : ℕ) → length_ok k n ≡ true
@@ -100,44 +100,44 @@ pub stands_word : (l : List ℕ) (at : ℕ) (r : List ℕ) (i : ℕ) → Stands 
 unfolding word_at
 stands_word l at r i s h = rw (s.field i (omega arith), s.field (i + 1) h, add_assoc)
 
-fields_whole : (f : Option ℕ) (n m : ℕ) → read_fields f n ≡ Whole m → (f ≡ none) × (n ≡ m)
+fields_whole : (f : Option ℕ) (n m : ℕ) → read_fields f n ≡ Ok m → (f ≡ None) × (n ≡ m)
 unfolding read_fields
-fields_whole none n m e = (refl, cc)
-fields_whole (some i) n m e = let z : ◌≡◌ {A = ℕ} 0 1 = cc in absurd (omega arith)
+fields_whole None n m e = (refl, cc)
+fields_whole (Some i) n m e = let z : ◌≡◌ {A = ℕ} 0 1 = cc in absurd (omega arith)
 
-pub read_whole : (s : Section) (g n : ℕ) (part : List ℕ) → read_of s g part ≡ Whole n → Formed s g (first_record part) × (length (first_record part) ≡ n)
+pub read_whole : (s : Section) (g n : ℕ) (part : List ℕ) → read_of s g part ≡ Ok n → Formed s g (first_record part) × (length (first_record part) ≡ n)
 unfolding read_of
 read_whole s g n part e = go (shape_ok r && kind_in s (get_or r 1 0)) refl e
   where
     r : List ℕ
     r = first_record part
 
-    go : (b : Bool) → (shape_ok r && kind_in s (get_or r 1 0)) ≡ b → cond b (read_fields (bad_field g r) (length r)) Malformed ≡ Whole n → Formed s g r × (length r ≡ n)
+    go : (b : Bool) → (shape_ok r && kind_in s (get_or r 1 0)) ≡ b → cond b (read_fields (bad_field g r) (length r)) (Err Malformed) ≡ Ok n → Formed s g r × (length r ≡ n)
     go true h q =
         let a = both (shape_ok r) (kind_in s (get_or r 1 0)) h in
         let b = fields_whole (bad_field g r) (length r) n q in
         (record { shape = a.0; kind = a.1; fields = b.0 }, b.1)
     go false h q = let z : ◌≡◌ {A = ℕ} 0 1 = cc in absurd (omega arith)
 
-pub whole_read : (s : Section) (g : ℕ) (part : List ℕ) → Formed s g (first_record part) → read_of s g part ≡ Whole (length (first_record part))
+pub whole_read : (s : Section) (g : ℕ) (part : List ℕ) → Formed s g (first_record part) → read_of s g part ≡ Ok (length (first_record part))
 unfolding read_of read_fields
 whole_read s g part f = simp (f.shape, f.kind, f.fields)
 
-pub read_fault_none : (at : ℕ) (r : Read) → read_fault at r ≡ none → (n : ℕ) × (r ≡ Whole n)
+pub read_fault_none : (at : ℕ) (r : Read) → read_fault at r ≡ None → (n : ℕ) × (r ≡ Ok n)
 unfolding read_fault
-read_fault_none at (Whole n) e = (n, refl)
-read_fault_none at Malformed e = some_not_none e
-read_fault_none at (BadField i) e = some_not_none e
+read_fault_none at (Ok n) e = (n, refl)
+read_fault_none at (Err Malformed) e = some_not_none e
+read_fault_none at (Err (BadField i)) e = some_not_none e
 
-fields_bad : (f : Option ℕ) (n i : ℕ) → read_fields f n ≡ BadField i → f ≡ some i
+fields_bad : (f : Option ℕ) (n i : ℕ) → read_fields f n ≡ Err (BadField i) → f ≡ Some i
 unfolding read_fields
-fields_bad none n i e = let z : ◌≡◌ {A = ℕ} 0 1 = cc in absurd (omega arith)
-fields_bad (some j) n i e = cc
+fields_bad None n i e = let z : ◌≡◌ {A = ℕ} 0 1 = cc in absurd (omega arith)
+fields_bad (Some j) n i e = cc
 
 pub read_bad_field :
-    (s : Section) (g i : ℕ) (part : List ℕ) → read_of s g part ≡ BadField i
+    (s : Section) (g i : ℕ) (part : List ℕ) → read_of s g part ≡ Err (BadField i)
     → (shape_ok (first_record part) ≡ true)
-    × (bad_field g (first_record part) ≡ some i)
+    × (bad_field g (first_record part) ≡ Some i)
     × (kind_in s (get_or (first_record part) 1 0) ≡ true)
 unfolding read_of
 read_bad_field s g i part e = go (shape_ok r && kind_in s (get_or r 1 0)) refl e
@@ -145,18 +145,18 @@ read_bad_field s g i part e = go (shape_ok r && kind_in s (get_or r 1 0)) refl e
     r : List ℕ
     r = first_record part
 
-    go : (b : Bool) → (shape_ok r && kind_in s (get_or r 1 0)) ≡ b → cond b (read_fields (bad_field g r) (length r)) Malformed ≡ BadField i
-        → (shape_ok r ≡ true) × (bad_field g r ≡ some i) × (kind_in s (get_or r 1 0) ≡ true)
+    go : (b : Bool) → (shape_ok r && kind_in s (get_or r 1 0)) ≡ b → cond b (read_fields (bad_field g r) (length r)) (Err Malformed) ≡ Err (BadField i)
+        → (shape_ok r ≡ true) × (bad_field g r ≡ Some i) × (kind_in s (get_or r 1 0) ≡ true)
     go true h q = let a = both (shape_ok r) (kind_in s (get_or r 1 0)) h in (a.0, fields_bad (bad_field g r) (length r) i q, a.1)
     go false h q = let z : ◌≡◌ {A = ℕ} 0 1 = cc in absurd (omega arith)
 
-fields_formed : (f : Option ℕ) (n : ℕ) → read_fields f n ≡ Malformed → ⊥
+fields_formed : (f : Option ℕ) (n : ℕ) → read_fields f n ≡ Err Malformed → ⊥
 unfolding read_fields
-fields_formed none n e = (let z : ◌≡◌ {A = ℕ} 0 1 = cc in omega arith)
-fields_formed (some i) n e = (let z : ◌≡◌ {A = ℕ} 0 1 = cc in omega arith)
+fields_formed None n e = (let z : ◌≡◌ {A = ℕ} 0 1 = cc in omega arith)
+fields_formed (Some i) n e = (let z : ◌≡◌ {A = ℕ} 0 1 = cc in omega arith)
 
 pub read_malformed :
-    (s : Section) (g : ℕ) (part : List ℕ) → read_of s g part ≡ Malformed → shape_ok (first_record part) ≡ true → kind_in s (get_or (first_record part) 1 0) ≡ true → ⊥
+    (s : Section) (g : ℕ) (part : List ℕ) → read_of s g part ≡ Err Malformed → shape_ok (first_record part) ≡ true → kind_in s (get_or (first_record part) 1 0) ≡ true → ⊥
 unfolding read_of
 read_malformed s g part e h k = fields_formed (bad_field g (first_record part)) (length (first_record part)) (simp (h, k) at e)
 

@@ -5,7 +5,7 @@ use Prim.Native.Nat.{ℕ, zero, suc, ◌+◌, ◌≤◌, ◌<◌}
 use mathlib.Core.Path.{◌≡◌, refl, sym, subst}
 use mathlib.Core.Logic.{◌⊎◌, inl, inr, ⊎_elim}
 use mathlib.Core.Bool.{Bool}
-use mathlib.Core.Option.{Option, none, some}
+use Rattle.std.specs.Prelude.{Option, None, Some, Ok, Err}
 use mathlib.Core.List.{List}
 use native.Mathlib.Omega.{arith}
 use lib.ListN.{length, get_or, drop}
@@ -13,8 +13,8 @@ use lib.Dec.{leb}
 use Rattle.format.specs.declared.Section.{Section}
 use Rattle.format.specs.declared.Section.TheVariants.{Groups, Rules, Constraints}
 use Rattle.format.specs.declared.Refusal.{Refusal}
-use Rattle.format.specs.declared.Read.{Read}
-use Rattle.format.specs.declared.Read.TheVariants.{Whole, Malformed, BadField}
+use Rattle.format.specs.Check.{Read}
+use Rattle.format.specs.declared.Misread.TheVariants.{Malformed, BadField}
 use Rattle.format.specs.Refusals.{refusal}
 use Rattle.format.specs.Format.{count_of, first_record}
 use Rattle.format.specs.Policy.{record_at, place_after, start_of, place_of, end_of}
@@ -33,13 +33,13 @@ record_fault l s at = read_fault at (read_of s (count_of l Groups) (drop at l))
 
 -- a section's first refusal: the records before it have none
 section_stops :
-    (l : List ℕ) (s : Section) (at n : ℕ) (f : Refusal) → section_fault l s at n ≡ some f
-    → (k : ℕ) × (k < n) × (section_fault l s at k ≡ none) × (record_fault l s (place_after l at k) ≡ some f)
+    (l : List ℕ) (s : Section) (at n : ℕ) (f : Refusal) → section_fault l s at n ≡ Some f
+    → (k : ℕ) × (k < n) × (section_fault l s at k ≡ None) × (record_fault l s (place_after l at k) ≡ Some f)
 unfolding section_fault place_after
 section_stops l s at zero = λ f e. some_not_none (sym e)
 section_stops l s at (suc n) =
     or_else_refuses
-    (λ f. (k : ℕ) × (k < suc n) × (section_fault l s at k ≡ none) × (record_fault l s (place_after l at k) ≡ some f))
+    (λ f. (k : ℕ) × (k < suc n) × (section_fault l s at k ≡ None) × (record_fault l s (place_after l at k) ≡ Some f))
     (record_fault l s at)
     (section_fault l s (at + get_or l at 0) n)
     (λ f e. (0, omega arith, refl, e))
@@ -51,14 +51,14 @@ RecordStops l at most f =
     ((f ≡ refusal 5 at) ⊎ ((i : ℕ) × (i < get_or l at 0) × (f ≡ refusal 6 (at + i)))) × (f.place ≤ at + most)
 
 read_stops :
-    (l : List ℕ) (s : Section) (g at : ℕ) (x : Read) → read_of s g (drop at l) ≡ x → (f : Refusal) → read_fault at x ≡ some f
+    (l : List ℕ) (s : Section) (g at : ℕ) (x : Read) → read_of s g (drop at l) ≡ x → (f : Refusal) → read_fault at x ≡ Some f
     → RecordStops l at (longest_of s) f
 unfolding read_fault record_at
-read_stops l s g at (Whole n) e f q = some_not_none (sym q)
-read_stops l s g at Malformed e f q =
+read_stops l s g at (Ok n) e f q = some_not_none (sym q)
+read_stops l s g at (Err Malformed) e f q =
     let z : refusal 5 at ≡ f = cc in
     subst (RecordStops l at (longest_of s)) z (inl refl, omega arith)
-read_stops l s g at (BadField i) e f q =
+read_stops l s g at (Err (BadField i)) e f q =
     let b = read_bad_field s g i (drop at l) e in
     let r = first_record (drop at l) in
     let k = field_inside g r i b.0 b.1 in
@@ -67,10 +67,10 @@ read_stops l s g at (BadField i) e f q =
     let z : refusal 6 (at + i) ≡ f = cc in
     subst (RecordStops l at (longest_of s)) z (inr (i, omega arith, refl), omega arith)
 
-module _ (fits : ℕ → ℕ → Bool) (l : List ℕ) (h : header_fault fits l ≡ none) where
+module _ (fits : ℕ → ℕ → Bool) (l : List ℕ) (h : header_fault fits l ≡ None) where
   -- the section's record that is refused is one of those counted, and the bound past it holds
   stops_in :
-      (s : Section) → fault_before l s ≡ none → (f : Refusal) → section_fault l s (start_of l s) (count_of l s) ≡ some f → Stops l f
+      (s : Section) → fault_before l s ≡ None → (f : Refusal) → section_fault l s (start_of l s) (count_of l s) ≡ Some f → Stops l f
   unfolding place_of
   stops_in s b f e =
       let few = (header_holds fits l h).few in
@@ -91,7 +91,7 @@ module _ (fits : ℕ → ℕ → Bool) (l : List ℕ) (h : header_fault fits l �
         whole = omega (arith, t.1);
       }
 
-  stops : (f : Refusal) → body_fault l ≡ some f → Stops l f
+  stops : (f : Refusal) → body_fault l ≡ Some f → Stops l f
   unfolding body_fault end_of
   stops =
       or_else_refuses (Stops l) (section_fault l Groups (start_of l Groups) (count_of l Groups)) _

@@ -11,7 +11,7 @@ use native.Mathlib.Omega.{arith}
 use mathlib.Core.Path.{◌≡◌, refl, sym, subst, ap, ap₂, ◌∙◌}
 use mathlib.Core.Logic.{⊎_elim}
 use mathlib.Core.Bool.{Bool, true, false, ◌||◌, cond}
-use mathlib.Core.Option.{Option, none, some}
+use Rattle.std.specs.Prelude.{Option, None, Some}
 use mathlib.Core.List.{List, [], ◌∷◌, ◌++◌, append_assoc, append-nil}
 use mathlib.Core.List.Memᴰ
 use mathlib.Core.List.{Memᴰ}
@@ -99,33 +99,33 @@ unlisted g gs h = go (listed g gs) refl
 -- ---- no twins, group by group
 
 module _ (seen : List (List ℕ)) (n : ℕ) (g : List ℕ) (gs : List (List ℕ)) where
-  pub twin_fresh : first_twin seen n (g ∷ gs) ≡ none → listed g seen ≡ false
+  pub twin_fresh : first_twin seen n (g ∷ gs) ≡ None → listed g seen ≡ false
   unfolding first_twin
   twin_fresh e = go (listed g seen) refl e
     where
-      go : (b : Bool) → listed g seen ≡ b → cond b (some n) (first_twin (seen ++ (g ∷ [])) (suc n) gs) ≡ none → listed g seen ≡ false
+      go : (b : Bool) → listed g seen ≡ b → cond b (Some n) (first_twin (seen ++ (g ∷ [])) (suc n) gs) ≡ None → listed g seen ≡ false
       go true h e = some_not_none e
       go false h e = h
 
-  pub twin_rest : first_twin seen n (g ∷ gs) ≡ none → first_twin (seen ++ (g ∷ [])) (suc n) gs ≡ none
+  pub twin_rest : first_twin seen n (g ∷ gs) ≡ None → first_twin (seen ++ (g ∷ [])) (suc n) gs ≡ None
   unfolding first_twin
   twin_rest e = go (listed g seen) e
     where
-      go : (b : Bool) → cond b (some n) (first_twin (seen ++ (g ∷ [])) (suc n) gs) ≡ none → first_twin (seen ++ (g ∷ [])) (suc n) gs ≡ none
+      go : (b : Bool) → cond b (Some n) (first_twin (seen ++ (g ∷ [])) (suc n) gs) ≡ None → first_twin (seen ++ (g ∷ [])) (suc n) gs ≡ None
       go true e = some_not_none e
       go false e = e
 
-  pub twin_none : listed g seen ≡ false → first_twin (seen ++ (g ∷ [])) (suc n) gs ≡ none → first_twin seen n (g ∷ gs) ≡ none
+  pub twin_none : listed g seen ≡ false → first_twin (seen ++ (g ∷ [])) (suc n) gs ≡ None → first_twin seen n (g ∷ gs) ≡ None
   unfolding first_twin
   twin_none h e = rw h e
 
-pub nil_none : (seen : List (List ℕ)) (n : ℕ) → first_twin seen n [] ≡ none
+pub nil_none : (seen : List (List ℕ)) (n : ℕ) → first_twin seen n [] ≡ None
 unfolding first_twin
 nil_none seen n = refl
 
 twin_snoc :
-    (seen : List (List ℕ)) (n : ℕ) (ks : List (List ℕ)) (g : List ℕ) → first_twin seen n ks ≡ none → listed g (seen ++ ks) ≡ false
-    → first_twin seen n (ks ++ (g ∷ [])) ≡ none
+    (seen : List (List ℕ)) (n : ℕ) (ks : List (List ℕ)) (g : List ℕ) → first_twin seen n ks ≡ None → listed g (seen ++ ks) ≡ false
+    → first_twin seen n (ks ++ (g ∷ [])) ≡ None
 twin_snoc seen n [] g e h =
     twin_none seen n g [] (subst (λ (l : List (List ℕ)). listed g l ≡ false) (append-nil seen) h) (nil_none (seen ++ (g ∷ [])) (suc n))
 twin_snoc seen n (k ∷ ks) g e h =
@@ -139,7 +139,7 @@ no_twins_nil = nil_none [] 0
 pub no_twins_snoc : (gs : List (List ℕ)) (g : List ℕ) → NoTwins gs → listed g gs ≡ false → NoTwins (gs ++ (g ∷ []))
 no_twins_snoc gs g e h = twin_snoc [] 0 gs g e h
 
-front : (seen : List (List ℕ)) (n : ℕ) (fs bs : List (List ℕ)) → first_twin seen n (fs ++ bs) ≡ none → first_twin seen n fs ≡ none
+front : (seen : List (List ℕ)) (n : ℕ) (fs bs : List (List ℕ)) → first_twin seen n (fs ++ bs) ≡ None → first_twin seen n fs ≡ None
 front seen n [] bs e = nil_none seen n
 front seen n (a ∷ fs) bs e =
     twin_none seen n a fs (twin_fresh seen n a (fs ++ bs) e) (front (seen ++ (a ∷ [])) (suc n) fs bs (twin_rest seen n a (fs ++ bs) e))
@@ -147,7 +147,7 @@ front seen n (a ∷ fs) bs e =
 pub no_twins_front : (fs bs : List (List ℕ)) → NoTwins (fs ++ bs) → NoTwins fs
 no_twins_front fs bs e = front [] 0 fs bs e
 
-next : (seen : List (List ℕ)) (n : ℕ) (fs : List (List ℕ)) (g : List ℕ) (bs : List (List ℕ)) → first_twin seen n (fs ++ (g ∷ bs)) ≡ none
+next : (seen : List (List ℕ)) (n : ℕ) (fs : List (List ℕ)) (g : List ℕ) (bs : List (List ℕ)) → first_twin seen n (fs ++ (g ∷ bs)) ≡ None
     → listed g (seen ++ fs) ≡ false
 next seen n [] g bs e = ap (listed g) (append-nil seen) ∙ twin_fresh seen n g bs e
 next seen n (a ∷ fs) g bs e =
@@ -196,16 +196,16 @@ record At (seen : List (List ℕ)) (k : ℕ) (gs : List (List ℕ)) (n : ℕ) : 
   is : n ≡ k + number
   inside : number < length gs
   twin : listed (get_or gs number []) (seen ++ take number gs) ≡ true
-  before : first_twin seen k (take number gs) ≡ none
+  before : first_twin seen k (take number gs) ≡ None
 
-twin_at_lem : (seen : List (List ℕ)) (k : ℕ) (gs : List (List ℕ)) (n : ℕ) → first_twin seen k gs ≡ some n → At seen k gs n
+twin_at_lem : (seen : List (List ℕ)) (k : ℕ) (gs : List (List ℕ)) (n : ℕ) → first_twin seen k gs ≡ Some n → At seen k gs n
 unfolding first_twin
 twin_at_lem seen k [] n e = some_not_none (sym e)
 twin_at_lem seen k (g ∷ gs) n e = go (λ h. twin_at_lem (seen ++ (g ∷ [])) (suc k) gs n h) (listed g seen) refl e
   where
     go :
-        (first_twin (seen ++ (g ∷ [])) (suc k) gs ≡ some n → At (seen ++ (g ∷ [])) (suc k) gs n) → (b : Bool) → listed g seen ≡ b
-        → cond b (some k) (first_twin (seen ++ (g ∷ [])) (suc k) gs) ≡ some n → At seen k (g ∷ gs) n
+        (first_twin (seen ++ (g ∷ [])) (suc k) gs ≡ Some n → At (seen ++ (g ∷ [])) (suc k) gs n) → (b : Bool) → listed g seen ≡ b
+        → cond b (Some k) (first_twin (seen ++ (g ∷ [])) (suc k) gs) ≡ Some n → At seen k (g ∷ gs) n
     go rec true t e =
         let z : k ≡ n = cc in
         record {
@@ -239,11 +239,11 @@ first_twin_lem gs n e =
 pub apart_none : (gs : List (List ℕ)) → Apart gs → NoTwins gs
 apart_none gs h = go (first_twin [] 0 gs) refl
   where
-    go : (o : Option ℕ) → first_twin [] 0 gs ≡ o → first_twin [] 0 gs ≡ none
-    go none e = e
-    go (some n) e = let a = first_twin_lem gs n e in absurd (h a.earlier n a.before a.inside a.alike)
+    go : (o : Option ℕ) → first_twin [] 0 gs ≡ o → first_twin [] 0 gs ≡ None
+    go None e = e
+    go (Some n) e = let a = first_twin_lem gs n e in absurd (h a.earlier n a.before a.inside a.alike)
 
-apart_from : (seen : List (List ℕ)) (n : ℕ) (gs : List (List ℕ)) → first_twin seen n gs ≡ none → (i : ℕ) → i < length gs
+apart_from : (seen : List (List ℕ)) (n : ℕ) (gs : List (List ℕ)) → first_twin seen n gs ≡ None → (i : ℕ) → i < length gs
     → listed (get_or gs i []) seen ≡ false
 unfolding listed
 apart_from seen n [] e i h = absurd (omega arith)
@@ -256,7 +256,7 @@ pub none_apart : (gs : List (List ℕ)) → NoTwins gs → Apart gs
 none_apart gs e i j h l q = go [] 0 gs e i j h l q
   where
     go :
-        (seen : List (List ℕ)) (n : ℕ) (gs : List (List ℕ)) → first_twin seen n gs ≡ none → (i j : ℕ) → i < j → j < length gs
+        (seen : List (List ℕ)) (n : ℕ) (gs : List (List ℕ)) → first_twin seen n gs ≡ None → (i j : ℕ) → i < j → j < length gs
         → get_or gs i [] ≡ get_or gs j [] → ⊥
     go seen n [] e i j h l q = absurd (omega arith)
     go seen n (g ∷ gs) e i zero h l q = absurd (omega arith)

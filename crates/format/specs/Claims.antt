@@ -15,7 +15,7 @@
 --     EmptyTells          the bytes given are none exactly where the call is refused
 --     ReferencesHeld      a type field is a basic type, or names a group that the image has
 use Rattle.std.specs.Prelude.{ℕ, zero, suc, ◌+◌, ◌*◌, ◌≤◌, ◌<◌, ◌≡◌, ◌⊎◌, cond, length, get_or, take, drop, eqb}
-use Rattle.std.proofs.Math.Option.{none, some}
+use Rattle.std.specs.Prelude.{None, Some}
 use mathlib.Core.List.{List, [], ◌∷◌, Memᴰ}
 use Rattle.format.specs.declared.Section.{Section}
 use Rattle.format.specs.declared.Section.TheVariants.{Groups, Rules, Constraints}
@@ -110,7 +110,7 @@ TwinsByMembers =
     → (SameMembers a b → a ≡ b) × (a ≡ b → SameMembers a b)
 
 pub record GivenAt (l : List ℕ) (s : Section) (n : ℕ) : Type 0 where
-  pub given : give_fault l s n ≡ none
+  pub given : give_fault l s n ≡ None
   pub nth : given_record l s n ≡ get_or (records_of (policy_of l) s) n []
   pub nonempty : 0 < length (given_record l s n)
   pub inside : place_of l s n + length (given_record l s n) ≤ length l
@@ -132,11 +132,11 @@ AllGiven =
 abbrev pub NoneGiven : Type 0
 NoneGiven =
     (l : List ℕ) → Accepted l → (s : Section) (n : ℕ) → length (records_of (policy_of l) s) ≤ n
-    → give_fault l s n ≡ some (refusal 14 0)
+    → give_fault l s n ≡ Some (refusal 14 0)
 
 pub record EmptyTells : Type 0 where
-  pub given : (l : List ℕ) (s : Section) (n : ℕ) → give_fault l s n ≡ none → 0 < length (given_record l s n)
-  pub refused : (l : List ℕ) (s : Section) (n : ℕ) (f : Refusal) → give_fault l s n ≡ some f → given_record l s n ≡ []
+  pub given : (l : List ℕ) (s : Section) (n : ℕ) → give_fault l s n ≡ None → 0 < length (given_record l s n)
+  pub refused : (l : List ℕ) (s : Section) (n : ℕ) (f : Refusal) → give_fault l s n ≡ Some f → given_record l s n ≡ []
 
 abbrev pub ReferencesHeld : Type 0
 ReferencesHeld =

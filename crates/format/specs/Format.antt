@@ -15,7 +15,7 @@
 --     bad_field g r        for such a record: the place in it of the first field that breaks its rule, where there are g
 --                         groups; by its kind `bad_group`, `bad_allow`, `bad_transition` or `bad_constraint`
 use Rattle.std.specs.Prelude.{ℕ, suc, ◌+◌, ◌-◌, ◌%◌, Bool, false, ◌&&◌, ◌||◌, cond, List, [], ◌∷◌, length, get_or, take, drop, leb, ltb, eqb}
-use Rattle.std.proofs.Math.Option.{Option, none}
+use Rattle.std.specs.Prelude.{Option, None}
 use Rattle.format.specs.declared.Section.{Section}
 use Rattle.format.specs.declared.Section.TheVariants.{Groups, Rules, Constraints}
 use Rattle.format.specs.Bytes.{word_at, words}
@@ -75,12 +75,12 @@ shape_ok r = eqb (length r) (get_or r 0 0) && length_ok (get_or r 1 0) (length r
 
 -- members from a place on rise strictly: each is a basic type, and at least `low`, which it then raises above itself
 unfoldable pub bad_member : ℕ → ℕ → List ℕ → Option ℕ
-bad_member at low [] = none
+bad_member at low [] = None
 bad_member at low (m ∷ ms) = need (leb low m && ltb m 1024) at or_else bad_member (at + 2) (suc m) ms
 
 -- types from a place on
 unfoldable pub bad_type : ℕ → ℕ → List ℕ → Option ℕ
-bad_type g at [] = none
+bad_type g at [] = None
 bad_type g at (t ∷ ts) = need (is_type g t) at or_else bad_type g (at + 2) ts
 
 unfoldable pub bad_group : List ℕ → Option ℕ

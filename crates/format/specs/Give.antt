@@ -5,7 +5,7 @@
 --     Leads b r            r is the part of the buffer b that is to be checked
 --     Given image r s n    what a call answers that gives record n of section s of the image in a slice
 use Rattle.std.specs.Prelude.{ℕ, ◌+◌, ◌≤◌, ◌≡◌, List, [], length, get_or, take, drop, ltb}
-use Rattle.std.proofs.Math.Option.{Option, none}
+use Rattle.std.specs.Prelude.{Option, None}
 use Rattle.std.specs.Borrow.{Bor}
 use Rattle.format.specs.declared.Section.{Section}
 use Rattle.format.specs.declared.Refusal.{Refusal}
@@ -36,4 +36,4 @@ pub record Given (image r : Bor (List ℕ)) (s : Section) (n : ℕ) : Type 0 whe
   pub bytes : r.now ≡ given_record image.now s n
   pub place : ℕ
   pub part : PartOf image r place
-  pub stands : give_fault image.now s n ≡ none → place ≡ place_of image.now s n
+  pub stands : give_fault image.now s n ≡ None → place ≡ place_of image.now s n

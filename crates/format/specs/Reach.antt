@@ -10,7 +10,7 @@
 --     StopsReached         each refusal of the records is so
 --     BoundReached         the longest image reaches each of these places, and 55,561 past its last record
 use Rattle.std.specs.Prelude.{ℕ, ◌+◌, ◌*◌, ◌≤◌, ◌<◌, ◌≡◌, Bool, ◌⊎◌, List, get_or, eqb}
-use Rattle.std.proofs.Math.Option.{Option, none, some}
+use Rattle.std.specs.Prelude.{Option, None, Some}
 use Rattle.format.specs.declared.Section.{Section}
 use Rattle.format.specs.declared.Section.TheVariants.{Groups, Rules, Constraints}
 use Rattle.format.specs.declared.Refusal.{Refusal}
@@ -22,16 +22,16 @@ use Rattle.format.specs.Check.{section_fault, header_fault, body_fault}
 use Rattle.format.specs.Longest.{longest, longest_length}
 
 unfoldable pub fault_before : List ℕ → Section → Option Refusal
-fault_before l Groups = none
+fault_before l Groups = None
 fault_before l Rules = section_fault l Groups (start_of l Groups) (count_of l Groups)
 fault_before l Constraints =
     section_fault l Groups (start_of l Groups) (count_of l Groups)
     or_else section_fault l Rules (start_of l Rules) (count_of l Rules)
 
 pub record Reaches (l : List ℕ) (s : Section) (k : ℕ) : Type 0 where
-  pub before : fault_before l s ≡ none
+  pub before : fault_before l s ≡ None
   pub counted : k ≤ count_of l s
-  pub passed : section_fault l s (start_of l s) k ≡ none
+  pub passed : section_fault l s (start_of l s) k ≡ None
 
 unfoldable pub most_place : Section → ℕ → ℕ
 most_place Groups k = header_length + 130 * k
@@ -47,7 +47,7 @@ pub record Bounded (l : List ℕ) (s : Section) (k : ℕ) : Type 0 where
 -- however the header's length field is compared: the bound comes from the counts and from the records' lengths
 abbrev pub PlacesBounded : Type 0
 PlacesBounded =
-    (fits : ℕ → ℕ → Bool) (l : List ℕ) → header_fault fits l ≡ none → (s : Section) (k : ℕ) → Reaches l s k → Bounded l s k
+    (fits : ℕ → ℕ → Bool) (l : List ℕ) → header_fault fits l ≡ None → (s : Section) (k : ℕ) → Reaches l s k → Bounded l s k
 
 -- 5 at a record that is counted; 6 at a field of one, within its length; 7 past the last of all
 abbrev pub StopsAt : List ℕ → Section → ℕ → Refusal → Type 0
@@ -64,10 +64,10 @@ pub record Stops (l : List ℕ) (f : Refusal) : Type 0 where
   pub whole : f.place ≤ longest_length
 
 abbrev pub StopsReached : Type 0
-StopsReached = (fits : ℕ → ℕ → Bool) (l : List ℕ) → header_fault fits l ≡ none → (f : Refusal) → body_fault l ≡ some f → Stops l f
+StopsReached = (fits : ℕ → ℕ → Bool) (l : List ℕ) → header_fault fits l ≡ None → (f : Refusal) → body_fault l ≡ Some f → Stops l f
 
 pub record BoundReached : Type 0 where
-  pub header : header_fault eqb (image_of longest) ≡ none
+  pub header : header_fault eqb (image_of longest) ≡ None
   pub reaches : (s : Section) (k : ℕ) → k ≤ limit_of s → Reaches (image_of longest) s k
   pub each : (s : Section) (k : ℕ) → k ≤ limit_of s → place_of (image_of longest) s k ≡ most_place s k
   pub last : end_of (image_of longest) ≡ longest_length

@@ -11,7 +11,7 @@
 --     FirstTwin            the first twin has an earlier group's record, and before it there are no twins
 --     members_of r          a group's members, and SameMembers a b that two records have the same
 use Rattle.std.specs.Prelude.{ℕ, suc, ◌<◌, ◌≡◌, Bool, true, false, ◌&&◌, ◌||◌, cond, length, get_or, take, drop, eqb}
-use Rattle.std.proofs.Math.Option.{Option, none, some}
+use Rattle.std.specs.Prelude.{Option, None, Some}
 use mathlib.Core.List.{List, [], ◌∷◌, ◌++◌, Memᴰ}
 use Rattle.format.specs.declared.Section.TheVariants.{Groups}
 use Rattle.format.specs.declared.Refusal.{Refusal}
@@ -30,16 +30,16 @@ listed g [] = false
 listed g (x ∷ xs) = same_bytes g x || listed g xs
 
 unfoldable pub first_twin : List (List ℕ) → ℕ → List (List ℕ) → Option ℕ
-first_twin seen n [] = none
-first_twin seen n (g ∷ gs) = cond (listed g seen) (some n) (first_twin (seen ++ (g ∷ [])) (suc n) gs)
+first_twin seen n [] = None
+first_twin seen n (g ∷ gs) = cond (listed g seen) (Some n) (first_twin (seen ++ (g ∷ [])) (suc n) gs)
 
 abbrev pub NoTwins : List (List ℕ) → Type 0
-NoTwins gs = first_twin [] 0 gs ≡ none
+NoTwins gs = first_twin [] 0 gs ≡ None
 
 -- a group's record, by its number, is refused
 unfoldable pub twin_at : List ℕ → Option ℕ → Option Refusal
-twin_at l none = none
-twin_at l (some n) = some (refusal 19 (place_of l Groups n))
+twin_at l None = None
+twin_at l (Some n) = Some (refusal 19 (place_of l Groups n))
 
 unfoldable pub twin_fault : List ℕ → Option Refusal
 twin_fault l = twin_at l (first_twin [] 0 (policy_of l).groups)
@@ -62,7 +62,7 @@ pub record TwinIs (gs : List (List ℕ)) (n : ℕ) : Type 0 where
   pub first : NoTwins (take n gs)
 
 abbrev pub FirstTwin : Type 0
-FirstTwin = (gs : List (List ℕ)) (n : ℕ) → first_twin [] 0 gs ≡ some n → TwinIs gs n
+FirstTwin = (gs : List (List ℕ)) (n : ℕ) → first_twin [] 0 gs ≡ Some n → TwinIs gs n
 
 -- the members of a group's record
 abbrev pub members_of : List ℕ → List ℕ

@@ -19,25 +19,11 @@ pub struct Refusal {
     pub place: usize,
 }
 
-// What the check of an image answers.
-#[derive(Clone, Copy)]
-pub enum Checked {
-    Accepted,
-    Refused(Refusal),
-}
-
 // Where the rules and the constraints start. The groups start at 9, and the constraints end with the image.
 #[derive(Clone, Copy)]
 pub struct Starts {
     pub rules: usize,
     pub constraints: usize,
-}
-
-// The check's answer, with the places that it came to.
-#[derive(Clone, Copy)]
-pub enum Sections {
-    At(Starts),
-    Refused(Refusal),
 }
 
 // The bytes of a record within an image.
@@ -47,18 +33,10 @@ pub struct Extent {
     pub length: usize,
 }
 
-// Where record n of a section stands, or why there is none.
+// Why the record reader finds no whole record at the front of a part of an image: there is no record of the section, or one
+// with a field that breaks its rule, at a place counted from the record's start.
 #[derive(Clone, Copy)]
-pub enum Found {
-    At(Extent),
-    Refused(Refusal),
-}
-
-// What the record reader finds at the front of a part of an image: a whole record of a length, no record of the
-// section, or a record with a field that breaks its rule, at a place counted from the record's start.
-#[derive(Clone, Copy)]
-pub enum Read {
-    Whole(usize),
+pub enum Misread {
     Malformed,
     BadField(usize),
 }

@@ -10,7 +10,7 @@
 use Prim.Native.Nat.{ℕ, zero, suc, ◌+◌, ◌-◌, ◌≤◌, ◌<◌}
 use mathlib.Core.Path.{◌≡◌, refl, sym, subst, ap, ◌∙◌}
 use mathlib.Core.Bool.{Bool, true, false, ◌&&◌, cond}
-use mathlib.Core.Option.{Option, none, some}
+use Rattle.std.specs.Prelude.{Option, None, Some}
 use mathlib.Core.List.{List, [], ◌∷◌}
 use native.Mathlib.Omega.{arith}
 use native.Mathlib.Nat.{add-sub_cancel_left}
@@ -352,15 +352,15 @@ module _ (gs : List (List ℕ)) where
 
   pub own_some :
       (r : ℕ) → r < length gs → ((i : ℕ) → i < r → number_of (get_or gs i []) gs ≡ i) → (number_of (get_or gs r []) gs ≡ r → ⊥)
-      → first_twin [] 0 gs ≡ some r
+      → first_twin [] 0 gs ≡ Some r
   own_some r h own off = go (first_twin [] 0 gs) refl
     where
       earlier : number_of (get_or gs r []) gs < r
       earlier = let q = number_self gs r h in omega (arith, q.0, off)
 
-      go : (o : Option ℕ) → first_twin [] 0 gs ≡ o → first_twin [] 0 gs ≡ some r
-      go none e = absurd (none_apart gs e _ r earlier h (number_self gs r h).1)
-      go (some m) e =
+      go : (o : Option ℕ) → first_twin [] 0 gs ≡ o → first_twin [] 0 gs ≡ Some r
+      go None e = absurd (none_apart gs e _ r earlier h (number_self gs r h).1)
+      go (Some m) e =
           let a = first_twin_lem gs m e in
           let i = a.inside in
           let b = a.before in
@@ -374,7 +374,7 @@ module _ (gs : List (List ℕ)) where
           let k = number_of (get_or gs r []) gs in
           absurd (none_apart (take m gs) a.first k r earlier (omega arith)
           (get_or-take m gs k [] (omega (arith, earlier)) ∙ (number_self gs r h).1 ∙ sym (get_or-take m gs r [] p))))
-          (λ x. let z : m ≡ r = omega (arith, x, y) in e ∙ ap some z))
+          (λ x. let z : m ≡ r = omega (arith, x, y) in e ∙ ap Some z))
 
 pub off_next :
     (same : List ℕ) (k : ℕ) → ((i : ℕ) → i < k → get_or same i 0 ≡ i) → get_or same k 0 ≡ k → (i : ℕ) → i < k + 1 → get_or same i 0 ≡ i
@@ -385,13 +385,13 @@ module _ (l before same : List ℕ) (n : ℕ) (c : n ≡ count_of l Groups) (s :
   groups_are : length (policy_of l).groups ≡ n
   groups_are = group_count l ∙ sym c
 
-  pub twins_end : n ≤ r → twin_fault l ≡ none
+  pub twins_end : n ≤ r → twin_fault l ≡ None
   twins_end h =
       none_twins l
       (own_none (policy_of l).groups
       (λ i p. sym (filled (policy_of l).groups n before same s i (omega (arith, groups_are))) ∙ o.own i (omega (arith, groups_are))))
 
-  pub twins_here : r < n → twin_fault l ≡ some (refusal 19 (place_of l Groups r))
+  pub twins_here : r < n → twin_fault l ≡ Some (refusal 19 (place_of l Groups r))
   twins_here h =
       twin_fault_some l r
       (own_some (policy_of l).groups r (omega (arith, groups_are))
@@ -399,5 +399,5 @@ module _ (l before same : List ℕ) (n : ℕ) (c : n ≡ count_of l Groups) (s :
       (λ e. o.off h (filled (policy_of l).groups n before same s r h ∙ e)))
 
 -- one group, or none, has no twin
-pub twins_few : (l : List ℕ) → count_of l Groups < 2 → twin_fault l ≡ none
+pub twins_few : (l : List ℕ) → count_of l Groups < 2 → twin_fault l ≡ None
 twins_few l h = none_twins l (apart_none (policy_of l).groups (λ i j p q e. absurd (omega (arith, group_count l))))

@@ -2,7 +2,7 @@
 use Prim.Native.Nat.{ℕ, ◌+◌, ◌-◌, ◌≤◌, ◌<◌}
 use mathlib.Core.Path.{◌≡◌, refl, sym, ap, ap₂, ◌∙◌}
 use mathlib.Core.List.{List}
-use mathlib.Core.Option.{Option, none, some}
+use Rattle.std.specs.Prelude.{None, Some}
 use native.Mathlib.Omega.{arith}
 use native.Mathlib.Nat.{add-sub_cancel_left}
 use lib.ListN.{length, get_or, take, drop, length-drop}
@@ -18,41 +18,38 @@ use Rattle.format.specs.Format.{count_of}
 use Rattle.format.specs.Policy.{record_at, place_after, start_of, place_of, end_of}
 use Rattle.format.specs.Check.{section_fault, header_fault, body_fault, layout_fault, check, Accepted}
 use Rattle.format.specs.Give.{give_fault, given_record}
-use Rattle.format.specs.Answers.{gives, outcome, starts, extent}
+use Rattle.std.specs.Prelude.{Ok, Err}
+use Rattle.format.specs.Answers.{Outcome, outcome, starts, extent}
 use Rattle.format.specs.Reach.{fault_before, Reaches}
-use Rattle.format.proofs.Chain.{or_else_next, or_else_first, need_some}
+use Rattle.format.proofs.Chain.{or_else_next, or_else_first, need_some, outcome_gives, outcome_refused}
 use Rattle.format.proofs.Reach.{before_groups, before_rules, before_constraints, places_bounded, accepted_bounded}
 use Rattle.format.proofs.Accepted.{section_inside, place_first, record_stands, record_is, give_none, given_at}
-use Rattle.image.specs.declared.checker.Walked.{Walked}
-use Rattle.image.specs.declared.checker.Walked.TheVariants.{To, Stop}
-use Rattle.image.specs.Inner.Walk.{walked_to, walk_of, Fits, ends_of, start_in, Hops}
-
-walked_to_lem : (f : Option Refusal) (at e : ℕ) → walked_to f at ≡ To e → (f ≡ none) × (at ≡ e)
-walked_to_lem none at e q = (refl, cc)
-walked_to_lem (some f) at e q = let z : ◌≡◌ {A = ℕ} 0 1 = cc in absurd (omega arith)
-
-walked_stop : (f : Option Refusal) (at : ℕ) (x : Refusal) → walked_to f at ≡ Stop x → f ≡ some x
-walked_stop none at x q = let z : ◌≡◌ {A = ℕ} 0 1 = cc in absurd (omega arith)
-walked_stop (some f) at x q = cc
+use Rattle.image.specs.Inner.Walk.{walk_of, Fits, ends_of, start_in, Hops}
 
 module _ (l : List ℕ) (s : Section) (at n : ℕ) where
-  walk_passes : (e : ℕ) → walk_of l s at n ≡ To e → (section_fault l s at n ≡ none) × (place_after l at n ≡ e)
+  walk_passes : (e : ℕ) → walk_of l s at n ≡ Ok e → (section_fault l s at n ≡ None) × (place_after l at n ≡ e)
   unfolding walk_of
-  walk_passes e q = walked_to_lem (section_fault l s at n) (place_after l at n) e q
+  walk_passes e q =
+      let p = outcome_gives (section_fault l s at n) (place_after l at n) (sym q) in
+      (p.0, sym p.1)
 
-  walk_stops : (f : Refusal) → walk_of l s at n ≡ Stop f → section_fault l s at n ≡ some f
+  walk_stops : (f : Refusal) → walk_of l s at n ≡ Err f → section_fault l s at n ≡ Some f
   unfolding walk_of
-  walk_stops f q = walked_stop (section_fault l s at n) (place_after l at n) f q
+  walk_stops f q = outcome_refused (section_fault l s at n) (place_after l at n) (sym q)
+
+  -- a walk over a whole section answers as the definition says
+  pub walked : {r w : Outcome ℕ} → n ≡ count_of l s → r ≡ walk_of l s at n → r ≡ w → walk_of l s at (count_of l s) ≡ w
+  walked c e q = ap (walk_of l s at) (sym c) ∙ sym e ∙ q
 
   -- a walk ends within the image
-  pub walk_inside : (e : ℕ) → at ≤ length l → walk_of l s at n ≡ To e → e ≤ length l
+  pub walk_inside : (e : ℕ) → at ≤ length l → walk_of l s at n ≡ Ok e → e ≤ length l
   walk_inside e h q =
       let p = walk_passes e q in
       let i = section_inside l s at n h p.0 in
       omega (arith, p.1)
 
   -- no place that a walk over a section reaches is above 55,561, where the header passes
-  section_fits : header_fault eqb l ≡ none → fault_before l s ≡ none → at ≡ start_of l s → n ≡ count_of l s → Fits l s at n
+  section_fits : header_fault eqb l ≡ None → fault_before l s ≡ None → at ≡ start_of l s → n ≡ count_of l s → Fits l s at n
   unfolding place_of
   section_fits h f a c =
       record {
@@ -62,54 +59,54 @@ module _ (l : List ℕ) (s : Section) (at n : ℕ) where
       }
 
 module _ (l : List ℕ) where
-  abbrev groups_walk : Walked
+  abbrev groups_walk : Outcome ℕ
   groups_walk = walk_of l Groups 9 (count_of l Groups)
 
-  abbrev rules_walk : ℕ → Walked
+  abbrev rules_walk : ℕ → Outcome ℕ
   rules_walk at = walk_of l Rules at (count_of l Rules)
 
-  abbrev constraints_walk : ℕ → Walked
+  abbrev constraints_walk : ℕ → Outcome ℕ
   constraints_walk at = walk_of l Constraints at (count_of l Constraints)
 
-  pub groups_fit : header_fault eqb l ≡ none → (n : ℕ) → n ≡ count_of l Groups → Fits l Groups 9 n
+  pub groups_fit : header_fault eqb l ≡ None → (n : ℕ) → n ≡ count_of l Groups → Fits l Groups 9 n
   unfolding start_of
   groups_fit h n c = section_fits l Groups 9 n h (before_groups l) refl c
 
   -- where a section stops, so does the body
-  pub groups_stop : (f : Refusal) → groups_walk ≡ Stop f → body_fault l ≡ some f
+  pub groups_stop : (f : Refusal) → groups_walk ≡ Err f → body_fault l ≡ Some f
   unfolding body_fault start_of
   groups_stop f e = or_else_first _ (walk_stops l Groups 9 (count_of l Groups) f e)
 
-  module _ (a : ℕ) (e₁ : groups_walk ≡ To a) where
+  module _ (a : ℕ) (e₁ : groups_walk ≡ Ok a) where
     pub rules_at : start_of l Rules ≡ a
     unfolding start_of
     rules_at = (walk_passes l Groups 9 (count_of l Groups) a e₁).1
 
-    groups_none : section_fault l Groups 9 (count_of l Groups) ≡ none
+    groups_none : section_fault l Groups 9 (count_of l Groups) ≡ None
     groups_none = (walk_passes l Groups 9 (count_of l Groups) a e₁).0
 
-    pub rules_fit : header_fault eqb l ≡ none → (n : ℕ) → n ≡ count_of l Rules → Fits l Rules a n
+    pub rules_fit : header_fault eqb l ≡ None → (n : ℕ) → n ≡ count_of l Rules → Fits l Rules a n
     unfolding start_of
     rules_fit h n c = section_fits l Rules a n h (before_rules l groups_none) (sym rules_at) c
 
-    pub rules_stop : (f : Refusal) → rules_walk a ≡ Stop f → body_fault l ≡ some f
+    pub rules_stop : (f : Refusal) → rules_walk a ≡ Err f → body_fault l ≡ Some f
     unfolding body_fault start_of
     rules_stop f e = or_else_next _ groups_none ∙ or_else_first _ (walk_stops l Rules (start_of l Rules) (count_of l Rules) f (rw rules_at e))
 
-    module _ (b : ℕ) (e₂ : rules_walk a ≡ To b) where
-      rules_pass : (section_fault l Rules (start_of l Rules) (count_of l Rules) ≡ none) × (place_after l (start_of l Rules) (count_of l Rules) ≡ b)
+    module _ (b : ℕ) (e₂ : rules_walk a ≡ Ok b) where
+      rules_pass : (section_fault l Rules (start_of l Rules) (count_of l Rules) ≡ None) × (place_after l (start_of l Rules) (count_of l Rules) ≡ b)
       rules_pass = walk_passes l Rules (start_of l Rules) (count_of l Rules) b (rw rules_at e₂)
 
       pub constraints_at : start_of l Constraints ≡ b
       unfolding start_of
       constraints_at = rules_pass.1
 
-      pub constraints_fit : header_fault eqb l ≡ none → (n : ℕ) → n ≡ count_of l Constraints → Fits l Constraints b n
+      pub constraints_fit : header_fault eqb l ≡ None → (n : ℕ) → n ≡ count_of l Constraints → Fits l Constraints b n
       unfolding start_of
       constraints_fit h n c =
           section_fits l Constraints b n h (before_constraints l groups_none rules_pass.0) (sym constraints_at) c
 
-      pub constraints_stop : (f : Refusal) → constraints_walk b ≡ Stop f → body_fault l ≡ some f
+      pub constraints_stop : (f : Refusal) → constraints_walk b ≡ Err f → body_fault l ≡ Some f
       unfolding body_fault start_of
       constraints_stop f e =
           or_else_next _ groups_none ∙ or_else_next _ rules_pass.0
@@ -118,8 +115,8 @@ module _ (l : List ℕ) where
       starts_are : starts l ≡ record { rules = a; constraints = b }
       starts_are = λ i. record { rules = rules_at i; constraints = constraints_at i }
 
-      module _ (e : ℕ) (q : constraints_walk b ≡ To e) where
-        constraints_pass : (section_fault l Constraints (start_of l Constraints) (count_of l Constraints) ≡ none) × (end_of l ≡ e)
+      module _ (e : ℕ) (q : constraints_walk b ≡ Ok e) where
+        constraints_pass : (section_fault l Constraints (start_of l Constraints) (count_of l Constraints) ≡ None) × (end_of l ≡ e)
         unfolding end_of place_of
         constraints_pass = walk_passes l Constraints (start_of l Constraints) (count_of l Constraints) e (rw constraints_at q)
 
@@ -133,11 +130,11 @@ module _ (l : List ℕ) where
         unfolding ends_of
         body_ends = sym (ap₂ outcome body_end starts_are)
 
-  pub header_stops : (f : Refusal) → header_fault eqb l ≡ some f → layout_fault l ≡ some f
+  pub header_stops : (f : Refusal) → header_fault eqb l ≡ Some f → layout_fault l ≡ Some f
   unfolding layout_fault
   header_stops f e = or_else_first _ e
 
-  pub header_passes : header_fault eqb l ≡ none → layout_fault l ≡ body_fault l
+  pub header_passes : header_fault eqb l ≡ None → layout_fault l ≡ body_fault l
   unfolding layout_fault
   header_passes e = or_else_next _ e
 
@@ -151,12 +148,12 @@ module _ (l : List ℕ) where
   start_fits e s = rw (place_first l s) at (accepted_bounded l e s 0 (omega arith)).whole
 
   module _ (s : Section) (n : ℕ) where
-    pub give_refused : (f : Refusal) → check l ≡ some f → give_fault l s n ≡ some f
+    pub give_refused : (f : Refusal) → check l ≡ Some f → give_fault l s n ≡ Some f
     unfolding give_fault
     give_refused f e = or_else_first _ e
 
     module _ (e : Accepted l) where
-      pub give_past : count_of l s ≤ n → give_fault l s n ≡ some (refusal 14 0)
+      pub give_past : count_of l s ≤ n → give_fault l s n ≡ Some (refusal 14 0)
       unfolding give_fault
       give_past h = or_else_next _ e ∙ need_some _ (le-ltb n (count_of l s) h)
 
@@ -164,7 +161,7 @@ module _ (l : List ℕ) where
         pub place_byte : place_of l s n < length l
         place_byte = let f = record_stands l e s n h in omega (arith, f.some, f.inside)
 
-        pub extent_is : (p k : ℕ) → p ≡ place_of l s n → k ≡ get_or l p 0 → gives (record { place = p; length = k }) ≡ outcome (give_fault l s n) (extent l s n)
+        pub extent_is : (p k : ℕ) → p ≡ place_of l s n → k ≡ get_or l p 0 → Ok (record { place = p; length = k }) ≡ outcome (give_fault l s n) (extent l s n)
         extent_is p k a b =
             let size : k ≡ length (record_at l (place_of l s n)) = b ∙ ap (λ (i : ℕ). get_or l i 0) a ∙ sym (record_stands l e s n h).size in
             rw (give_none l e s n h, record_is l e s n h, a, size)
@@ -179,7 +176,7 @@ hops l s n e h =
     }
 
 -- the bytes between a record's place and its end
-module _ (l : List ℕ) (s : Section) (n : ℕ) (e : give_fault l s n ≡ none) (x : Extent) (is : x ≡ extent l s n) where
+module _ (l : List ℕ) (s : Section) (n : ℕ) (e : give_fault l s n ≡ None) (x : Extent) (is : x ≡ extent l s n) where
   pub extent_inside : x.place + x.length ≤ length l
   extent_inside = rw is (given_at l s n e).inside
 

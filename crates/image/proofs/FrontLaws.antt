@@ -2,7 +2,7 @@
 use Prim.Native.Nat.{ℕ, ◌≤◌, ◌<◌}
 use mathlib.Core.Path.{◌≡◌, refl, sym, ap, ◌∙◌}
 use mathlib.Core.List.{List}
-use mathlib.Core.Option.{Option, none, some}
+use Rattle.std.specs.Prelude.{Option, None, Some}
 use native.Mathlib.Omega.{arith}
 use native.Mathlib.Nat.{add-zero}
 use denote.Ref.{Bor}
@@ -47,5 +47,5 @@ pub front_outcome : (b : List ℕ) → outcome (check (leading b)) (starts (lead
 front_outcome b = ap (λ f. outcome f (starts (leading b))) (leading_check b) ∙ go (check_front b) refl
   where
     go : (f : Option Refusal) → check_front b ≡ f → outcome f (starts (leading b)) ≡ outcome f (starts (image_in b))
-    go none e = ap (λ l. outcome none (starts l)) (leading_image b e)
-    go (some f) e = refl
+    go None e = ap (λ l. outcome None (starts l)) (leading_image b e)
+    go (Some f) e = refl

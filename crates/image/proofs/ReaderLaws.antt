@@ -3,25 +3,25 @@
 use Prim.Native.Nat.{ℕ, ◌≤◌, ◌<◌, ◌%◌}
 use mathlib.Core.Path.{◌≡◌, refl, sym, ap, ◌∙◌}
 use mathlib.Core.Bool.{Bool, true, false}
-use mathlib.Core.Option.{Option}
+use Rattle.std.specs.Prelude.{Option, Err}
 use mathlib.Core.List.{List}
 use native.Mathlib.Omega.{arith}
 use lib.ListN.{length, get_or, take, length-take}
 use lib.Seq.{get_or-take, length-take-le}
 use borrow.Author.Tests.{eq-eqb}
 use Rattle.format.specs.declared.Section.{Section}
-use Rattle.format.specs.declared.Read.TheVariants.{Malformed}
+use Rattle.format.specs.declared.Misread.TheVariants.{Malformed}
 use Rattle.format.specs.Format.{kind_in, length_ok, first_record, shape_ok, bad_field}
 use Rattle.format.specs.Check.{read_fields, read_of}
 use Rattle.format.proofs.Tests.{and_true, false_not_true}
 use Rattle.format.proofs.Shapes.{length_least, length_cases, shape_length, shape_kind}
 
 -- a record that cannot have its shape is none
-no_shape : (s : Section) (g : ℕ) (p : List ℕ) → (shape_ok (first_record p) ≡ true → read_of s g p ≡ Malformed) → read_of s g p ≡ Malformed
+no_shape : (s : Section) (g : ℕ) (p : List ℕ) → (shape_ok (first_record p) ≡ true → read_of s g p ≡ Err Malformed) → read_of s g p ≡ Err Malformed
 unfolding read_of
 no_shape s g p f = go (shape_ok (first_record p)) refl
   where
-    go : (b : Bool) → shape_ok (first_record p) ≡ b → read_of s g p ≡ Malformed
+    go : (b : Bool) → shape_ok (first_record p) ≡ b → read_of s g p ≡ Err Malformed
     go true e = f e
     go false e = simp e
 
@@ -45,17 +45,17 @@ front p e =
     record { long = long; within = omega arith; size = size; kind = kind; fits = rw (kind, size) at (shape_kind r e) }
 
 module _ (s : Section) (g : ℕ) (p : List ℕ) (n : ℕ) (is : n ≡ get_or p 0 0) where
-  pub read_tiny : length p < 2 → read_of s g p ≡ Malformed
+  pub read_tiny : length p < 2 → read_of s g p ≡ Err Malformed
   read_tiny h = no_shape s g p (λ e. let f = front p e in absurd (omega (arith, f.long, f.within)))
 
-  pub read_past : length p < n → read_of s g p ≡ Malformed
+  pub read_past : length p < n → read_of s g p ≡ Err Malformed
   read_past h = no_shape s g p (λ e. let f = front p e in absurd (omega (arith, f.within, f.size)))
 
-  pub read_kind : kind_in s (get_or p 1 0) ≡ false → read_of s g p ≡ Malformed
+  pub read_kind : kind_in s (get_or p 1 0) ≡ false → read_of s g p ≡ Err Malformed
   unfolding read_of
   read_kind h = no_shape s g p (λ e. simp (e, ap (kind_in s) (front p e).kind ∙ h))
 
-  pub read_length : length_ok (get_or p 1 0) n ≡ false → read_of s g p ≡ Malformed
+  pub read_length : length_ok (get_or p 1 0) n ≡ false → read_of s g p ≡ Err Malformed
   read_length h = no_shape s g p (λ e. false_not_true (sym (rw is at h) ∙ (front p e).fits))
 
   -- the record has its shape, and its fields are left

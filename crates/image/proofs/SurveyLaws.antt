@@ -3,12 +3,12 @@
 --     tabled, slot_placed   the groups' places, slot by slot
 --     survey_placed    where the image is accepted, each group's place is in its slot
 --     checks_refused, checks_laid, checks_groups, checks_placed   what 1 to 7 answer, and the table
---     check_refused, check_twin, check_few   the twins behind them
+--     check_refused, check_twin, check_none, check_few   the twins behind them
 --     alike_refused, alike_filled, alike_slot_lem   the table of alike groups
 use Prim.Native.Nat.{ℕ, zero, suc, ◌+◌, ◌≤◌, ◌<◌}
 use mathlib.Core.Path.{◌≡◌, refl, sym, ap, ◌∙◌}
 use mathlib.Core.Bool.{Bool, true, false, cond}
-use mathlib.Core.Option.{Option, none, some}
+use Rattle.std.specs.Prelude.{Option, None, Some}
 use mathlib.Core.List.{List, []}
 use native.Mathlib.Omega.{arith}
 use native.Mathlib.Nat.{add-zero, zero-add}
@@ -20,13 +20,13 @@ use Rattle.format.specs.declared.Section.{Section}
 use Rattle.format.specs.declared.Section.TheVariants.{Groups}
 use Rattle.format.specs.declared.Refusal.{Refusal}
 use Rattle.format.specs.declared.Starts.{Starts}
-use Rattle.format.specs.declared.Sections.{Sections}
 use Rattle.format.specs.Refusals.{◌or_else◌, unless_refused}
 use Rattle.format.specs.Format.{count_of}
 use Rattle.format.specs.Policy.{place_after, start_of, place_of, policy_of}
 use Rattle.format.specs.Twins.{twin_fault, number_of}
 use Rattle.format.specs.Check.{section_fault, header_fault, layout_fault, LaidOut, check, Accepted}
-use Rattle.format.specs.Answers.{refused, gives, outcome, sections_outcome, starts}
+use Rattle.std.specs.Prelude.{Ok, Err}
+use Rattle.format.specs.Answers.{outcome, starts, Outcome}
 use Rattle.format.proofs.Chain.{or_else_none, or_else_nothing, or_else_next, or_else_first, unless_accepted, unless_refused_lem, outcome_gives, outcome_refused}
 use Rattle.format.proofs.Records.{section_prefix}
 use Rattle.format.proofs.Accepted.{header_holds, laid_header, holds_header, laid_body, body_sections, accepted_laid, check_split}
@@ -44,19 +44,19 @@ ltb_next i n = go (ltb i n) refl
 
 unless_same : {A : Type 0} (f : Option Refusal) (a : A) → unless_refused f a a ≡ a
 unfolding unless_refused
-unless_same none a = refl
-unless_same (some x) a = refl
+unless_same None a = refl
+unless_same (Some x) a = refl
 
 -- a slot of the one or the other of two tables
 slot_either : (f g : Option Refusal) (a b : List ℕ) (j x was : ℕ) → get_or a j 0 ≡ unless_refused g x was → get_or b j 0 ≡ was → get_or (unless_refused f a b) j 0 ≡ unless_refused (f or_else g) x was
 unfolding unless_refused ◌or_else◌
-slot_either none g a b j x was h k = h
-slot_either (some y) g a b j x was h k = k
+slot_either None g a b j x was h k = h
+slot_either (Some y) g a b j x was h k = k
 
 slot_same : (f : Option Refusal) (a b : List ℕ) (j x : ℕ) → get_or a j 0 ≡ x → get_or b j 0 ≡ x → get_or (unless_refused f a b) j 0 ≡ x
 unfolding unless_refused
-slot_same none a b j x h k = h
-slot_same (some y) a b j x h k = k
+slot_same None a b j x h k = h
+slot_same (Some y) a b j x h k = k
 
 module _ (l : List ℕ) (s : Section) where
   -- slots below the first stay
@@ -95,8 +95,8 @@ tabled l before after n t g = ap (λ (ps : List ℕ). get_or ps g 0) t ∙ go g 
         (g : ℕ) (f : Option Refusal) → header_fault eqb l ≡ f
         → get_or (unless_refused f (noted l before) before) g 0
         ≡ unless_refused (f or_else section_fault l Groups 9 g) (cond (ltb g (count_of l Groups)) (place_after l 9 g) (get_or before g 0)) (get_or before g 0)
-    go g none e = let h = (header_holds eqb l e).few Groups in rw zero-add at (noted_slot l Groups (count_of l Groups) 9 0 before g (omega (arith, limit_groups)))
-    go g (some x) e = refl
+    go g None e = let h = (header_holds eqb l e).few Groups in rw zero-add at (noted_slot l Groups (count_of l Groups) 9 0 before g (omega (arith, limit_groups)))
+    go g (Some x) e = refl
 
 -- each group's place is in its slot, where the image passes 1 to 7
 slot_placed : (l : List ℕ) → LaidOut l → (g was : ℕ) → g < count_of l Groups → group_slot l g was ≡ place_of l Groups g
@@ -106,16 +106,16 @@ slot_placed l e g was h =
     let none_before = section_prefix l Groups (start_of l Groups) (count_of l Groups) g (omega arith) (body_sections l (laid_body l e) Groups) in
     unless_accepted _ _ (or_else_none none-header none_before) ∙ simp (lt-ltb g (count_of l Groups) h)
 
-module _ (l before after : List ℕ) (r : Sections) where
+module _ (l before after : List ℕ) (r : Outcome Starts) where
   pub survey_placed : Surveys l before r after → Accepted l → (g : ℕ) → g < count_of l Groups → get_or after g 0 ≡ place_of l Groups g
   survey_placed q e g h = q.groups g ∙ slot_placed l (accepted_laid l e) g _ h
 
-module _ (l before after : List ℕ) (r : Sections) (c : Checks l before r after) where
+module _ (l before after : List ℕ) (r : Outcome Starts) (c : Checks l before r after) where
   -- what 1 to 7 answer
-  pub checks_refused : (f : Refusal) → refused f ≡ sections_outcome r → layout_fault l ≡ some f
+  pub checks_refused : (f : Refusal) → Err f ≡ r → layout_fault l ≡ Some f
   checks_refused f e = outcome_refused (layout_fault l) (starts l) (e ∙ c.sections)
 
-  pub checks_laid : (s : Starts) → gives s ≡ sections_outcome r → LaidOut l × (s ≡ starts l)
+  pub checks_laid : (s : Starts) → Ok s ≡ r → LaidOut l × (s ≡ starts l)
   checks_laid s e = outcome_gives (layout_fault l) (starts l) (e ∙ c.sections)
 
   -- and the table
@@ -128,18 +128,21 @@ module _ (l before after : List ℕ) (r : Sections) (c : Checks l before r after
         record { laid = e; count = refl; place = λ g h. checks_groups g ∙ slot_placed l e g (get_or before g 0) h }
 
 -- the twins behind 1 to 7
-pub check_refused : (l : List ℕ) (f : Refusal) → layout_fault l ≡ some f → refused f ≡ outcome (check l) (starts l)
+pub check_refused : (l : List ℕ) (f : Refusal) → layout_fault l ≡ Some f → Err f ≡ outcome (check l) (starts l)
 check_refused l f e = rw (check_split l ∙ or_else_first _ e)
 
-pub check_twin : (l : List ℕ) → LaidOut l → outcome (twin_fault l) (starts l) ≡ outcome (check l) (starts l)
-check_twin l e = rw (check_split l ∙ or_else_next _ e)
+pub check_twin : (l : List ℕ) {f : Refusal} → LaidOut l → twin_fault l ≡ Some f → Err f ≡ outcome (check l) (starts l)
+check_twin l e t = rw (check_split l ∙ or_else_next _ e ∙ t)
+
+pub check_none : (l : List ℕ) → LaidOut l → twin_fault l ≡ None → Ok (starts l) ≡ outcome (check l) (starts l)
+check_none l e t = rw (check_split l ∙ or_else_next _ e ∙ t)
 
 -- and where there is one group or none
-pub check_few : (l : List ℕ) → twin_fault l ≡ none → layout_fault l ≡ check l
+pub check_few : (l : List ℕ) → twin_fault l ≡ None → layout_fault l ≡ check l
 check_few l e = sym (check_split l ∙ ap (λ (o : Option Refusal). layout_fault l or_else o) e ∙ or_else_nothing (layout_fault l))
 
 -- the table of alike groups
-pub alike_refused : (l : List ℕ) (f : Refusal) → layout_fault l ≡ some f → (g was : ℕ) → was ≡ alike_slot l g was
+pub alike_refused : (l : List ℕ) (f : Refusal) → layout_fault l ≡ Some f → (g was : ℕ) → was ≡ alike_slot l g was
 unfolding alike_slot
 alike_refused l f e g was = sym (unless_refused_lem _ _ e)
 

@@ -8,16 +8,18 @@ use lib.ListN.{length, get_or, take, drop, set, length-drop}
 use lib.Seq.{take_all, drop-drop, get_or-drop}
 use Rattle.format.specs.declared.Section.{Section}
 use Rattle.format.specs.declared.Section.TheVariants.{Groups}
-use Rattle.format.specs.declared.Read.TheVariants.{Whole, Malformed, BadField}
-use Rattle.format.specs.Refusals.{refusal, ◌or_else◌, unless_refused}
+use Rattle.format.specs.declared.Refusal.{Refusal}
+use Rattle.format.specs.declared.Misread.{Misread}
+use Rattle.format.specs.declared.Misread.TheVariants.{BadField}
+use Rattle.format.specs.Refusals.{◌or_else◌, unless_refused}
 use Rattle.format.specs.Format.{count_of}
 use Rattle.format.specs.Policy.{record_at, place_after}
 use Rattle.format.specs.Check.{read_of, read_fault, section_fault}
 use Rattle.format.specs.Inner.Places.{Stands}
 use Rattle.format.proofs.Shapes.{stands, read_whole, read_bad_field}
 use Rattle.format.proofs.Fields.{field_inside}
-use Rattle.image.specs.declared.checker.Walked.TheVariants.{To, Stop}
 use Rattle.image.specs.Inner.Walk.{walk_of, noted_from, Fits}
+use Rattle.std.specs.Prelude.{Some, Ok, Err}
 
 -- the part of a list from a place on, as a part of a slice is given
 pub part_from : (l : List ℕ) (at : ℕ) → take (length l - at) (drop at l) ≡ drop at l
@@ -34,42 +36,38 @@ pub part_next : (l part : List ℕ) (at n : ℕ) → part ≡ drop at l → take
 part_next l part at n e = part_from part n ∙ ap (drop n) e ∙ drop-drop n at l
 
 module _ (l : List ℕ) (s : Section) (at : ℕ) where
-  whole_stands : (len : ℕ) → read_of s (count_of l Groups) (drop at l) ≡ Whole len → Stands l at (record_at l at)
+  whole_stands : (len : ℕ) → read_of s (count_of l Groups) (drop at l) ≡ Ok len → Stands l at (record_at l at)
   unfolding record_at
   whole_stands len e = stands l at (read_whole s (count_of l Groups) len (drop at l) e).0.shape
 
-  whole_length : (len : ℕ) → read_of s (count_of l Groups) (drop at l) ≡ Whole len → length (record_at l at) ≡ len
+  whole_length : (len : ℕ) → read_of s (count_of l Groups) (drop at l) ≡ Ok len → length (record_at l at) ≡ len
   unfolding record_at
   whole_length len e = (read_whole s (count_of l Groups) len (drop at l) e).1
 
-  pub whole_size : (len : ℕ) → read_of s (count_of l Groups) (drop at l) ≡ Whole len → len ≡ get_or l at 0
+  pub whole_size : (len : ℕ) → read_of s (count_of l Groups) (drop at l) ≡ Ok len → len ≡ get_or l at 0
   whole_size len e = sym (whole_length len e) ∙ (whole_stands len e).size
 
-  pub whole_inside : (len : ℕ) → read_of s (count_of l Groups) (drop at l) ≡ Whole len → at + len ≤ length l
+  pub whole_inside : (len : ℕ) → read_of s (count_of l Groups) (drop at l) ≡ Ok len → at + len ≤ length l
   whole_inside len e = omega (arith, (whole_stands len e).inside, whole_length len e)
 
-  pub bad_inside : (i : ℕ) → read_of s (count_of l Groups) (drop at l) ≡ BadField i → at + i < length l
+  pub bad_inside : (i : ℕ) → read_of s (count_of l Groups) (drop at l) ≡ Err (BadField i) → at + i < length l
   unfolding record_at
   bad_inside i e =
       let q = read_bad_field s (count_of l Groups) i (drop at l) e in
       omega (arith, (stands l at q.0).inside, field_inside (count_of l Groups) (record_at l at) i q.0 q.1)
 
   module _ (n : ℕ) where
-    pub walk_end : n ≡ 0 → walk_of l s at n ≡ To at
+    pub walk_end : n ≡ 0 → walk_of l s at n ≡ Ok at
     unfolding walk_of section_fault place_after
     walk_end e = rw e
 
-    pub walk_whole : (m len : ℕ) → n ≡ suc m → read_of s (count_of l Groups) (drop at l) ≡ Whole len → walk_of l s at n ≡ walk_of l s (at + len) m
+    pub walk_whole : (m len : ℕ) → n ≡ suc m → read_of s (count_of l Groups) (drop at l) ≡ Ok len → walk_of l s at n ≡ walk_of l s (at + len) m
     unfolding walk_of section_fault place_after read_fault ◌or_else◌
     walk_whole m len e r = rw (e, whole_size len r) (simp r)
 
-    pub walk_malformed : 0 < n → read_of s (count_of l Groups) (drop at l) ≡ Malformed → walk_of l s at n ≡ Stop (refusal 5 at)
-    unfolding walk_of section_fault read_fault ◌or_else◌
-    walk_malformed h r = let e : n ≡ suc (n - 1) = omega arith in rw e (simp r)
-
-    pub walk_field : (i : ℕ) → 0 < n → read_of s (count_of l Groups) (drop at l) ≡ BadField i → walk_of l s at n ≡ Stop (refusal 6 (at + i))
-    unfolding walk_of section_fault read_fault ◌or_else◌
-    walk_field i h r = let e : n ≡ suc (n - 1) = omega arith in rw e (simp r)
+    pub walk_stops : (x : Misread) (f : Refusal) → 0 < n → read_of s (count_of l Groups) (drop at l) ≡ Err x → read_fault at (Err x) ≡ Some f → walk_of l s at n ≡ Err f
+    unfolding walk_of section_fault ◌or_else◌
+    walk_stops x f h r k = let e : n ≡ suc (n - 1) = omega arith in rw e (simp (r, k))
 
     -- the bound, in the same turns
     pub fits_here : Fits l s at n → at ≤ 55561
@@ -77,7 +75,7 @@ module _ (l : List ℕ) (s : Section) (at : ℕ) where
     fits_here f = f.place 0 (omega arith) refl
 
     pub fits_whole :
-        (m len : ℕ) → n ≡ suc m → read_of s (count_of l Groups) (drop at l) ≡ Whole len → Fits l s at n → Fits l s (at + len) m
+        (m len : ℕ) → n ≡ suc m → read_of s (count_of l Groups) (drop at l) ≡ Ok len → Fits l s at n → Fits l s (at + len) m
     unfolding section_fault place_after read_fault ◌or_else◌
     fits_whole m len e r f = rw (whole_size len r) (record { place = λ k h q. f.place (suc k) (omega arith) (simp r q) })
 
@@ -88,14 +86,10 @@ module _ (l : List ℕ) (s : Section) (at : ℕ) where
       note_end e = rw e
 
       pub note_whole :
-          (m len : ℕ) → n ≡ suc m → read_of s (count_of l Groups) (drop at l) ≡ Whole len → noted_from l s at k n ps ≡ noted_from l s (at + len) (k + 1) m (set ps k at)
+          (m len : ℕ) → n ≡ suc m → read_of s (count_of l Groups) (drop at l) ≡ Ok len → noted_from l s at k n ps ≡ noted_from l s (at + len) (k + 1) m (set ps k at)
       unfolding noted_from read_fault unless_refused
       note_whole m len e r = rw (e, whole_size len r, add-one) (simp r)
 
-      pub note_malformed : 0 < n → read_of s (count_of l Groups) (drop at l) ≡ Malformed → noted_from l s at k n ps ≡ set ps k at
-      unfolding noted_from read_fault unless_refused
-      note_malformed h r = let e : n ≡ suc (n - 1) = omega arith in rw e (simp r)
-
-      pub note_field : (i : ℕ) → 0 < n → read_of s (count_of l Groups) (drop at l) ≡ BadField i → noted_from l s at k n ps ≡ set ps k at
-      unfolding noted_from read_fault unless_refused
-      note_field i h r = let e : n ≡ suc (n - 1) = omega arith in rw e (simp r)
+      pub note_stops : (x : Misread) (f : Refusal) → 0 < n → read_of s (count_of l Groups) (drop at l) ≡ Err x → read_fault at (Err x) ≡ Some f → noted_from l s at k n ps ≡ set ps k at
+      unfolding noted_from unless_refused
+      note_stops x f h r q = let e : n ≡ suc (n - 1) = omega arith in rw e (simp (r, q))

@@ -10,13 +10,13 @@
 --     SurveysOld l before same r after same'   the same of `survey_old`, which passes twins, and its two tables
 use Rattle.std.specs.Prelude.{ℕ, ◌≡◌, cond, List, [], get_or, ltb, eqb}
 use Rattle.format.specs.declared.Section.TheVariants.{Groups}
-use Rattle.format.specs.declared.Sections.{Sections}
 use Rattle.format.specs.Refusals.{◌or_else◌, unless_refused}
 use Rattle.format.specs.Format.{count_of}
 use Rattle.format.specs.Policy.{start_of, place_of, policy_of}
 use Rattle.format.specs.Twins.{number_of}
 use Rattle.format.specs.Check.{section_fault, header_fault, layout_fault, check}
-use Rattle.format.specs.Answers.{outcome, sections_outcome, starts}
+use Rattle.format.specs.Answers.{outcome, starts, Outcome}
+use Rattle.format.specs.declared.Starts.{Starts}
 
 unfoldable pub group_slot : List ℕ → ℕ → ℕ → ℕ
 group_slot l g was =
@@ -24,8 +24,8 @@ group_slot l g was =
     (cond (ltb g (count_of l Groups)) (place_of l Groups g) was)
     was
 
-pub record Surveys (l before : List ℕ) (r : Sections) (after : List ℕ) : Type 0 where
-  pub sections : sections_outcome r ≡ outcome (check l) (starts l)
+pub record Surveys (l before : List ℕ) (r : Outcome Starts) (after : List ℕ) : Type 0 where
+  pub sections : r ≡ outcome (check l) (starts l)
   pub groups : (g : ℕ) → get_or after g 0 ≡ group_slot l g (get_or before g 0)
 
 unfoldable pub alike_slot : List ℕ → ℕ → ℕ → ℕ
@@ -34,7 +34,7 @@ alike_slot l g was =
     (cond (ltb g (count_of l Groups)) (number_of (get_or (policy_of l).groups g []) (policy_of l).groups) was)
     was
 
-pub record SurveysOld (l before same : List ℕ) (r : Sections) (after same' : List ℕ) : Type 0 where
-  pub sections : sections_outcome r ≡ outcome (layout_fault l) (starts l)
+pub record SurveysOld (l before same : List ℕ) (r : Outcome Starts) (after same' : List ℕ) : Type 0 where
+  pub sections : r ≡ outcome (layout_fault l) (starts l)
   pub groups : (g : ℕ) → get_or after g 0 ≡ group_slot l g (get_or before g 0)
   pub alike : (g : ℕ) → get_or same' g 0 ≡ alike_slot l g (get_or same g 0)

@@ -1,26 +1,18 @@
 // The check of an image: one pass over its bytes, and then the twins.
-ghost use Rattle.std.specs.Prelude.{◌≡◌, set, eqb};
-ghost use Rattle.format.specs.Check.{header_fault, check};
-ghost use Rattle.format.specs.Answers.{outcome, refusal_of, sections_outcome, starts};
+ghost use Rattle.std.specs.Prelude.{◌≡◌, ℕ, ◌+◌, ◌<◌, ◌^◌, set, eqb};
+ghost use Rattle.format.specs.Check.{read_fault, header_fault, check};
+ghost use Rattle.format.specs.Answers.{outcome, starts};
 ghost use Rattle.image.specs.Survey.{Surveys, SurveysOld};
 ghost use Rattle.image.specs.Inner.Walk.{walk_of, ends_of, Ahead, Walks, ChecksBody, Checks};
 ghost use Rattle.format.specs.Refusals.{refusal};
-ghost use Rattle.std.proofs.Math.Option.{none, some};
 
 use crate::reader::read_record;
 use crate::twins::{check_twins, fill_alike};
 use crate::word::{narrow, wide_word, word_at, word_in};
-use format::{Checked, Read, Refusal, Section, Sections, Starts, header};
+use format::{Misread, Refusal, Section, Starts, header};
 
 // The place of the first record, behind the header.
 const FIRST: u16 = header::SIZE as u16;
-
-// Where a walk over records ends: past the last, or at the first refusal. A walk carries its place in 16 bits.
-#[derive(Clone, Copy)]
-pub(crate) enum Walked {
-    To(u16),
-    Stop(Refusal),
-}
 
 // A place goes into slot k of a table, where it has that slot.
 fn note(places: &mut [u16], k: usize, at: u16)
@@ -31,9 +23,26 @@ fn note(places: &mut [u16], k: usize, at: u16)
     }
 }
 
-// The records of a section, so many of them from a place on, in an image with so many groups. The place of each record
-// that the walk comes to is noted. With the place goes the part of the image that starts there: it is what the record reader
-// is handed.
+// The refusal of the record at a place that cannot be read: 5, or 6 at its field.
+fn misread(error: Misread, at: usize) -> Refusal
+    requires { (i : ℕ) → error ≡ Misread.BadField i → at + i < 2 ^ 64 }
+    ensures { read_fault at (Err error) ≡ Some result }
+{
+    match error {
+        Misread::Malformed => Refusal {
+            number: 5,
+            place: at,
+        },
+        Misread::BadField(i) => Refusal {
+            number: 6,
+            place: at + i,
+        },
+    }
+}
+
+// The records of a section, so many of them from a place on, in an image with so many groups: the place past the last, or the
+// first refusal. The place of each record that the walk comes to is noted. With the place goes the part of the image that starts
+// there: it is what the record reader is handed. A walk carries its place in 16 bits.
 fn walk(
     image: &[u8],
     groups: usize,
@@ -41,7 +50,7 @@ fn walk(
     count: usize,
     from: u16,
     places: &mut [u16],
-) -> Walked
+) -> Result<u16, Refusal>
     requires { Ahead image.now section groups from count }
     ensures { Walks image.now section from count places.old result places.new }
 {
@@ -50,45 +59,39 @@ fn walk(
     for k in 0..count {
         note(places, k, at);
         match read_record(part, section, groups) {
-            Read::Whole(length) => {
+            Ok(length) => {
                 part = &part[length..];
                 at += narrow(length);
             }
-            Read::Malformed => {
-                return Walked::Stop(Refusal {
-                    number: 5,
-                    place: wide_word(at),
-                });
-            }
-            Read::BadField(i) => {
-                return Walked::Stop(Refusal {
-                    number: 6,
-                    place: wide_word(at) + i,
-                });
-            }
+            Err(error) => return Err(misread(error, wide_word(at))),
         }
     }
-    Walked::To(at)
+    Ok(at)
 }
 
 // The same, and no place is noted.
-fn walk_on(image: &[u8], groups: usize, section: Section, count: usize, from: u16) -> Walked
+fn walk_on(
+    image: &[u8],
+    groups: usize,
+    section: Section,
+    count: usize,
+    from: u16,
+) -> Result<u16, Refusal>
     requires { Ahead image.now section groups from count }
     ensures { result ≡ walk_of image.now section from count }
 {
-    let mut none = [0u16; 1];
-    walk(image, groups, section, count, from, &mut none[..0])
+    walk(image, groups, section, count, from, &mut [])
 }
 
-fn refused(number: u8, place: usize) -> Checked
-    ensures { refusal_of result ≡ some (refusal number place) }
+fn refused(number: u8, place: usize) -> Result<(), Refusal>
+    ensures { result ≡ Err (refusal number place) }
 {
-    Checked::Refused(Refusal { number, place })
+    Err(Refusal { number, place })
 }
 
 // Refusals 1 to 4.
-fn check_header(image: &[u8]) -> Checked
-    ensures { refusal_of result ≡ header_fault eqb image.now }
+fn check_header(image: &[u8]) -> Result<(), Refusal>
+    ensures { result ≡ outcome (header_fault eqb image.now) tt }
 {
     if image.len() < header::SIZE {
         return refused(1, 0);
@@ -112,71 +115,52 @@ fn check_header(image: &[u8]) -> Checked
     if header::MOST_CONSTRAINTS < word_in(image, header::CONSTRAINTS_AT) {
         return refused(4, header::CONSTRAINTS_AT);
     }
-    Checked::Accepted
+    Ok(())
 }
 
 // Refusal 7, for records that end at a place.
-fn check_end(image: &[u8], rules: u16, constraints: u16, end: u16) -> Sections
-    ensures { sections_outcome result ≡ ends_of image.now rules constraints end }
+fn check_end(image: &[u8], rules: u16, constraints: u16, end: u16) -> Result<Starts, Refusal>
+    ensures { result ≡ ends_of image.now rules constraints end }
 {
     let place = wide_word(end);
     if place < image.len() {
-        return Sections::Refused(Refusal { number: 7, place });
+        return Err(Refusal { number: 7, place });
     }
-    Sections::At(Starts {
+    Ok(Starts {
         rules: wide_word(rules),
         constraints: wide_word(constraints),
     })
 }
 
 // Refusals 5 to 7, and the groups' places.
-fn check_body(image: &[u8], places: &mut [u16]) -> Sections
-    requires { header_fault eqb image.now ≡ none }
+fn check_body(image: &[u8], places: &mut [u16]) -> Result<Starts, Refusal>
+    requires { header_fault eqb image.now ≡ None }
     ensures { ChecksBody image.now places.old result places.new }
 {
     let groups = word_in(image, header::GROUPS_AT);
-    match walk(image, groups, Section::Groups, groups, FIRST, places) {
-        Walked::Stop(f) => Sections::Refused(f),
-        Walked::To(rules) => match walk_on(
-            image,
-            groups,
-            Section::Rules,
-            word_in(image, header::RULES_AT),
-            rules,
-        ) {
-            Walked::Stop(f) => Sections::Refused(f),
-            Walked::To(constraints) => match walk_on(
-                image,
-                groups,
-                Section::Constraints,
-                word_in(image, header::CONSTRAINTS_AT),
-                constraints,
-            ) {
-                Walked::Stop(f) => Sections::Refused(f),
-                Walked::To(end) => check_end(image, rules, constraints, end),
-            },
-        },
-    }
+    let rules = word_in(image, header::RULES_AT);
+    let constraints = word_in(image, header::CONSTRAINTS_AT);
+    let second = walk(image, groups, Section::Groups, groups, FIRST, places)?;
+    let third = walk_on(image, groups, Section::Rules, rules, second)?;
+    let end = walk_on(image, groups, Section::Constraints, constraints, third)?;
+    check_end(image, second, third, end)
 }
 
 // Refusals 1 to 7, with a table for as many of the groups' places as it has slots.
-fn check_all(image: &[u8], places: &mut [u16]) -> Sections
+fn check_all(image: &[u8], places: &mut [u16]) -> Result<Starts, Refusal>
     ensures { Checks image.now places.old result places.new }
 {
-    match check_header(image) {
-        Checked::Refused(f) => Sections::Refused(f),
-        Checked::Accepted => check_body(image, places),
-    }
+    check_header(image)?;
+    check_body(image, places)
 }
 
 // Where the sections of an accepted image start, else the refusal; and the place of each group that the check comes to.
-pub fn survey(image: &[u8], groups: &mut [u16; header::MOST_GROUPS]) -> Sections
+pub fn survey(image: &[u8], groups: &mut [u16; header::MOST_GROUPS]) -> Result<Starts, Refusal>
     ensures { Surveys image.now groups.old result groups.new }
 {
-    match check_all(image, groups) {
-        Sections::Refused(f) => Sections::Refused(f),
-        Sections::At(starts) => check_twins(image, groups, starts),
-    }
+    let starts = check_all(image, groups)?;
+    check_twins(image, groups)?;
+    Ok(starts)
 }
 
 // The same of an image that may have twins; and for each group the first that it is alike to.
@@ -184,38 +168,31 @@ pub fn survey_old(
     image: &[u8],
     groups: &mut [u16; header::MOST_GROUPS],
     alike: &mut [u16; header::MOST_GROUPS],
-) -> Sections
+) -> Result<Starts, Refusal>
     ensures { SurveysOld image.now groups.old alike.old result
         groups.new alike.new }
 {
-    match check_all(image, groups) {
-        Sections::Refused(f) => Sections::Refused(f),
-        Sections::At(starts) => {
-            let count = word_in(image, header::GROUPS_AT);
-            fill_alike(image, groups, count, alike);
-            Sections::At(starts)
-        }
-    }
+    let starts = check_all(image, groups)?;
+    let count = word_in(image, header::GROUPS_AT);
+    fill_alike(image, groups, count, alike);
+    Ok(starts)
 }
 
 // The same without the places. One group has no twin, so its place is not noted.
-pub fn layout(image: &[u8]) -> Sections
-    ensures { sections_outcome result ≡ outcome (check image.now) (starts image.now) }
+pub fn layout(image: &[u8]) -> Result<Starts, Refusal>
+    ensures { result ≡ outcome (check image.now) (starts image.now) }
 {
     if word_at(image, header::GROUPS_AT) < 2 {
-        let mut none = [0u16; 1];
-        return check_all(image, &mut none[..0]);
+        return check_all(image, &mut []);
     }
     let mut groups = [0u16; header::MOST_GROUPS];
     survey(image, &mut groups)
 }
 
 // Whether an image is accepted, else the refusal.
-pub fn check(image: &[u8]) -> Checked
-    ensures { refusal_of result ≡ check image.now }
+pub fn check(image: &[u8]) -> Result<(), Refusal>
+    ensures { result ≡ outcome (check image.now) tt }
 {
-    match layout(image) {
-        Sections::Refused(f) => Checked::Refused(f),
-        Sections::At(_) => Checked::Accepted,
-    }
+    layout(image)?;
+    Ok(())
 }

@@ -2,11 +2,11 @@
 ghost use Rattle.std.specs.Prelude.{◌≡◌};
 ghost use Rattle.format.specs.Check.{image_in, check_front};
 ghost use Rattle.format.specs.Give.{Leads};
-ghost use Rattle.format.specs.Answers.{outcome, sections_outcome, starts};
+ghost use Rattle.format.specs.Answers.{outcome, starts};
 
 use crate::checker::layout;
 use crate::word::word_in;
-use format::{Sections, header};
+use format::{Refusal, Starts, header};
 
 // As many bytes as the length field says; where that is below 9 or beyond the buffer, all of it, which a check then refuses.
 pub fn leading(buffer: &[u8]) -> &[u8]
@@ -26,8 +26,8 @@ pub fn leading(buffer: &[u8]) -> &[u8]
 }
 
 // Where the sections of the image start that a buffer starts with, else the refusal.
-pub fn front(buffer: &[u8]) -> Sections
-    ensures { sections_outcome result ≡ outcome (check_front buffer.now) (starts (image_in buffer.now)) }
+pub fn front(buffer: &[u8]) -> Result<Starts, Refusal>
+    ensures { result ≡ outcome (check_front buffer.now) (starts (image_in buffer.now)) }
 {
     layout(leading(buffer))
 }

@@ -2,13 +2,13 @@
 ghost use Rattle.std.specs.Prelude.{◌≡◌, ◌≤◌, length};
 ghost use Rattle.format.specs.Format.{count_of};
 ghost use Rattle.format.specs.Policy.{place_after};
-ghost use Rattle.format.specs.Answers.{outcome, found_outcome, extent};
+ghost use Rattle.format.specs.Answers.{outcome, extent};
 ghost use Rattle.format.specs.Give.{give_fault, Given};
 ghost use Rattle.image.specs.Inner.Walk.{start_in, Hops};
 
 use crate::checker::layout;
 use crate::word::{half, narrow, wide, wide_word, word_in};
-use format::{Extent, Found, Refusal, Section, Sections, Starts, header};
+use format::{Extent, Refusal, Section, Starts, header};
 
 // How many records a section has.
 fn count_in(image: &[u8], section: Section) -> usize
@@ -50,26 +50,22 @@ fn place_after(image: &[u8], from: u16, count: usize) -> u16
 }
 
 // Where record n of a section stands; else the refusal, 1 to 7 and then 14.
-pub fn find(image: &[u8], section: Section, n: usize) -> Found
-    ensures { found_outcome result ≡ outcome (give_fault image.now section n) (extent image.now section n) }
+pub fn find(image: &[u8], section: Section, n: usize) -> Result<Extent, Refusal>
+    ensures { result ≡ outcome (give_fault image.now section n) (extent image.now section n) }
 {
-    match layout(image) {
-        Sections::Refused(f) => Found::Refused(f),
-        Sections::At(starts) => {
-            if count_in(image, section) <= n {
-                return Found::Refused(Refusal {
-                    number: 14,
-                    place: 0,
-                });
-            }
-            let start = narrow(start_in(starts, section));
-            let place = wide_word(place_after(image, start, n));
-            Found::At(Extent {
-                place,
-                length: wide(image[place]),
-            })
-        }
+    let starts = layout(image)?;
+    if count_in(image, section) <= n {
+        return Err(Refusal {
+            number: 14,
+            place: 0,
+        });
     }
+    let start = narrow(start_in(starts, section));
+    let place = wide_word(place_after(image, start, n));
+    Ok(Extent {
+        place,
+        length: wide(image[place]),
+    })
 }
 
 // Record n of a section: its own bytes, a part of the image. On a refusal, which `find` tells, the part is empty.
@@ -77,11 +73,11 @@ pub fn record(image: &[u8], section: Section, n: usize) -> &[u8]
     ensures { Given image.entry result section n }
 {
     match find(image, section, n) {
-        Found::Refused(_) => &image[..0],
-        Found::At(extent) => {
+        Ok(extent) => {
             let from = extent.place;
             let to = from + extent.length;
             &image[from..to]
         }
+        Err(_) => &image[..0],
     }
 }

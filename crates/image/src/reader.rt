@@ -5,25 +5,25 @@ ghost use Rattle.format.specs.Check.{read_of};
 use crate::fields::{allow_fields, constraint_fields, group_fields, transition_fields};
 use crate::kind::{kind_in, length_ok};
 use crate::word::wide;
-use format::{Read, Section};
+use format::{Misread, Section};
 
 // The record that a part starts with, for a section of an image with so many groups. The part goes on past the record.
-pub fn read_record(part: &[u8], section: Section, groups: usize) -> Read
+pub fn read_record(part: &[u8], section: Section, groups: usize) -> Result<usize, Misread>
     ensures { result ≡ read_of section groups part.now }
 {
     if part.len() < 2 {
-        return Read::Malformed;
+        return Err(Misread::Malformed);
     }
     let length = wide(part[0]);
     if part.len() < length {
-        return Read::Malformed;
+        return Err(Misread::Malformed);
     }
     let kind = part[1];
     if !kind_in(section, kind) {
-        return Read::Malformed;
+        return Err(Misread::Malformed);
     }
     if !length_ok(kind, length) {
-        return Read::Malformed;
+        return Err(Misread::Malformed);
     }
     let whole = &part[..length];
     match kind {

@@ -4,11 +4,11 @@ ghost use Rattle.format.specs.declared.Section.TheVariants.{Groups};
 ghost use Rattle.format.specs.Format.{count_of};
 ghost use Rattle.format.specs.Policy.{policy_of};
 ghost use Rattle.format.specs.Twins.{same_bytes, twin_fault};
-ghost use Rattle.format.specs.Answers.{outcome, sections_outcome};
+ghost use Rattle.format.specs.Answers.{outcome};
 ghost use Rattle.image.specs.Inner.Alike.{key_of, Placed, Filed, Looks, Found, settled_slot, Fills, FirstOff};
 
 use crate::word::{narrow, wide, wide_word, word_in};
-use format::{Refusal, Sections, Starts, header};
+use format::{Refusal, header};
 
 // A first false stays.
 fn still(same: bool, x: u8, y: u8) -> bool
@@ -151,22 +151,22 @@ fn first_twin(alike: &[u16; 256], count: usize) -> usize
 
 // Refusal 19.
 #[tactic(auto, using(crate::proofs::AlikeLaws::twins_few, format::proofs::ByCase::count_groups))]
-pub(crate) fn check_twins(image: &[u8], places: &[u16; 256], starts: Starts) -> Sections
+pub(crate) fn check_twins(image: &[u8], places: &[u16; 256]) -> Result<(), Refusal>
     requires { Placed image.now places.now (count_of image.now Groups) }
-    ensures { sections_outcome result ≡ outcome (twin_fault image.now) starts }
+    ensures { result ≡ outcome (twin_fault image.now) tt }
 {
     let count = word_in(image, header::GROUPS_AT);
     if count < 2 {
-        return Sections::At(starts);
+        return Ok(());
     }
     let mut alike = [0u16; 256];
     fill_alike(image, places, count, &mut alike);
     let first = first_twin(&alike, count);
     if first < count {
-        return Sections::Refused(Refusal {
+        return Err(Refusal {
             number: 19,
             place: wide_word(places[first]),
         });
     }
-    Sections::At(starts)
+    Ok(())
 }

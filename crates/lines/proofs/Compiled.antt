@@ -10,7 +10,7 @@ use Prim.Native.Nat.{ℕ, ◌+◌, ◌≤◌, ◌<◌}
 use native.Mathlib.Omega.{arith}
 use mathlib.Core.Path.{◌≡◌, refl, sym, ap, ◌∙◌}
 use mathlib.Core.Bool.{Bool, true, false}
-use mathlib.Core.Option.{none, some}
+use Rattle.std.specs.Prelude.{None, Some}
 use mathlib.Core.List.{List, [], ◌∷◌, ◌++◌, append_assoc, append-nil, flatten}
 use lib.ListN.{length, take, drop, take-append-drop}
 use lib.Seq.{take-append-le, take-append-add, length-take-le}
@@ -20,7 +20,8 @@ use Rattle.format.specs.declared.Refusal.{Refusal}
 use Rattle.format.specs.Bytes.{word_at}
 use Rattle.format.specs.Refusals.{refusal}
 use Rattle.format.specs.Check.{image_in, check_front}
-use Rattle.format.specs.Answers.{Outcome, refused, gives}
+use Rattle.std.specs.Prelude.{Ok, Err}
+use Rattle.format.specs.Answers.{Outcome}
 use Rattle.format.specs.Sample.{empty}
 use Rattle.format.proofs.Chain.{or_else_first, or_else_next, need_none, need_some}
 use Rattle.format.proofs.Front.{image_in_is}
@@ -41,20 +42,20 @@ abbrev pub said : ℕ → ℕ → List ℕ → List ℕ → Written
 said at row t b = written (part_fault at row t (rows_added t b).answer) (image_in (rows_added t b).buffer)
 
 module _ (at row : ℕ) (part : List ℕ) where
-  pub fault_some : (o : Outcome ℕ) (f : Refusal) → o ≡ refused f → part_fault at row part o ≡ some (refused_row at row part f)
+  pub fault_some : (o : Outcome ℕ) (f : Refusal) → o ≡ Err f → part_fault at row part o ≡ Some (refused_row at row part f)
   unfolding part_fault
   fault_some o f e = rw e refl
 
-  pub fault_none : (o : Outcome ℕ) (n : ℕ) → o ≡ gives n → part_fault at row part o ≡ none
+  pub fault_none : (o : Outcome ℕ) (n : ℕ) → o ≡ Ok n → part_fault at row part o ≡ None
   unfolding part_fault
   fault_none o n e = rw e refl
 
 module _ (at row : ℕ) (t b : List ℕ) where
-  said_refused : (f : Refusal) → (rows_added t b).answer ≡ refused f → said at row t b ≡ written (some (refused_row at row t f)) []
+  said_refused : (f : Refusal) → (rows_added t b).answer ≡ Err f → said at row t b ≡ written (Some (refused_row at row t f)) []
   unfolding written
   said_refused f e = rw (fault_some at row t (rows_added t b).answer f e) refl
 
-  said_gives : (n : ℕ) → (rows_added t b).answer ≡ gives n → said at row t b ≡ written none (image_in (rows_added t b).buffer)
+  said_gives : (n : ℕ) → (rows_added t b).answer ≡ Ok n → said at row t b ≡ written None (image_in (rows_added t b).buffer)
   said_gives n e = ap (λ f. written f (image_in (rows_added t b).buffer)) (fault_none at row t (rows_added t b).answer n e)
 
 -- ---- the bytes up to the last line feed, and those behind it
@@ -98,15 +99,15 @@ module _ (at row : ℕ) (l t b : List ℕ) where
   said_moved : rows_added (l ++ t) b ≡ made_by n (rows_added (r ++ t) after) → said at row (l ++ t) b ≡ said (at + n) (row + feeds l) (r ++ t) after
   said_moved e = step (rows_added (r ++ t) after).answer refl where
     step : (o : Outcome ℕ) → (rows_added (r ++ t) after).answer ≡ o → said at row (l ++ t) b ≡ said (at + n) (row + feeds l) (r ++ t) after
-    step (gives m) h =
+    step (Ok m) h =
         let rest = rows_added (r ++ t) after in
         said_gives at row (l ++ t) b m (ap answer_of e ∙ moved_gives n rest m h)
-        ∙ ap (λ x. written none (image_in x)) (ap (λ (x : Made). x.buffer) e ∙ moved_buffer n rest)
+        ∙ ap (λ x. written None (image_in x)) (ap (λ (x : Made). x.buffer) e ∙ moved_buffer n rest)
         ∙ sym (said_gives (at + n) (row + feeds l) (r ++ t) after m h)
-    step (refused f) h =
+    step (Err f) h =
         let rest = rows_added (r ++ t) after in
         said_refused at row (l ++ t) b (refusal f.number (n + f.place)) (ap answer_of e ∙ moved_refused n rest f h)
-        ∙ ap (λ x. written (some x) []) (row_later f)
+        ∙ ap (λ x. written (Some x) []) (row_later f)
         ∙ sym (said_refused (at + n) (row + feeds l) (r ++ t) after f h)
 
 -- ---- a turn
@@ -114,26 +115,26 @@ module _ (at row : ℕ) (l t b : List ℕ) where
 -- what it refuses
 module _ (s : Reading) (l : List ℕ) where
   pub turn_faulty :
-      (f : Refusal) → (rows_added (take (cut l) l) s.buffer).answer ≡ refused f → turn_fault s l ≡ some (refused_row s.at s.row l f)
+      (f : Refusal) → (rows_added (take (cut l) l) s.buffer).answer ≡ Err f → turn_fault s l ≡ Some (refused_row s.at s.row l f)
   unfolding turn_fault
   turn_faulty f h = or_else_first _ (fault_some s.at s.row l (rows_added (take (cut l) l) s.buffer).answer f h)
 
-  module _ (m : ℕ) (h : (rows_added (take (cut l) l) s.buffer).answer ≡ gives m) where
+  module _ (m : ℕ) (h : (rows_added (take (cut l) l) s.buffer).answer ≡ Ok m) where
     pub turn_full :
-        row_space ≤ length (drop (cut l) l) → turn_fault s l ≡ some (record { number = 18; place = s.at + cut l; row = s.row + feeds l })
+        row_space ≤ length (drop (cut l) l) → turn_fault s l ≡ Some (record { number = 18; place = s.at + cut l; row = s.row + feeds l })
     unfolding turn_fault
     turn_full e =
         or_else_next _ (fault_none s.at s.row l (rows_added (take (cut l) l) s.buffer).answer m h)
         ∙ need_some _ (le-ltb (length (drop (cut l) l)) row_space e)
 
-    pub turn_goes : length (drop (cut l) l) < row_space → turn_fault s l ≡ none
+    pub turn_goes : length (drop (cut l) l) < row_space → turn_fault s l ≡ None
     unfolding turn_fault
     turn_goes e =
         or_else_next _ (fault_none s.at s.row l (rows_added (take (cut l) l) s.buffer).answer m h)
         ∙ need_none _ (lt-ltb (length (drop (cut l) l)) row_space e)
 
 module _ (b₀ : List ℕ) (s : Reading) (k : Imaged b₀ s.buffer) (l : List ℕ) where
-  accepted : check_front s.buffer ≡ none
+  accepted : check_front s.buffer ≡ None
   accepted = imaged_accepted b₀ s.buffer k
 
   pub turn_imaged : Imaged b₀ (turned s l).buffer
@@ -141,7 +142,7 @@ module _ (b₀ : List ℕ) (s : Reading) (k : Imaged b₀ s.buffer) (l : List �
   turn_imaged = pieces_imaged b₀ s.buffer (take (cut l) l) k
 
   turn_on :
-      (t : List ℕ) (m : ℕ) → (rows_added (take (cut l) l) s.buffer).answer ≡ gives m
+      (t : List ℕ) (m : ℕ) → (rows_added (take (cut l) l) s.buffer).answer ≡ Ok m
       → said s.at s.row (l ++ t) s.buffer ≡ said (s.at + cut l) (s.row + feeds l) (drop (cut l) l ++ t) (turned s l).buffer
   unfolding turned n p r after parts
   turn_on t m h =
@@ -151,8 +152,8 @@ module _ (b₀ : List ℕ) (s : Reading) (k : Imaged b₀ s.buffer) (l : List �
       (imaged_accepted b₀ (turned s l).buffer turn_imaged))
 
   turn_refused :
-      (t : List ℕ) (f : Refusal) → (rows_added (take (cut l) l) s.buffer).answer ≡ refused f
-      → said s.at s.row (l ++ t) s.buffer ≡ written (some (refused_row s.at s.row l f)) []
+      (t : List ℕ) (f : Refusal) → (rows_added (take (cut l) l) s.buffer).answer ≡ Err f
+      → said s.at s.row (l ++ t) s.buffer ≡ written (Some (refused_row s.at s.row l f)) []
   unfolding p r parts
   turn_refused t f h =
       let same =
@@ -161,14 +162,14 @@ module _ (b₀ : List ℕ) (s : Reading) (k : Imaged b₀ s.buffer) (l : List �
       let inside : f.place ≤ length l =
       omega (arith, added_place s.buffer accepted (take (cut l) l) f h, length-take-le (cut l) l (cut_is l).most, (cut_is l).most) in
       said_refused s.at s.row (l ++ t) s.buffer f (ap answer_of same ∙ h)
-      ∙ ap (λ x. written (some (record { number = f.number; place = s.at + f.place; row = s.row + feeds x })) [])
+      ∙ ap (λ x. written (Some (record { number = f.number; place = s.at + f.place; row = s.row + feeds x })) [])
       (take-append-le f.place l t inside)
 
   -- a rest that fills the space
   turn_long :
-      (t : List ℕ) (m : ℕ) → (rows_added (take (cut l) l) s.buffer).answer ≡ gives m → row_space ≤ length (drop (cut l) l)
+      (t : List ℕ) (m : ℕ) → (rows_added (take (cut l) l) s.buffer).answer ≡ Ok m → row_space ≤ length (drop (cut l) l)
       → said s.at s.row (l ++ t) s.buffer
-      ≡ written (some (record { number = 18; place = s.at + cut l; row = s.row + feeds l })) []
+      ≡ written (Some (record { number = 18; place = s.at + cut l; row = s.row + feeds l })) []
   unfolding feeds
   turn_long t m h long =
       let refuses =
@@ -177,15 +178,15 @@ module _ (b₀ : List ℕ) (s : Reading) (k : Imaged b₀ s.buffer) (l : List �
       let count : s.row + feeds l + 0 ≡ s.row + feeds l = omega arith in
       turn_on t m h
       ∙ said_refused (s.at + cut l) (s.row + feeds l) (drop (cut l) l ++ t) (turned s l).buffer (refusal 18 0) refuses
-      ∙ ap (λ x. written (some (record { number = 18; place = x; row = s.row + feeds l + 0 })) []) place
-      ∙ ap (λ x. written (some (record { number = 18; place = s.at + cut l; row = x })) []) count
+      ∙ ap (λ x. written (Some (record { number = 18; place = x; row = s.row + feeds l + 0 })) []) place
+      ∙ ap (λ x. written (Some (record { number = 18; place = s.at + cut l; row = x })) []) count
 
   module _ (t : List ℕ) (w : Written) where
-    on_fault : (f : RowRefusal) → turn_fault s l ≡ some f → unless_turned (turn_fault s l) w ≡ written (some f) []
+    on_fault : (f : RowRefusal) → turn_fault s l ≡ Some f → unless_turned (turn_fault s l) w ≡ written (Some f) []
     unfolding unless_turned
     on_fault f e = rw e refl
 
-    on_turned : turn_fault s l ≡ none → unless_turned (turn_fault s l) w ≡ w
+    on_turned : turn_fault s l ≡ None → unless_turned (turn_fault s l) w ≡ w
     unfolding unless_turned
     on_turned e = rw e refl
 
@@ -194,7 +195,7 @@ module _ (b₀ : List ℕ) (s : Reading) (k : Imaged b₀ s.buffer) (l : List �
         → unless_turned (turn_fault s l) w ≡ said s.at s.row (l ++ t) s.buffer
     read_on q = step (rows_added (take (cut l) l) s.buffer).answer refl where
       short :
-          (m : ℕ) → (rows_added (take (cut l) l) s.buffer).answer ≡ gives m → (x : Bool) → ltb (length (drop (cut l) l)) row_space ≡ x
+          (m : ℕ) → (rows_added (take (cut l) l) s.buffer).answer ≡ Ok m → (x : Bool) → ltb (length (drop (cut l) l)) row_space ≡ x
           → unless_turned (turn_fault s l) w ≡ said s.at s.row (l ++ t) s.buffer
       short m h true e = on_turned (turn_goes s l m h (ltb-true _ _ e)) ∙ q ∙ sym (turn_on t m h)
       short m h false e = let long = ltb-false _ _ e in on_fault _ (turn_full s l m h long) ∙ sym (turn_long t m h long)
@@ -202,8 +203,8 @@ module _ (b₀ : List ℕ) (s : Reading) (k : Imaged b₀ s.buffer) (l : List �
       step :
           (o : Outcome ℕ) → (rows_added (take (cut l) l) s.buffer).answer ≡ o
           → unless_turned (turn_fault s l) w ≡ said s.at s.row (l ++ t) s.buffer
-      step (refused f) h = on_fault _ (turn_faulty s l f h) ∙ sym (turn_refused t f h)
-      step (gives m) h = short m h (ltb (length (drop (cut l) l)) row_space) refl
+      step (Err f) h = on_fault _ (turn_faulty s l f h) ∙ sym (turn_refused t f h)
+      step (Ok m) h = short m h (ltb (length (drop (cut l) l)) row_space) refl
 
 -- ---- what the program does, read by read
 
@@ -219,29 +220,29 @@ unfolding turned
 turned_is s l = refl
 
 module _ (s : Reading) (c : List ℕ) (cs : List (List ℕ)) where
-  pub reads_on : turn_fault s (s.kept ++ c) ≡ none → reads s (c ∷ cs) ≡ reads (turned s (s.kept ++ c)) cs
+  pub reads_on : turn_fault s (s.kept ++ c) ≡ None → reads s (c ∷ cs) ≡ reads (turned s (s.kept ++ c)) cs
   unfolding reads unless_turned
   reads_on e = rw e refl
 
-  pub reads_stop : (f : RowRefusal) → turn_fault s (s.kept ++ c) ≡ some f → reads s (c ∷ cs) ≡ record { output = []; errors = row_line f }
+  pub reads_stop : (f : RowRefusal) → turn_fault s (s.kept ++ c) ≡ Some f → reads s (c ∷ cs) ≡ record { output = []; errors = row_line f }
   unfolding reads unless_turned written
   reads_stop f e = rw e refl
 
 module _ (s : Reading) where
   pub reads_refused :
-      (f : Refusal) → (rows_added s.kept s.buffer).answer ≡ refused f
+      (f : Refusal) → (rows_added s.kept s.buffer).answer ≡ Err f
       → reads s [] ≡ record { output = []; errors = row_line (refused_row s.at s.row s.kept f) }
   unfolding reads written
   reads_refused f e = said_refused s.at s.row s.kept s.buffer f e
 
   pub reads_image :
-      (n : ℕ) → check_front s.buffer ≡ none → (rows_added s.kept s.buffer).answer ≡ gives n
+      (n : ℕ) → check_front s.buffer ≡ None → (rows_added s.kept s.buffer).answer ≡ Ok n
       → (n ≡ word_at (rows_added s.kept s.buffer).buffer 1)
       × (reads s [] ≡ record { output = take n (rows_added s.kept s.buffer).buffer; errors = [] })
   unfolding reads written
   reads_image n a e =
       let b = (rows_added s.kept s.buffer).buffer in
-      let size : gives n ≡ gives (word_at (rows_added s.kept s.buffer).buffer 1) = sym e ∙ added_size s.buffer a s.kept n e in
+      let size : Ok n ≡ Ok (word_at (rows_added s.kept s.buffer).buffer 1) = sym e ∙ added_size s.buffer a s.kept n e in
       let same : n ≡ word_at (rows_added s.kept s.buffer).buffer 1 = cc in
       (same, said_gives s.at s.row s.kept s.buffer n e ∙ ap (λ x. record { output = x; errors = [] }) (image_in_is b ∙ ap (λ k. take k b) (sym same)))
 

@@ -7,7 +7,7 @@ use native.Mathlib.Omega.{arith}
 use mathlib.Core.Path.{◌≡◌, refl, sym, ap, ◌∙◌}
 use mathlib.Core.Logic.{◌⊎◌, inl, inr}
 use mathlib.Core.Bool.{Bool, true, false}
-use mathlib.Core.Option.{Option, none, some}
+use Rattle.std.specs.Prelude.{Option, None, Some}
 use mathlib.Core.List.{List, [], ◌∷◌, ◌++◌, append_assoc, append-nil, flatten}
 use lib.ListN.{length, get_or, take}
 use lib.Seq.{get_or-take, length-take-le, take_all, take-append-le, take-take}
@@ -18,7 +18,7 @@ use Rattle.format.specs.Bytes.{Bytes}
 use Rattle.format.specs.Refusals.{refusal, need, ◌or_else◌}
 use Rattle.format.specs.Format.{known_version}
 use Rattle.format.specs.Check.{layout_fault}
-use Rattle.format.specs.Answers.{refused}
+use Rattle.std.specs.Prelude.{Err}
 use Rattle.format.specs.Policy.{policy_of}
 use Rattle.format.proofs.Accepted.{laid_length, accepted_laid}
 use Rattle.format.proofs.Bytes.{bytes_take, word_small}
@@ -38,12 +38,12 @@ module _ (i : List ℕ) (short : length i ≤ input_space) where
   unfolding convert_output
   output_is = ap (λ (x : List ℕ). image_or_line (convert_fault x input_space) (converted_image x)) (take_all input_space i short)
 
-  pub output_new : convert_fault i input_space ≡ none → convert_output i ≡ record { output = converted_image i; errors = [] }
+  pub output_new : convert_fault i input_space ≡ None → convert_output i ≡ record { output = converted_image i; errors = [] }
   unfolding image_or_line
   output_new e = output_is ∙ ap (λ (f : Option Refusal). image_or_line f (converted_image i)) e
 
   pub output_refused :
-      (f : Refusal) → convert_fault i input_space ≡ some f → convert_output i ≡ record { output = []; errors = line (refused f) }
+      (f : Refusal) → convert_fault i input_space ≡ Some f → convert_output i ≡ record { output = []; errors = line (Err f) }
   unfolding image_or_line
   output_refused f e = output_is ∙ ap (λ (x : Option Refusal). image_or_line x (converted_image i)) e
 
@@ -63,7 +63,7 @@ cut_same i b h =
     let n : length (take input_space i) ≡ input_space = length-take-le input_space i (omega arith) in
     let w = word_small (take input_space i) (bytes_take input_space i b) 1 in
     misfit_refused (take input_space i) (omega (arith, n)) (λ e. omega (arith, n, w, e))
-    ∙ ap (λ (v : ℕ). need (known_version v) (refusal 2 0) or_else some (refusal 3 0)) (get_or-take input_space i 0 0 (omega arith))
+    ∙ ap (λ (v : ℕ). need (known_version v) (refusal 2 0) or_else Some (refusal 3 0)) (get_or-take input_space i 0 0 (omega arith))
     ∙ sym (misfit_refused i (omega arith) (λ e. omega (arith, word_small i b 1, e)))
 
 output_cut : (i : List ℕ) → convert_output (take input_space i) ≡ convert_output i
@@ -75,7 +75,7 @@ output_cut i =
 pub refused_written : RefusedWritten
 refused_written i f b e = go (leb (length i) input_space) refl
   where
-    go : (x : Bool) → leb (length i) input_space ≡ x → convert_output i ≡ record { output = []; errors = line (refused f) }
+    go : (x : Bool) → leb (length i) input_space ≡ x → convert_output i ≡ record { output = []; errors = line (Err f) }
     go true q = output_refused i (leb-true _ _ q) f (convert_numbers.image i input_space f e)
     go false q =
         let h = leb-false (length i) input_space q in
@@ -89,8 +89,8 @@ one_of :
     → ((9 ≤ length (image_or_line f l).output) × ((image_or_line f l).errors ≡ []))
     ⊎ (((image_or_line f l).output ≡ []) × (get_or (image_or_line f l).errors 0 0 ≡ 82))
 unfolding image_or_line
-one_of none l h = inl (h, refl)
-one_of (some f) l h = inr (refl, refl)
+one_of None l h = inl (h, refl)
+one_of (Some f) l h = inr (refl, refl)
 
 pub one_written : OneWritten
 unfolding convert_output

@@ -8,7 +8,7 @@ use Prim.Native.Nat.{ℕ, ◌≤◌, ◌<◌}
 use native.Mathlib.Omega.{arith}
 use mathlib.Core.Path.{◌≡◌, refl, sym, ap, ◌∙◌}
 use mathlib.Core.Bool.{Bool, true, false}
-use mathlib.Core.Option.{none}
+use Rattle.std.specs.Prelude.{None}
 use mathlib.Core.List.{List}
 use lib.ListN.{length, take}
 use lib.Seq.{take_all}
@@ -56,7 +56,7 @@ image_taken i = go (leb 9 (length i)) refl (leb 9 (word_at i 1)) refl (leb (word
         let f = leb-true (word_at i 1) (length i) q in
         ap (λ n. check (leading (take n i))) (size_whole i h w) ∙ ap check (leading_taken i w f ∙ sym (leading_whole i w f))
 
-module _ (i : List ℕ) (e : check_front i ≡ none) where
+module _ (i : List ℕ) (e : check_front i ≡ None) where
   pub image_size_lem : image_size i ≡ word_at i 1
   image_size_lem = let h = front_header i e in size_whole i h.long h.least
 

@@ -2,7 +2,7 @@
 use Prim.Native.Nat.{ℕ, ◌<◌}
 use native.Mathlib.Omega.{arith}
 use mathlib.Core.Path.{◌≡◌, refl, sym, ap, ◌∙◌}
-use mathlib.Core.Option.{Option, none, some}
+use Rattle.std.specs.Prelude.{Option, None, Some}
 use mathlib.Core.List.{List, [], ◌∷◌, ◌++◌, append_assoc, append-nil, flatten}
 use lib.ListN.{length, take, drop}
 use Rattle.format.specs.declared.Refusal.{Refusal}
@@ -30,8 +30,8 @@ unfolding ran printed
 any_reads i cs e = go (check_front i) refl
   where
     go : (f : Option Refusal) → check_front i ≡ f → ran i cs ≡ printed i
-    go (some f) r = rw (image_taken i, r) refl
-    go none r =
+    go (Some f) r = rw (image_taken i, r) refl
+    go None r =
         rw (image_taken i, r)
         (served_all (leading (take (image_size i) i)) [] cs (omega arith)
         ∙ ap (λ l. lines l (flatten cs) ++ ending (flatten cs)) (image_front i r)

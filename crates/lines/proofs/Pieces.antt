@@ -8,7 +8,7 @@ use Prim.Native.Nat.{ℕ, suc, ◌+◌, ◌≤◌, ◌<◌}
 use native.Mathlib.Omega.{arith}
 use mathlib.Core.Path.{◌≡◌, refl, sym, subst, ap, ◌∙◌}
 use mathlib.Core.Bool.{Bool, true, false, cond}
-use mathlib.Core.Option.{none}
+use Rattle.std.specs.Prelude.{None}
 use mathlib.Core.List.{List, [], ◌∷◌, ◌++◌, append_assoc}
 use lib.ListN.{length, take, length-append}
 use lib.Seq.{length-take-le}
@@ -18,7 +18,8 @@ use Rattle.format.specs.declared.Refusal.{Refusal}
 use Rattle.format.specs.Bytes.{word_at}
 use Rattle.format.specs.Refusals.{refusal}
 use Rattle.format.specs.Check.{check_front}
-use Rattle.format.specs.Answers.{Outcome, refused, gives}
+use Rattle.std.specs.Prelude.{Ok, Err}
+use Rattle.format.specs.Answers.{Outcome}
 use Rattle.text.specs.Words.{split}
 use Rattle.text.specs.Build.{Made, rows_from, rows_added}
 use Rattle.text.specs.Claims.{complete}
@@ -32,7 +33,7 @@ use Rattle.text.proofs.Chunks.{added_front, added_behind, added_next, added_stop
 use Rattle.lines.specs.Compiled.{feeds}
 use Rattle.lines.proofs.Feeds.{Whole, bare, fed}
 
-module _ (b : List ℕ) (e : check_front b ≡ none) where
+module _ (b : List ℕ) (e : check_front b ≡ None) where
   added_none : rows_added [] b ≡ complete b
   added_none = added_front [] b e ∙ rows_none 0 b
 
@@ -40,8 +41,8 @@ module _ (b : List ℕ) (e : check_front b ≡ none) where
   feed_last : (q : List ℕ) → rows_added (q ++ (10 ∷ [])) b ≡ rows_added q b
   feed_last q = step (rows_added q b).answer refl where
     step : (o : Outcome ℕ) → (rows_added q b).answer ≡ o → rows_added (q ++ (10 ∷ [])) b ≡ rows_added q b
-    step (refused f) h = added_stops b e q [] f h
-    step (gives n) h =
+    step (Err f) h = added_stops b e q [] f h
+    step (Ok n) h =
         let front = added_front q b e in
         added_behind b e q [] n h
         ∙ rows_none (0 + suc (length q)) (rows_added q b).buffer
@@ -50,19 +51,19 @@ module _ (b : List ℕ) (e : check_front b ≡ none) where
         ∙ sym front
 
   -- the answer is the length of the image that is left
-  pub added_size : (text : List ℕ) (n : ℕ) → (rows_added text b).answer ≡ gives n → (rows_added text b).answer ≡ gives (word_at (rows_added text b).buffer 1)
+  pub added_size : (text : List ℕ) (n : ℕ) → (rows_added text b).answer ≡ Ok n → (rows_added text b).answer ≡ Ok (word_at (rows_added text b).buffer 1)
   added_size text n h =
       let front = added_front text b e in
       ap answer_of (front ∙ rows_complete 0 (split 10 text) b n (sym (ap answer_of front) ∙ h))
-      ∙ ap (λ (m : Made). gives (word_at m.buffer 1)) (sym front)
+      ∙ ap (λ (m : Made). Ok (word_at m.buffer 1)) (sym front)
 
   pub whole_refused :
-      (l : List ℕ) (n : ℕ) (u : List ℕ) (f : Refusal) → Whole l n → (rows_added (take n l) b).answer ≡ refused f
+      (l : List ℕ) (n : ℕ) (u : List ℕ) (f : Refusal) → Whole l n → (rows_added (take n l) b).answer ≡ Err f
       → rows_added (take n l ++ u) b ≡ rows_added (take n l) b
   whole_refused l n u f (bare z) h =
       gives_not_refused (sym (ap answer_of added_none) ∙ ap (λ k. (rows_added (take k l) b).answer) (sym z) ∙ h)
   whole_refused l n u f (fed q p) h =
-      let fault : (rows_added q b).answer ≡ refused f = sym (ap answer_of (feed_last q)) ∙ ap (λ x. (rows_added x b).answer) (sym p) ∙ h in
+      let fault : (rows_added q b).answer ≡ Err f = sym (ap answer_of (feed_last q)) ∙ ap (λ x. (rows_added x b).answer) (sym p) ∙ h in
       ap (λ x. rows_added (x ++ u) b) p
       ∙ ap (λ x. rows_added x b) (append_assoc q (10 ∷ []) u)
       ∙ added_stops b e q u f fault
@@ -73,8 +74,8 @@ module _ (b : List ℕ) (e : check_front b ≡ none) where
   none_gives u = added_front u b e ∙ rows_moved 0 0 (split 10 u) b ∙ ap (made_by 0) (sym (added_front u b e))
 
   pub whole_gives :
-      (l : List ℕ) (n : ℕ) (u : List ℕ) (m : ℕ) → n ≤ length l → Whole l n → (rows_added (take n l) b).answer ≡ gives m
-      → check_front (rows_added (take n l) b).buffer ≡ none
+      (l : List ℕ) (n : ℕ) (u : List ℕ) (m : ℕ) → n ≤ length l → Whole l n → (rows_added (take n l) b).answer ≡ Ok m
+      → check_front (rows_added (take n l) b).buffer ≡ None
       → rows_added (take n l ++ u) b ≡ made_by n (rows_added u (rows_added (take n l) b).buffer)
   whole_gives l n u m long (bare z) h a =
       ap (λ k. rows_added (take k l ++ u) b) z
@@ -103,7 +104,7 @@ run_behind (c ∷ r) t h = step (eqb c 10) refl h (λ k. run_behind r t k) where
   step false e k f = omega (arith, run_next 10 (c ∷ (r ++ t)) 0 (omega arith) (eqb-false c 10 e), f k)
 
 pub rest_refused :
-    (r t b : List ℕ) → check_front b ≡ none → feeds r ≡ 0 → 460 < length r → (rows_added (r ++ t) b).answer ≡ refused (refusal 18 0)
+    (r t b : List ℕ) → check_front b ≡ None → feeds r ≡ 0 → 460 < length r → (rows_added (r ++ t) b).answer ≡ Err (refusal 18 0)
 rest_refused r t b e h long =
     let l = r ++ t in
     let row = take (run_of 10 l) l in

@@ -15,11 +15,12 @@
 --     turned s l          the reading after those rows
 --     reads s cs          what is written from here on, where the next reads bring the bytes cs, and then the input ends
 use Rattle.std.specs.Prelude.{ℕ, zero, suc, ◌+◌, Bool, true, false, cond, List, [], ◌∷◌, ◌++◌, length, take, drop, ltb, eqb}
-use Rattle.std.proofs.Math.Option.{Option, none, some}
+use Rattle.std.specs.Prelude.{Option, None, Some}
 use Rattle.format.specs.declared.Refusal.{Refusal}
 use Rattle.format.specs.Refusals.{need, ◌or_else◌}
 use Rattle.format.specs.Check.{image_in}
-use Rattle.format.specs.Answers.{Outcome, refused, gives}
+use Rattle.std.specs.Prelude.{Ok, Err}
+use Rattle.format.specs.Answers.{Outcome}
 use Rattle.format.specs.Sample.{empty}
 use Rattle.extension.specs.Add.{overwrite}
 use Rattle.text.specs.Build.{built, rows_added}
@@ -34,8 +35,8 @@ abbrev pub refused_row : ℕ → ℕ → List ℕ → Refusal → RowRefusal
 refused_row at row part f = record { number = f.number; place = at + f.place; row = row + feeds (take f.place part) }
 
 unfoldable pub part_fault : ℕ → ℕ → List ℕ → Outcome ℕ → Option RowRefusal
-part_fault at row part (gives n) = none
-part_fault at row part (refused f) = some (refused_row at row part f)
+part_fault at row part (Ok n) = None
+part_fault at row part (Err f) = Some (refused_row at row part f)
 
 pub record Written : Type 0 where
   pub output : List ℕ
@@ -45,8 +46,8 @@ abbrev pub row_line : RowRefusal → List ℕ
 row_line f = 82 ∷ (field f.number ++ (field f.place ++ (field f.row ++ (10 ∷ []))))
 
 unfoldable pub written : Option RowRefusal → List ℕ → Written
-written none image = record { output = image; errors = [] }
-written (some f) image = record { output = []; errors = row_line f }
+written None image = record { output = image; errors = [] }
+written (Some f) image = record { output = []; errors = row_line f }
 
 unfoldable pub compiled : List ℕ → List ℕ → Written
 compiled text b = written (part_fault 0 1 text (built text b).answer) (image_in (built text b).buffer)
@@ -85,8 +86,8 @@ turned s l =
     }
 
 unfoldable pub unless_turned : Option RowRefusal → Written → Written
-unless_turned none w = w
-unless_turned (some f) w = written (some f) []
+unless_turned None w = w
+unless_turned (Some f) w = written (Some f) []
 
 unfoldable pub reads : Reading → List (List ℕ) → Written
 reads s [] =

@@ -12,12 +12,12 @@
 --     RefusedWritten      an input that is refused with 1 to 7: its line, and no image; the same for an input of any length
 --     OneWritten          an image or a line is written, and never both
 use Rattle.std.specs.Prelude.{ℕ, ◌≤◌, ◌≡◌, ◌⊎◌, cond, length, get_or, take, ltb}
-use Rattle.std.proofs.Math.Option.{Option, none, some}
+use Rattle.std.specs.Prelude.{Option, None, Some}
 use mathlib.Core.List.{List, [], ◌∷◌, ◌++◌, flatten}
 use Rattle.format.specs.declared.Refusal.{Refusal}
 use Rattle.format.specs.Bytes.{Bytes}
 use Rattle.format.specs.Check.{layout_fault, LaidOut, Accepted}
-use Rattle.format.specs.Answers.{refused}
+use Rattle.std.specs.Prelude.{Err}
 use Rattle.conversion.specs.Convert.{converted_image, convert_fault}
 use Rattle.lines.specs.Lines.{line}
 use Rattle.lines.specs.Compiled.{Written}
@@ -26,8 +26,8 @@ abbrev pub input_space : ℕ
 input_space = 65536
 
 unfoldable pub image_or_line : Option Refusal → List ℕ → Written
-image_or_line none image = record { output = image; errors = [] }
-image_or_line (some f) image = record { output = []; errors = line (refused f) }
+image_or_line None image = record { output = image; errors = [] }
+image_or_line (Some f) image = record { output = []; errors = line (Err f) }
 
 unfoldable pub convert_output : List ℕ → Written
 convert_output i = image_or_line (convert_fault (take input_space i) input_space) (converted_image (take input_space i))
@@ -47,8 +47,8 @@ AcceptedWritten = (i : List ℕ) → Bytes i → Accepted i → convert_output i
 
 abbrev pub RefusedWritten : Type 0
 RefusedWritten =
-    (i : List ℕ) (f : Refusal) → Bytes i → layout_fault i ≡ some f
-    → convert_output i ≡ record { output = []; errors = line (refused f) }
+    (i : List ℕ) (f : Refusal) → Bytes i → layout_fault i ≡ Some f
+    → convert_output i ≡ record { output = []; errors = line (Err f) }
 
 -- an image has a header, and the line of a refusal starts with R
 abbrev pub OneWritten : Type 0

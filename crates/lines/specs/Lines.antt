@@ -6,12 +6,13 @@
 --     line o           the line of an outcome: that of the nearest; P and the rule; U, the rule and the constraint; R, the
 --                      number and the place
 --     lines l b        the lines for the whole rows of b, one behind the other, on the image l
-use Rattle.std.specs.Prelude.{ℕ, zero, suc, ◌+◌, ◌/◌, cond, List, [], ◌∷◌, ◌++◌, length, ltb}
+use Rattle.std.specs.Prelude.{ℕ, zero, suc, ◌+◌, ◌/◌, cond, List, [], ◌∷◌, ◌++◌, length, ltb, None, Some}
 use Rattle.io.specs.Digits.{last_digits}
-use Rattle.format.specs.Answers.{Outcome, refused, gives}
-use Rattle.decision.specs.declared.Nearest.{Nearest}
-use Rattle.decision.specs.declared.Nearest.TheVariants.{NoRules, Near}
-use Rattle.decision.specs.Decide.{Decision, not_permitted, permitted, unknown, answer}
+use Rattle.std.specs.Prelude.{Ok, Err}
+use Rattle.format.specs.Answers.{Outcome}
+use Rattle.decision.specs.declared.Decision.{Decision}
+use Rattle.decision.specs.declared.Decision.TheVariants.{NotPermitted, Permitted, UnKnown}
+use Rattle.decision.specs.Decide.{answer, near, Nearest}
 use Rattle.decision.specs.Rows.{query_at}
 
 -- at most so many digits more than one
@@ -32,14 +33,14 @@ abbrev pub pair_line : ℕ → ℕ → ℕ → List ℕ
 pair_line letter a b = letter ∷ (field a ++ (field b ++ (10 ∷ [])))
 
 abbrev pub nearest_line : Nearest → List ℕ
-nearest_line NoRules = 78 ∷ 32 ∷ 45 ∷ 10 ∷ []
-nearest_line (Near s r) = pair_line 78 s r
+nearest_line None = 78 ∷ 32 ∷ 45 ∷ 10 ∷ []
+nearest_line (Some x) = pair_line 78 x.steps x.rule
 
 abbrev pub line : Outcome Decision → List ℕ
-line (gives (not_permitted x)) = nearest_line x
-line (gives (permitted r)) = 80 ∷ (field r ++ (10 ∷ []))
-line (gives (unknown r c)) = pair_line 85 r c
-line (refused f) = pair_line 82 f.number f.place
+line (Ok (NotPermitted x)) = nearest_line x
+line (Ok (Permitted r)) = 80 ∷ (field r ++ (10 ∷ []))
+line (Ok (UnKnown r c)) = pair_line 85 r c
+line (Err f) = pair_line 82 f.number f.place
 
 unfoldable pub lines_from : List ℕ → List ℕ → ℕ → ℕ → List ℕ
 lines_from l b zero at = []

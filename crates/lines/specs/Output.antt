@@ -11,12 +11,12 @@
 --                         bring the bytes cs, and then the input ends
 --     ran i cs            the output where the image's own bytes are read first, and the reads behind it bring cs
 use Rattle.std.specs.Prelude.{ℕ, ◌*◌, ◌/◌, ◌%◌, cond, ◌&&◌, List, [], ◌∷◌, ◌++◌, length, take, drop, leb, eqb}
-use Rattle.std.proofs.Math.Option.{Option, none, some}
+use Rattle.std.specs.Prelude.{Option, None, Some}
 use Rattle.format.specs.declared.Refusal.{Refusal}
 use Rattle.format.specs.Bytes.{word_at}
 use Rattle.format.specs.Refusals.{refusal}
 use Rattle.format.specs.Check.{check, image_in, check_front, leading}
-use Rattle.format.specs.Answers.{refused}
+use Rattle.std.specs.Prelude.{Err}
 use Rattle.lines.specs.Lines.{line, lines}
 
 unfoldable pub image_size : List ℕ → ℕ
@@ -26,11 +26,11 @@ unfoldable pub rest_of : List ℕ → List ℕ
 rest_of b = drop (12 * (length b / 12)) b
 
 unfoldable pub ending : List ℕ → List ℕ
-ending b = cond (eqb (length b % 12) 0) [] (line (refused (refusal 15 0)))
+ending b = cond (eqb (length b % 12) 0) [] (line (Err (refusal 15 0)))
 
 abbrev pub said_unless : Option Refusal → List ℕ → List ℕ
-said_unless none x = x
-said_unless (some f) x = line (refused f)
+said_unless None x = x
+said_unless (Some f) x = line (Err f)
 
 unfoldable pub printed : List ℕ → List ℕ
 printed i = said_unless (check_front i) (lines (image_in i) (drop (word_at i 1) i) ++ ending (drop (word_at i 1) i))

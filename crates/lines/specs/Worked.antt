@@ -3,14 +3,15 @@
 --     WorkedRuns     the outputs of some inputs
 --     WorkedCompiled what is written for some texts, built in a buffer of 100 bytes
 --     WorkedConverted what is written for some old images
-use Rattle.std.specs.Prelude.{ℕ, ◌≡◌, List, [], ◌∷◌, ◌++◌, map, take, set, replicate}
+use Rattle.std.specs.Prelude.{ℕ, ◌≡◌, List, [], ◌∷◌, ◌++◌, map, take, set, replicate, None, Some}
 use Prim.Native.String.{String}
 use Rattle.format.specs.Refusals.{refusal}
-use Rattle.format.specs.Answers.{Outcome, refused, gives}
+use Rattle.std.specs.Prelude.{Ok, Err}
+use Rattle.format.specs.Answers.{Outcome}
 use Rattle.format.specs.Policy.{image_of}
 use Rattle.format.specs.Sample.{sample, empty}
-use Rattle.decision.specs.declared.Nearest.TheVariants.{NoRules, Near}
-use Rattle.decision.specs.Decide.{Decision, not_permitted, permitted, unknown}
+use Rattle.decision.specs.declared.Decision.{Decision}
+use Rattle.decision.specs.declared.Decision.TheVariants.{NotPermitted, Permitted, UnKnown}
 use Rattle.text.specs.Words.{ascii}
 use Rattle.text.specs.Cases.{sample_text}
 use Rattle.conversion.specs.Cases.{old, new}
@@ -18,6 +19,7 @@ use Rattle.lines.specs.Lines.{line}
 use Rattle.lines.specs.Output.{printed}
 use Rattle.lines.specs.Compiled.{Written, compiled}
 use Rattle.lines.specs.Converted.{convert_output}
+use Rattle.decision.specs.Decide.{near}
 
 pub record WorkedLine : Type 0 where
   pub outcome : Outcome Decision
@@ -25,16 +27,16 @@ pub record WorkedLine : Type 0 where
 
 unfoldable pub worked_lines : List WorkedLine
 worked_lines =
-    record { outcome = gives (not_permitted NoRules); says = "N -\n" }
-    ∷ record { outcome = gives (not_permitted (Near 0 0)); says = "N 0 0\n" }
-    ∷ record { outcome = gives (not_permitted (Near 4 1023)); says = "N 4 1023\n" }
-    ∷ record { outcome = gives (permitted 0); says = "P 0\n" }
-    ∷ record { outcome = gives (permitted 9); says = "P 9\n" }
-    ∷ record { outcome = gives (permitted 10); says = "P 10\n" }
-    ∷ record { outcome = gives (unknown 1023 255); says = "U 1023 255\n" }
-    ∷ record { outcome = refused (refusal 6 9999); says = "R 6 9999\n" }
-    ∷ record { outcome = refused (refusal 6 10000); says = "R 6 10000\n" }
-    ∷ record { outcome = refused (refusal 6 55559); says = "R 6 55559\n" }
+    record { outcome = Ok (NotPermitted None); says = "N -\n" }
+    ∷ record { outcome = Ok (NotPermitted (Some (near 0 0))); says = "N 0 0\n" }
+    ∷ record { outcome = Ok (NotPermitted (Some (near 4 1023))); says = "N 4 1023\n" }
+    ∷ record { outcome = Ok (Permitted 0); says = "P 0\n" }
+    ∷ record { outcome = Ok (Permitted 9); says = "P 9\n" }
+    ∷ record { outcome = Ok (Permitted 10); says = "P 10\n" }
+    ∷ record { outcome = Ok (UnKnown 1023 255); says = "U 1023 255\n" }
+    ∷ record { outcome = Err (refusal 6 9999); says = "R 6 9999\n" }
+    ∷ record { outcome = Err (refusal 6 10000); says = "R 6 10000\n" }
+    ∷ record { outcome = Err (refusal 6 55559); says = "R 6 55559\n" }
     ∷ []
 
 unfoldable pub line_of : WorkedLine → List ℕ

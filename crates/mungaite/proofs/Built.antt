@@ -7,7 +7,8 @@ use lib.ListN.{length}
 use lib.Dec.{ltb, eqb}
 use borrow.Author.Tests.{ltb-true, ltb-false, eqb-true, ne_eqb}
 use Rattle.format.specs.Check.{image_in}
-use Rattle.format.specs.Answers.{Outcome, refused, gives}
+use Rattle.std.specs.Prelude.{Ok, Err}
+use Rattle.format.specs.Answers.{Outcome}
 use Rattle.format.proofs.Front.{front_accepted}
 use Rattle.format.proofs.Accepted.{accepted_header}
 use Rattle.format.proofs.Reach.{longest_image}
@@ -36,12 +37,12 @@ own_most n e = step (eqb n 11) (eqb n 12) (eqb n 13) (eqb n 18) (eqb n 20) refl 
 pub build_whole : BuildWhole
 build_whole text b h = size (ltb (length b) 9) refl where
   long : 9 ≤ length b → (o : Outcome ℕ) → (built text b).answer ≡ o → BuiltFits o
-  long k (gives n) e =
+  long k (Ok n) e =
       let a = (built_accepted text b k).accepted in
       let m : length (image_in (built text b).buffer) ≤ 55561 = longest_image _ (front_accepted (built text b).buffer a) in
       let l = (accepted_header (image_in (built text b).buffer) (front_accepted (built text b).buffer a)).long in
       (omega (arith, (each_row_added text b n e).image_length, l), omega (arith, (each_row_added text b n e).image_length, m))
-  long k (refused f) e =
+  long k (Err f) e =
       let q = own_most f.number (own_numbers text b f e) in
       (q.0, q.1, omega (arith, (refused_keeps text b f k e).inside))
 
@@ -53,11 +54,11 @@ build_whole text b h = size (ltb (length b) 9) refl where
 
 built_back : (o : Outcome ℕ) → BuiltFits o → host_built (build_code o) ≡ o
 unfolding host_built build_code
-built_back (gives n) h =
+built_back (Ok n) h =
     let a : n / place_span ≡ 0 = omega (arith, h.1) in
     let b : n % place_span ≡ n = omega (arith, h.1) in
     rw (a, b)
-built_back (refused f) h =
+built_back (Err f) h =
     let a : (f.number * place_span + f.place % place_span) / place_span ≡ f.number = omega (arith, h.2) in
     let b : (f.number * place_span + f.place % place_span) % place_span ≡ f.place = omega (arith, h.2) in
     rw (a, b, ne_eqb f.number 0 (omega (arith, h.0)))

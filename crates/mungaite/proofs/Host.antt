@@ -2,7 +2,7 @@
 -- that no part is cut and from PartsRead alone. Assumes nothing.
 use Prim.Native.Nat.{ℕ, ◌+◌, ◌*◌, ◌<◌}
 use mathlib.Core.Path.{◌≡◌, refl, ap, ◌∙◌}
-use mathlib.Core.Option.{Option, none, some}
+use Rattle.std.specs.Prelude.{Option, None, Some}
 use native.Mathlib.Omega.{arith}
 use lib.ListN.{length, get_or}
 use Rattle.format.specs.declared.Section.{Section}
@@ -11,7 +11,8 @@ use Rattle.format.specs.declared.Refusal.{Refusal}
 use Rattle.format.specs.declared.Extent.{Extent}
 use Rattle.format.specs.Refusals.{refusal, ◌or_else◌}
 use Rattle.format.specs.Check.{check}
-use Rattle.format.specs.Answers.{Outcome, refused, gives, outcome, extent}
+use Rattle.std.specs.Prelude.{Ok, Err}
+use Rattle.format.specs.Answers.{Outcome, outcome, extent}
 use Rattle.format.specs.Give.{give_fault}
 use Rattle.extension.specs.Add.{add_fault, new_number}
 use Rattle.decision.specs.Numbers.{parts_of, code_of, OutcomeFits}
@@ -29,16 +30,16 @@ use Rattle.mungaite.proofs.Whole.{check_whole, record_whole, add_whole, convert_
 
 fault_back : (o : Option Refusal) → FaultFits o → host_checked (fault_code o) ≡ o
 unfolding host_checked
-fault_back none h = refl
-fault_back (some f) h = simp (refused_kind f h, refused_back f h)
+fault_back None h = refl
+fault_back (Some f) h = simp (refused_kind f h, refused_back f h)
 
 pub check_read : CheckRead
 check_read l b = fault_back (check l) (check_whole l b)
 
 extent_back : (o : Outcome Extent) → OutcomeFits ExtentFits o → host_found (code_of extent_code o) ≡ o
 unfolding host_found
-extent_back (refused f) h = simp (refused_kind f h, refused_back f h)
-extent_back (gives e) h =
+extent_back (Err f) h = simp (refused_kind f h, refused_back f h)
+extent_back (Ok e) h =
     let p = parts_read 1 e.place e.length (omega arith) h.0 (omega (arith, h.1)) in
     simp (p.0, p.1, p.2)
 
@@ -47,7 +48,7 @@ unfolding record_in
 record_read l b = (
   λ s n. ap host_found (in_section s n) ∙ extent_back (outcome (give_fault l s n) (extent l s n)) ((record_whole l b).0 s n),
   λ s n h. ap host_checked (record_nowhere l s n (λ e. absurd (omega arith)) (λ e. absurd (omega arith)) (λ e. absurd (omega arith)))
-      ∙ fault_back (check l or_else some (refusal 14 0)) (record_whole l b).1,
+      ∙ fault_back (check l or_else Some (refusal 14 0)) (record_whole l b).1,
 )
   where
     in_section : (s : Section) (n : ℕ) → record_code l (section_number s) n ≡ record_in l s n
@@ -57,8 +58,8 @@ record_read l b = (
 
 number_back : (P : ℕ → Type 0) → ((n : ℕ) → P n → n < 65536) → (o : Outcome ℕ) → OutcomeFits P o → host_added (code_of (parts_of 1 0) o) ≡ o
 unfolding host_added
-number_back P small (refused f) h = simp (refused_kind f h, refused_back f h)
-number_back P small (gives n) h =
+number_back P small (Err f) h = simp (refused_kind f h, refused_back f h)
+number_back P small (Ok n) h =
     let p = parts_read 1 0 n (omega arith) (omega arith) (small n h) in
     simp (p.0, p.2)
 
@@ -73,11 +74,11 @@ convert_read l b n =
 
 run_back : (o : Outcome (Option ℕ)) → OutcomeFits RowFits o → host_run (run_code o) ≡ o
 unfolding host_run
-run_back (refused f) h = simp (refused_kind f h, refused_back f h)
-run_back (gives none) h =
+run_back (Err f) h = simp (refused_kind f h, refused_back f h)
+run_back (Ok None) h =
     let p = parts_read 1 0 0 (omega arith) (omega arith) (omega arith) in
     simp p.0
-run_back (gives (some n)) h =
+run_back (Ok (Some n)) h =
     let p = parts_read 0 0 n (omega arith) (omega arith) (omega arith) in
     simp (p.0, p.2)
 

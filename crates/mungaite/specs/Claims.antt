@@ -17,14 +17,15 @@
 --     RunRead             by a run, and in the slot of each of its rows
 --     BuildRead           by building from a text
 use Rattle.std.specs.Prelude.{ℕ, ◌+◌, ◌*◌, ◌≤◌, ◌<◌, ◌≡◌, List, length, get_or}
-use Rattle.std.proofs.Math.Option.{Option, none, some}
+use Rattle.std.specs.Prelude.{Option, None, Some}
 use Rattle.format.specs.declared.Section.{Section}
 use Rattle.format.specs.declared.Refusal.{Refusal}
 use Rattle.format.specs.declared.Extent.{Extent}
 use Rattle.format.specs.Bytes.{Bytes}
 use Rattle.format.specs.Refusals.{refusal, ◌or_else◌}
 use Rattle.format.specs.Check.{check}
-use Rattle.format.specs.Answers.{Outcome, refused, gives, outcome, extent}
+use Rattle.std.specs.Prelude.{Ok, Err}
+use Rattle.format.specs.Answers.{Outcome, outcome, extent}
 use Rattle.format.specs.Give.{give_fault}
 use Rattle.extension.specs.Add.{add_fault, new_number}
 use Rattle.decision.specs.Decide.{answer, query_of}
@@ -36,8 +37,8 @@ use Rattle.mungaite.specs.Code.{fault_code, record_code, add_code, convert_code,
 use Rattle.mungaite.specs.Host.{section_number, host_checked, host_found, host_added, host_run, host_built}
 
 abbrev pub FaultFits : Option Refusal → Type 0
-FaultFits none = Unit
-FaultFits (some f) = RefusalFits f
+FaultFits None = Unit
+FaultFits (Some f) = RefusalFits f
 
 abbrev pub ExtentFits : Extent → Type 0
 ExtentFits e = Part e.place × (e.length ≤ 130)
@@ -46,8 +47,8 @@ abbrev pub NumberFits : ℕ → Type 0
 NumberFits n = n < 1024
 
 abbrev pub RowFits : Option ℕ → Type 0
-RowFits none = Unit
-RowFits (some n) = n < 64
+RowFits None = Unit
+RowFits (Some n) = n < 64
 
 abbrev pub CheckWhole : Type 0
 CheckWhole = (l : List ℕ) → Bytes l → FaultFits (check l)
@@ -56,7 +57,7 @@ abbrev pub RecordWhole : Type 0
 RecordWhole =
     (l : List ℕ) → Bytes l
     → ((s : Section) (n : ℕ) → OutcomeFits ExtentFits (outcome (give_fault l s n) (extent l s n)))
-    × FaultFits (check l or_else some (refusal 14 0))
+    × FaultFits (check l or_else Some (refusal 14 0))
 
 abbrev pub AddWhole : Type 0
 AddWhole = (b : List ℕ) → Bytes b → (r : List ℕ) → OutcomeFits NumberFits (outcome (add_fault b r) (new_number b r))
@@ -77,7 +78,7 @@ abbrev pub RecordRead : Type 0
 RecordRead =
     (l : List ℕ) → Bytes l
     → ((s : Section) (n : ℕ) → host_found (record_code l (section_number s) n) ≡ outcome (give_fault l s n) (extent l s n))
-    × ((s n : ℕ) → 2 < s → host_checked (record_code l s n) ≡ check l or_else some (refusal 14 0))
+    × ((s n : ℕ) → 2 < s → host_checked (record_code l s n) ≡ check l or_else Some (refusal 14 0))
 
 abbrev pub AddRead : Type 0
 AddRead = (b : List ℕ) → Bytes b → (r : List ℕ) → host_added (add_code b r) ≡ outcome (add_fault b r) (new_number b r)
@@ -89,14 +90,14 @@ abbrev pub RunRead : Type 0
 RunRead =
     (l : List ℕ) → Bytes l → (ns ys : List ℕ)
     → (host_run (run_code (numbers_run l ns (length ys))) ≡ numbers_run l ns (length ys))
-    × ((i : ℕ) → numbers_fault l (length ns) (length ys) ≡ none → i < length ys
+    × ((i : ℕ) → numbers_fault l (length ns) (length ys) ≡ None → i < length ys
     → host_decision (get_or (codes_after l ns ys) i 0)
     ≡ answer l (query_of (get_or ns (6 * i) 0) (get_or ns (6 * i + 1) 0) (get_or ns (6 * i + 2) 0) (get_or ns (6 * i + 3) 0)
     (get_or ns (6 * i + 4) 0 * 65536 + get_or ns (6 * i + 5) 0)))
 
 abbrev pub BuiltFits : Outcome ℕ → Type 0
-BuiltFits (gives n) = (9 ≤ n) × (n ≤ 55561)
-BuiltFits (refused f) = (0 < f.number) × (f.number ≤ 20) × (f.place < place_span)
+BuiltFits (Ok n) = (9 ≤ n) × (n ≤ 55561)
+BuiltFits (Err f) = (0 < f.number) × (f.number ≤ 20) × (f.place < place_span)
 
 abbrev pub BuildWhole : Type 0
 BuildWhole = (text b : List ℕ) → length text < place_span → BuiltFits (built text b).answer

@@ -2,9 +2,7 @@
 #![tactic(auto)]
 
 ghost use Rattle.std.specs.Prelude.{◌≡◌};
-ghost use Rattle.decision.specs.Decide.{answer_outcome};
 ghost use Rattle.decision.specs.Numbers.{parts_of, refusal_code, nearest_code, decision_code};
-ghost use Rattle.runs.specs.Runs.{run_outcome};
 ghost use Rattle.runs.specs.Numbers.{run_code};
 
 use decision::{Answer, Nearest};
@@ -35,7 +33,7 @@ fn denied(nearest: Nearest) -> u64
 }
 
 pub fn number(answer: Answer) -> u64
-    ensures { result ≡ decision_code (answer_outcome answer) }
+    ensures { result ≡ decision_code (answer) }
 {
     match answer {
         Answer::NotPermitted(nearest) => denied(nearest),
@@ -47,7 +45,7 @@ pub fn number(answer: Answer) -> u64
 
 // Of a run: fit, the first row that is not Permitted, or the refusal.
 pub fn run_number(run: Run) -> u64
-    ensures { result ≡ run_code (run_outcome run) }
+    ensures { result ≡ run_code (run) }
 {
     match run {
         Run::Fit => parts(1, 0, 0),

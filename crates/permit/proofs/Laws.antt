@@ -8,8 +8,10 @@ use lib.Seq.{length-take-le}
 use borrow.Author.Tests.{eq-eqb, ne_eqb}
 use Rattle.format.specs.Refusals.{refusal}
 use Rattle.format.specs.Check.{Accepted}
-use Rattle.format.specs.Answers.{Outcome, refused}
-use Rattle.decision.specs.Decide.{Decision, answer}
+use Rattle.std.specs.Prelude.{Err}
+use Rattle.format.specs.Answers.{Outcome}
+use Rattle.decision.specs.declared.Decision.{Decision}
+use Rattle.decision.specs.Decide.{answer}
 use Rattle.decision.specs.Numbers.{decision_code, host_decision}
 use Rattle.decision.specs.Rows.{query_at}
 use Rattle.decision.proofs.Numbers.{accepted_read}
@@ -78,6 +80,6 @@ module _ (b : List ℕ) where
   unfolding ending
   ending_none out h = record { fits = omega arith; bytes = rw (eq-eqb (length b % 12) 0 h) refl }
 
-  pub ending_some : (out : List ℕ) (n : ℕ) → (length b % 12 ≡ 0 → ⊥) → Front out n (line (refused (refusal 15 0))) → Front out n (ending b)
+  pub ending_some : (out : List ℕ) (n : ℕ) → (length b % 12 ≡ 0 → ⊥) → Front out n (line (Err (refusal 15 0))) → Front out n (ending b)
   unfolding ending
   ending_some out n h f = rw (ne_eqb (length b % 12) 0 h) f

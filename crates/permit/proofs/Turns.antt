@@ -5,7 +5,7 @@ use mathlib.Core.Path.{◌≡◌, refl, sym, subst, ap}
 use mathlib.Core.List.{List}
 use lib.ListN.{length, take}
 use Rattle.format.specs.declared.Refusal.{Refusal}
-use Rattle.format.specs.Answers.{refused}
+use Rattle.std.specs.Prelude.{Err}
 use Rattle.lines.specs.Lines.{line, lines}
 use Rattle.lines.specs.Output.{rest_of, ending}
 use Rattle.permit.specs.declared.serve.Turn.{Turn}
@@ -49,5 +49,5 @@ module _ (l input : List ℕ) (output : List ℕ) (kept end : ℕ) (few : kept <
 pub due_turn : {g : Got} {l b input output : List ℕ} {r : Turn} → Turned g l b input output r → Due (take r.end output)
 due_turn {g} {l} {b} t = Due.turn g l b t.written.bytes
 
-pub due_fault : (f : Refusal) {s : List ℕ} → Faulty f → s ≡ line (refused f) → Due s
+pub due_fault : (f : Refusal) {s : List ℕ} → Faulty f → s ≡ line (Err f) → Due s
 due_fault f h e = Due.fault f h e

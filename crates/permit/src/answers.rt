@@ -1,7 +1,6 @@
 // The lines of whole queries, of a refusal, and of what is left of the input.
 ghost use Rattle.std.specs.Prelude.{◌*◌, ◌≤◌, length};
 ghost use Rattle.format.specs.Check.{Accepted};
-ghost use Rattle.format.specs.Answers.{refused};
 ghost use Rattle.lines.specs.Lines.{line, lines};
 ghost use Rattle.lines.specs.Output.{ending};
 ghost use Rattle.streams.specs.Put.{Front};
@@ -32,7 +31,7 @@ pub(crate) fn put_answers(
 // The line of a refusal.
 pub(crate) fn put_refusal(f: Refusal, output: &mut [u8]) -> usize
     requires { 44 ≤ length output.old }
-    ensures { Front output.new result (line (refused f)) }
+    ensures { Front output.new result (line (Err f)) }
 {
     put_pair(b'R', f.number as usize, f.place, output, 0)
 }

@@ -9,7 +9,7 @@ use Prim.Native.Nat.{ℕ, zero, suc, ◌+◌, ◌≤◌, ◌<◌}
 use native.Mathlib.Omega.{arith}
 use mathlib.Core.Path.{◌≡◌, refl, sym, subst, ap, ◌∙◌}
 use mathlib.Core.Bool.{Bool}
-use mathlib.Core.Option.{some}
+use Rattle.std.specs.Prelude.{Some, Err}
 use mathlib.Core.List.{List, ◌++◌}
 use lib.ListN.{length, get_or, take, drop, replicate}
 use Rattle.format.specs.declared.Section.TheVariants.{Groups}
@@ -24,12 +24,12 @@ use Rattle.format.specs.Refusals.{refusal}
 use Rattle.format.specs.Policy.{policy_of}
 use Rattle.format.specs.Twins.{NoTwins}
 use Rattle.format.specs.Check.{layout_fault, LaidOut}
-use Rattle.format.specs.Answers.{starts, gives}
+use Rattle.std.specs.Prelude.{Ok}
+use Rattle.format.specs.Answers.{starts, Outcome}
 use Rattle.format.proofs.ByCase.{count_groups}
 use Rattle.format.proofs.Accepted.{laid_accepted}
 use Rattle.format.proofs.Images.{laid_is_well_formed, group_count}
 use Rattle.image.proofs.SurveyLaws.{alike_slot_lem}
-use Rattle.conversion.specs.declared.Converted.TheVariants.{Length, Refused}
 use Rattle.conversion.specs.Groups.{distinct}
 use Rattle.conversion.specs.Convert.{converted_image, Converts}
 use Rattle.conversion.proofs.Groups.{distinct_apart}
@@ -79,31 +79,31 @@ all_kept l s to keep kept n w by e q =
     let d : distinct (policy_of l).groups ≡ (policy_of l).groups = sym p ∙ pick_all keep 0 (policy_of l).groups n in
     converted_bytes l by (laid_accepted l w.laid (subst NoTwins d (distinct_apart (policy_of l).groups)))
 
-pub converts_refused : (l b : List ℕ) (f : Refusal) → layout_fault l ≡ some f → Converts l b (Refused f) b
+pub converts_refused : (l b : List ℕ) (f : Refusal) → layout_fault l ≡ Some f → Converts l b (Err f) b
 converts_refused l b f e =
     let z = convert_numbers.image l (length b) f e in
     record { answer = rw z refl; buffer = sym (buffer_refused l b f z) }
 
-pub converts_short : (l b : List ℕ) → LaidOut l → length b < length (converted_image l) → Converts l b (Refused (refusal 13 0)) b
+pub converts_short : (l b : List ℕ) → LaidOut l → length b < length (converted_image l) → Converts l b (Err (refusal 13 0)) b
 converts_short l b e h =
     let z = convert_numbers.short l (length b) e h in
     record { answer = rw z refl; buffer = sym (buffer_refused l b (refusal 13 0) z) }
 
 pub converts_whole :
     (l b after : List ℕ) (n : ℕ) → LaidOut l → length (converted_image l) ≤ length b → Wrote b after 0 n (converted_image l)
-    → Converts l b (Length n) after
+    → Converts l b (Ok n) after
 unfolding put_at
 converts_whole l b after n e h w =
     let z = convert_numbers.fits l (length b) e h in
     let i : 0 + length (converted_image l) ≡ length (converted_image l) = omega arith in
     record {
-      answer = rw z (ap gives (w.next ∙ i));
+      answer = rw z (ap Ok (w.next ∙ i));
       buffer = w.bytes ∙ ap (λ (k : ℕ). converted_image l ++ drop k b) i ∙ sym (buffer_written l b z);
     }
 
 pub converts_same :
     (l b after : List ℕ) (n : ℕ) → LaidOut l → converted_image l ≡ l → length l ≤ length b → n ≡ length l
-    → after ≡ take (length l) l ++ drop (length l) b → Converts l b (Length n) after
+    → after ≡ take (length l) l ++ drop (length l) b → Converts l b (Ok n) after
 converts_same l b after n e same h k is =
     converts_whole l b after n e (rw same h) (rw same (front_put b l after n k h is))
 

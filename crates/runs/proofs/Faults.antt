@@ -9,7 +9,7 @@ use Prim.Native.Nat.{ℕ, ◌*◌, ◌/◌, ◌≤◌, ◌<◌}
 use mathlib.Core.Path.{◌≡◌, refl, ◌∙◌}
 use mathlib.Core.Bool.{Bool, true, false, ◌&&◌}
 use mathlib.Core.Logic.{◌⊎◌, inl, inr}
-use mathlib.Core.Option.{none, some}
+use Rattle.std.specs.Prelude.{None, Some}
 use mathlib.Core.List.{List}
 use native.Mathlib.Omega.{arith}
 use lib.Dec.{leb, eqb}
@@ -32,27 +32,27 @@ and_right_false a b e f = rw (e, f) refl
 -- ---- the run's own
 
 module _ (n : ℕ) (fits : Bool) where
-  pub rows_few : n < 1 → rows_fault n fits ≡ some (refusal 16 0)
+  pub rows_few : n < 1 → rows_fault n fits ≡ Some (refusal 16 0)
   unfolding rows_fault
   rows_few h = or_else_first _ (need_some _ (and_left_false (leb 1 n) (leb n 64) (lt-leb 1 n h)))
 
-  pub rows_many : 64 < n → rows_fault n fits ≡ some (refusal 16 0)
+  pub rows_many : 64 < n → rows_fault n fits ≡ Some (refusal 16 0)
   unfolding rows_fault
   rows_many h = or_else_first _ (need_some _ (and_right_false (leb 1 n) (leb n 64) (le-leb 1 n (omega arith)) (lt-leb n 64 h)))
 
   module _ (h : 1 ≤ n) (k : n ≤ 64) where
-    pub rows_slots : fits ≡ false → rows_fault n fits ≡ some (refusal 17 0)
+    pub rows_slots : fits ≡ false → rows_fault n fits ≡ Some (refusal 17 0)
     unfolding rows_fault
     rows_slots d = or_else_next _ (need_none _ (and_true (le-leb 1 n h) (le-leb n 64 k))) ∙ need_some _ d
 
-    pub rows_none : fits ≡ true → rows_fault n fits ≡ none
+    pub rows_none : fits ≡ true → rows_fault n fits ≡ None
     unfolding rows_fault
     rows_none d = or_else_none (need_none _ (and_true (le-leb 1 n h) (le-leb n 64 k))) (need_none _ d)
 
 -- ---- after the image's
 
 module _ (l : List ℕ) (n : ℕ) (fits : Bool) where
-  fault_image : (f : Refusal) → check l ≡ some f → run_fault l n fits ≡ some f
+  fault_image : (f : Refusal) → check l ≡ Some f → run_fault l n fits ≡ Some f
   unfolding run_fault
   fault_image f e = or_else_first _ e
 
@@ -60,18 +60,18 @@ module _ (l : List ℕ) (n : ℕ) (fits : Bool) where
   unfolding run_fault
   fault_own e = or_else_next _ e
 
-  pub fault_fits : run_fault l n fits ≡ none → fits ≡ true
+  pub fault_fits : run_fault l n fits ≡ None → fits ≡ true
   unfolding run_fault rows_fault
   fault_fits e = need_true _ _ (or_else_split _ _ (or_else_split _ _ e).1).1
 
-  pub fault_rows : run_fault l n fits ≡ none → n ≤ 64
+  pub fault_rows : run_fault l n fits ≡ None → n ≤ 64
   unfolding run_fault rows_fault
   fault_rows e = leb-true n 64 (both (leb 1 n) (leb n 64) (need_true _ _ (or_else_split _ _ (or_else_split _ _ e).1).0)).1
 
   abbrev Named : Refusal → Type 0
-  Named f = (check l ≡ some f) ⊎ ((f ≡ refusal 16 0) ⊎ (f ≡ refusal 17 0))
+  Named f = (check l ≡ Some f) ⊎ ((f ≡ refusal 16 0) ⊎ (f ≡ refusal 17 0))
 
-  fault_named : (f : Refusal) → run_fault l n fits ≡ some f → Named f
+  fault_named : (f : Refusal) → run_fault l n fits ≡ Some f → Named f
   unfolding run_fault rows_fault
   fault_named =
       or_else_refuses Named (check l) _ (λ f e. inl e)
@@ -83,7 +83,7 @@ pub queries_fault_lem : (l : List ℕ) (n m : ℕ) → queries_fault l n m ≡ r
 unfolding queries_fault
 queries_fault_lem l n m = refl
 
-pub same_lengths : (l : List ℕ) (n m : ℕ) → queries_fault l n m ≡ none → m ≡ n
+pub same_lengths : (l : List ℕ) (n m : ℕ) → queries_fault l n m ≡ None → m ≡ n
 unfolding queries_fault
 same_lengths l n m e = eqb-true m n (fault_fits l n (eqb m n) e)
 
@@ -91,15 +91,15 @@ pub numbers_fault_lem : (l : List ℕ) (n m : ℕ) → numbers_fault l n m ≡ r
 unfolding numbers_fault
 numbers_fault_lem l n m = refl
 
-pub numbers_named : (l : List ℕ) (n m : ℕ) (f : Refusal) → numbers_fault l n m ≡ some f → (check l ≡ some f) ⊎ ((f ≡ refusal 16 0) ⊎ (f ≡ refusal 17 0))
+pub numbers_named : (l : List ℕ) (n m : ℕ) (f : Refusal) → numbers_fault l n m ≡ Some f → (check l ≡ Some f) ⊎ ((f ≡ refusal 16 0) ⊎ (f ≡ refusal 17 0))
 unfolding numbers_fault
 numbers_named l n m f e = fault_named l (n / 6) (eqb n (6 * m)) f e
 
-pub same_count : (l : List ℕ) (n m : ℕ) → numbers_fault l n m ≡ none → n ≡ 6 * m
+pub same_count : (l : List ℕ) (n m : ℕ) → numbers_fault l n m ≡ None → n ≡ 6 * m
 unfolding numbers_fault
 same_count l n m e = eqb-true n (6 * m) (fault_fits l (n / 6) (eqb n (6 * m)) e)
 
-pub few_numbers : (l : List ℕ) (n m : ℕ) → numbers_fault l n m ≡ none → n / 6 ≤ 64
+pub few_numbers : (l : List ℕ) (n m : ℕ) → numbers_fault l n m ≡ None → n / 6 ≤ 64
 unfolding numbers_fault
 few_numbers l n m e = fault_rows l (n / 6) (eqb n (6 * m)) e
 

@@ -9,7 +9,7 @@
 use Prim.Native.Nat.{ℕ, zero, suc, ◌+◌, ◌-◌, ◌*◌, ◌/◌, ◌%◌, ◌<◌}
 use mathlib.Core.Path.{◌≡◌, refl, sym, ap, ap₂, ◌∙◌}
 use mathlib.Core.Bool.{Bool, true, false}
-use mathlib.Core.Option.{Option, none, some}
+use Rattle.std.specs.Prelude.{Option, None, Some}
 use mathlib.Core.List.{List, [], ◌∷◌, map}
 use native.Mathlib.Nat.{not-suc-le-zero, le_of_suc-le-suc}
 use native.Mathlib.Omega.{arith}
@@ -134,11 +134,11 @@ numbers_left l ns ys = (
 )
   where
     many : (f : Option Refusal) → numbers_fault l (length ns) (length ys) ≡ f → length (codes_after l ns ys) ≡ length ys
-    many none e =
+    many None e =
         let k = same_count l (length ns) (length ys) e in
         let m = length-map (rows_of ns) (row_code l) in
         ap length (unless_accepted (map (row_code l) (rows_of ns)) ys e) ∙ omega (arith, m, rows_many ns, k)
-    many (some f) e = ap length (unless_refused_lem (map (row_code l) (rows_of ns)) ys e)
+    many (Some f) e = ap length (unless_refused_lem (map (row_code l) (rows_of ns)) ys e)
 
 pub numbers_answered : NumbersAnswered
 unfolding codes_after row_code
@@ -155,5 +155,5 @@ module _ (l ns : List ℕ) where
   numbers_run_is m = refl
 
   -- the row that comes back is one of at most 64
-  pub row_below : (m n : ℕ) → numbers_fault l (length ns) m ≡ none → first_unfit l (rows_of ns) ≡ some n → n < 64
+  pub row_below : (m n : ℕ) → numbers_fault l (length ns) m ≡ None → first_unfit l (rows_of ns) ≡ Some n → n < 64
   row_below m n e k = omega (arith, (first_unfit_lem l (rows_of ns) (query_of 0 0 0 0 0) n k).0, few_numbers l (length ns) m e, rows_many ns)

@@ -14,17 +14,19 @@
 --     NumberCase, calls, number_cases, number_of, codes_of, NumberCases   over numbers, as C calls it: a number each; all rules
 --                                off is 0, no rules 65535
 use Rattle.std.specs.Prelude.{ℕ, ◌≡◌, List, [], ◌∷◌, ◌++◌, map, length, take, set, replicate}
-use Rattle.std.proofs.Math.Option.{Option, none, some}
+use Rattle.std.specs.Prelude.{Option, None, Some}
 use Rattle.format.specs.Refusals.{refusal}
-use Rattle.format.specs.Answers.{Outcome, refused, gives}
+use Rattle.std.specs.Prelude.{Ok, Err}
+use Rattle.format.specs.Answers.{Outcome}
 use Rattle.format.specs.Sample.{sample, empty}
 use Rattle.decision.specs.declared.Query.{Query}
-use Rattle.decision.specs.declared.Nearest.TheVariants.{NoRules, Near}
-use Rattle.decision.specs.Decide.{Decision, not_permitted, permitted, unknown, answer_outcome, query_of}
+use Rattle.decision.specs.declared.Decision.{Decision}
+use Rattle.decision.specs.declared.Decision.TheVariants.{NotPermitted, Permitted, UnKnown}
+use Rattle.decision.specs.Decide.{query_of, near}
 use Rattle.decision.specs.Cases.{g0, allow, extended}
 use Rattle.decision.specs.Steps.{off}
 use Rattle.decision.specs.Switches.{allow_if, sample_if}
-use Rattle.runs.specs.Runs.{run_of, answer_of, answers_after}
+use Rattle.runs.specs.Runs.{run_of, answers_after}
 use Rattle.runs.specs.Numbers.{numbers_run, codes_after, run_code}
 
 -- Permitted by rules 0, 0, 2 and 1; NotPermitted, with 1 step and with 4; refused with 8, and with 9
@@ -64,20 +66,20 @@ abbrev Said : Type 0
 Said = Outcome Decision
 
 abbrev pub P : ℕ → Said
-P r = gives (permitted r)
+P r = Ok (Permitted r)
 
 abbrev pub N : ℕ → ℕ → Said
-N s r = gives (not_permitted (Near s r))
+N s r = Ok (NotPermitted (Some (near s r)))
 
 abbrev pub R8 : Said
-R8 = refused (refusal 8 0)
+R8 = Err (refusal 8 0)
 
 abbrev pub R9 : Said
-R9 = refused (refusal 9 0)
+R9 = Err (refusal 9 0)
 
 -- what slots hold before: UnKnown, rule 1,000 and constraint 200, which the sample has not
 abbrev pub blank : ℕ → List Said
-blank n = replicate n (gives (unknown 1000 200))
+blank n = replicate n (Ok (UnKnown 1000 200))
 
 pub record RunCase : Type 0 where
   pub image : List ℕ
@@ -91,44 +93,44 @@ asks l qs n o s = record { image = l; rows = qs; slots = blank n; comes = o; say
 
 unfoldable pub run_cases : List RunCase
 run_cases =
-    asks sample (member ∷ group ∷ transition ∷ []) 3 (gives none) (P 0 ∷ P 0 ∷ P 2 ∷ [])
-    ∷ asks sample (separated ∷ []) 1 (gives none) (P 1 ∷ [])
-    ∷ asks sample (off_rule ∷ []) 1 (gives (some 0)) (N 1 0 ∷ [])
-    ∷ asks sample (off_rule ∷ member ∷ off_rule ∷ []) 3 (gives (some 0)) (N 1 0 ∷ P 0 ∷ N 1 0 ∷ [])
-    ∷ asks sample (member ∷ off_rule ∷ transition ∷ []) 3 (gives (some 1)) (P 0 ∷ N 1 0 ∷ P 2 ∷ [])
-    ∷ asks sample (member ∷ transition ∷ off_rule ∷ []) 3 (gives (some 2)) (P 0 ∷ P 2 ∷ N 1 0 ∷ [])
-    ∷ asks sample (member ∷ no_source ∷ transition ∷ off_rule ∷ []) 4 (gives (some 1)) (P 0 ∷ R8 ∷ P 2 ∷ N 1 0 ∷ [])
-    ∷ asks sample (other_action ∷ off_rule ∷ member ∷ other_action ∷ []) 4 (gives (some 0)) (N 4 0 ∷ N 1 0 ∷ P 0 ∷ N 4 0 ∷ [])
-    ∷ asks empty (member ∷ []) 1 (gives (some 0)) (gives (not_permitted NoRules) ∷ [])
-    ∷ asks sample (member ∷ group ∷ no_source ∷ []) 3 (gives (some 2)) (P 0 ∷ P 0 ∷ R8 ∷ [])
-    ∷ asks sample (no_dest ∷ []) 1 (gives (some 0)) (R9 ∷ [])
-    ∷ asks (extended sample (allow 10 30 5 3)) (member ∷ separated ∷ transition ∷ []) 3 (gives (some 1)) (P 0 ∷ gives (unknown 1 1) ∷ P 2 ∷ [])
+    asks sample (member ∷ group ∷ transition ∷ []) 3 (Ok None) (P 0 ∷ P 0 ∷ P 2 ∷ [])
+    ∷ asks sample (separated ∷ []) 1 (Ok None) (P 1 ∷ [])
+    ∷ asks sample (off_rule ∷ []) 1 (Ok (Some 0)) (N 1 0 ∷ [])
+    ∷ asks sample (off_rule ∷ member ∷ off_rule ∷ []) 3 (Ok (Some 0)) (N 1 0 ∷ P 0 ∷ N 1 0 ∷ [])
+    ∷ asks sample (member ∷ off_rule ∷ transition ∷ []) 3 (Ok (Some 1)) (P 0 ∷ N 1 0 ∷ P 2 ∷ [])
+    ∷ asks sample (member ∷ transition ∷ off_rule ∷ []) 3 (Ok (Some 2)) (P 0 ∷ P 2 ∷ N 1 0 ∷ [])
+    ∷ asks sample (member ∷ no_source ∷ transition ∷ off_rule ∷ []) 4 (Ok (Some 1)) (P 0 ∷ R8 ∷ P 2 ∷ N 1 0 ∷ [])
+    ∷ asks sample (other_action ∷ off_rule ∷ member ∷ other_action ∷ []) 4 (Ok (Some 0)) (N 4 0 ∷ N 1 0 ∷ P 0 ∷ N 4 0 ∷ [])
+    ∷ asks empty (member ∷ []) 1 (Ok (Some 0)) (Ok (NotPermitted None) ∷ [])
+    ∷ asks sample (member ∷ group ∷ no_source ∷ []) 3 (Ok (Some 2)) (P 0 ∷ P 0 ∷ R8 ∷ [])
+    ∷ asks sample (no_dest ∷ []) 1 (Ok (Some 0)) (R9 ∷ [])
+    ∷ asks (extended sample (allow 10 30 5 3)) (member ∷ separated ∷ transition ∷ []) 3 (Ok (Some 1)) (P 0 ∷ Ok (UnKnown 1 1) ∷ P 2 ∷ [])
     -- each row under its own word: rule 3 by switch 0; and a separation that a rule of switch 5 breaks, found again for each word
-    ∷ asks (sample_if 2) (waiting 1 ∷ waiting 0 ∷ waiting 0xFFFFFFFF ∷ waiting 0xFFFFFFFE ∷ []) 4 (gives (some 1)) (P 3 ∷ N 1 0 ∷ P 3 ∷ N 1 0 ∷ [])
-    ∷ asks (extended sample (allow_if 7 (allow 10 30 5 3))) (apart 31 ∷ apart 32 ∷ apart 31 ∷ apart 0 ∷ []) 4 (gives (some 1))
-    (P 1 ∷ gives (unknown 1 1) ∷ P 1 ∷ P 1 ∷ [])
-    ∷ asks sample (replicate 64 transition) 64 (gives none) (replicate 64 (P 2))
-    ∷ asks sample (replicate 63 transition ++ (off_rule ∷ [])) 64 (gives (some 63)) (replicate 63 (P 2) ++ (N 1 0 ∷ []))
-    ∷ asks sample (replicate 65 transition) 65 (refused (refusal 16 0)) (blank 65)
-    ∷ asks sample [] 0 (refused (refusal 16 0)) []
-    ∷ asks sample [] 2 (refused (refusal 16 0)) (blank 2)
-    ∷ asks sample (replicate 65 transition) 1 (refused (refusal 16 0)) (blank 1)
-    ∷ asks sample (member ∷ transition ∷ []) 1 (refused (refusal 17 0)) (blank 1)
-    ∷ asks sample (member ∷ transition ∷ []) 3 (refused (refusal 17 0)) (blank 3)
-    ∷ asks sample (replicate 64 transition) 63 (refused (refusal 17 0)) (blank 63)
-    ∷ asks sample (replicate 64 transition) 65 (refused (refusal 17 0)) (blank 65)
-    ∷ asks sample (member ∷ []) 0 (refused (refusal 17 0)) []
-    ∷ asks (take 79 sample) (member ∷ []) 1 (refused (refusal 3 0)) (blank 1)
-    ∷ asks (take 79 (set sample 2 79)) (member ∷ []) 1 (refused (refusal 5 69)) (blank 1)
-    ∷ asks (take 79 sample) [] 1 (refused (refusal 3 0)) (blank 1)
-    ∷ asks (take 79 sample) (member ∷ []) 2 (refused (refusal 3 0)) (blank 2)
+    ∷ asks (sample_if 2) (waiting 1 ∷ waiting 0 ∷ waiting 0xFFFFFFFF ∷ waiting 0xFFFFFFFE ∷ []) 4 (Ok (Some 1)) (P 3 ∷ N 1 0 ∷ P 3 ∷ N 1 0 ∷ [])
+    ∷ asks (extended sample (allow_if 7 (allow 10 30 5 3))) (apart 31 ∷ apart 32 ∷ apart 31 ∷ apart 0 ∷ []) 4 (Ok (Some 1))
+    (P 1 ∷ Ok (UnKnown 1 1) ∷ P 1 ∷ P 1 ∷ [])
+    ∷ asks sample (replicate 64 transition) 64 (Ok None) (replicate 64 (P 2))
+    ∷ asks sample (replicate 63 transition ++ (off_rule ∷ [])) 64 (Ok (Some 63)) (replicate 63 (P 2) ++ (N 1 0 ∷ []))
+    ∷ asks sample (replicate 65 transition) 65 (Err (refusal 16 0)) (blank 65)
+    ∷ asks sample [] 0 (Err (refusal 16 0)) []
+    ∷ asks sample [] 2 (Err (refusal 16 0)) (blank 2)
+    ∷ asks sample (replicate 65 transition) 1 (Err (refusal 16 0)) (blank 1)
+    ∷ asks sample (member ∷ transition ∷ []) 1 (Err (refusal 17 0)) (blank 1)
+    ∷ asks sample (member ∷ transition ∷ []) 3 (Err (refusal 17 0)) (blank 3)
+    ∷ asks sample (replicate 64 transition) 63 (Err (refusal 17 0)) (blank 63)
+    ∷ asks sample (replicate 64 transition) 65 (Err (refusal 17 0)) (blank 65)
+    ∷ asks sample (member ∷ []) 0 (Err (refusal 17 0)) []
+    ∷ asks (take 79 sample) (member ∷ []) 1 (Err (refusal 3 0)) (blank 1)
+    ∷ asks (take 79 (set sample 2 79)) (member ∷ []) 1 (Err (refusal 5 69)) (blank 1)
+    ∷ asks (take 79 sample) [] 1 (Err (refusal 3 0)) (blank 1)
+    ∷ asks (take 79 sample) (member ∷ []) 2 (Err (refusal 3 0)) (blank 2)
     ∷ []
 
 unfoldable pub comes_of : RunCase → Outcome (Option ℕ)
 comes_of c = run_of c.image c.rows (length c.slots)
 
 unfoldable pub says_of : RunCase → List Said
-says_of c = map answer_outcome (answers_after c.image c.rows (map answer_of c.slots))
+says_of c = answers_after c.image c.rows c.slots
 
 pub record RunCases : Type 0 where
   pub come : map comes_of run_cases ≡ map (λ c. c.comes) run_cases

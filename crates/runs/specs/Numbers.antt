@@ -10,7 +10,7 @@
 --     row_found o           0, 1, 0, 0 where no row is found, which is fit; 0, 0, 0, row where one is
 --     run_code o            what a run comes to, as a number: that, or the refusal
 use Rattle.std.specs.Prelude.{ℕ, ◌+◌, ◌*◌, ◌/◌, ◌%◌, List, [], ◌∷◌, map, length, eqb}
-use Rattle.std.proofs.Math.Option.{Option, none, some}
+use Rattle.std.specs.Prelude.{Option, None, Some}
 use Rattle.format.specs.declared.Refusal.{Refusal}
 use Rattle.format.specs.Refusals.{unless_refused}
 use Rattle.format.specs.Answers.{Outcome, outcome}
@@ -48,8 +48,8 @@ unfoldable pub codes_after : List ℕ → List ℕ → List ℕ → List ℕ
 codes_after l ns ys = unless_refused (numbers_fault l (length ns) (length ys)) (map (row_code l) (rows_of ns)) ys
 
 abbrev pub row_found : Option ℕ → ℕ
-row_found none = parts_of 1 0 0
-row_found (some n) = parts_of 0 0 n
+row_found None = parts_of 1 0 0
+row_found (Some n) = parts_of 0 0 n
 
 abbrev pub run_code : Outcome (Option ℕ) → ℕ
 run_code = code_of row_found

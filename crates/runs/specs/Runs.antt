@@ -1,4 +1,5 @@
 -- A run: 1 to 64 rows, each a query, on one policy (document 02, request 1: "Whole formulas on the pipetting arm").
+--     Run                    what a run comes to: the first row that is not Permitted, or none, which is fit; or the refusal
 --     rows_fault n fits      16 unless there are 1 to 64 rows, then 17 unless the answers' list fits
 --     run_fault l n fits     the image's refusals, 1 to 7, before them
 --     queries_fault l n m    the same, of n rows with m slots for answers
@@ -6,22 +7,22 @@
 --     unfit l q             a row is not Permitted: NotPermitted, UnKnown or refused
 --     first_unfit l qs       the number, counted from 0, of the first row that is not
 --     run_of l qs m          what a run with m slots comes to: the first row that is not Permitted, or none, which is fit; or the refusal
---     answer_of o            the `Answer` that says what a query is answered
 --     row_answer l q         a row's answer: what the single query would get, a refusal included
 --     answers_after l qs ys  the slots afterwards: each row's answer, and where the call is refused as they were
---     run_outcome r          what a `Run` says
 use Rattle.std.specs.Prelude.{ℕ, Bool, true, false, not, ◌&&◌, List, map, length, leb, eqb}
-use Rattle.std.proofs.Math.Option.{Option, none, some}
+use Rattle.std.specs.Prelude.{Option, None, Some}
 use Rattle.format.specs.declared.Refusal.{Refusal}
 use Rattle.format.specs.Refusals.{refusal, need, ◌or_else◌, unless_refused}
 use Rattle.format.specs.Check.{check}
-use Rattle.format.specs.Answers.{Outcome, refused, gives, outcome}
+use Rattle.std.specs.Prelude.{Ok, Err}
+use Rattle.format.specs.Answers.{Outcome, outcome}
 use Rattle.decision.specs.declared.Query.{Query}
-use Rattle.decision.specs.declared.Answer.{Answer}
-use Rattle.decision.specs.declared.Answer.TheVariants as answers
-use Rattle.decision.specs.Decide.{Decision, not_permitted, permitted, unknown, first_at, answer}
-use Rattle.runs.specs.declared.Run.{Run}
-use Rattle.runs.specs.declared.Run.TheVariants.{Fit, Unfit, Refused}
+use Rattle.decision.specs.declared.Decision.{Decision}
+use Rattle.decision.specs.declared.Decision.TheVariants.{NotPermitted, Permitted, UnKnown}
+use Rattle.decision.specs.Decide.{first_at, answer}
+
+abbrev pub Run : Type 0
+Run = Outcome (Option ℕ)
 
 unfoldable pub rows_fault : ℕ → Bool → Option Refusal
 rows_fault rows fits = need (leb 1 rows && leb rows 64) (refusal 16 0) or_else need fits (refusal 17 0)
@@ -33,10 +34,10 @@ unfoldable pub queries_fault : List ℕ → ℕ → ℕ → Option Refusal
 queries_fault l rows slots = run_fault l rows (eqb slots rows)
 
 abbrev pub is_permitted : Outcome Decision → Bool
-is_permitted (gives (not_permitted x)) = false
-is_permitted (gives (permitted r)) = true
-is_permitted (gives (unknown r c)) = false
-is_permitted (refused f) = false
+is_permitted (Ok (NotPermitted x)) = false
+is_permitted (Ok (Permitted r)) = true
+is_permitted (Ok (UnKnown r c)) = false
+is_permitted (Err f) = false
 
 unfoldable pub unfit : List ℕ → Query → Bool
 unfit l q = not (is_permitted (answer l q))
@@ -44,22 +45,11 @@ unfit l q = not (is_permitted (answer l q))
 unfoldable pub first_unfit : List ℕ → List Query → Option ℕ
 first_unfit l qs = first_at (unfit l) 0 qs
 
-unfoldable pub run_of : List ℕ → List Query → ℕ → Outcome (Option ℕ)
+unfoldable pub run_of : List ℕ → List Query → ℕ → Run
 run_of l qs slots = outcome (queries_fault l (length qs) slots) (first_unfit l qs)
 
-abbrev pub answer_of : Outcome Decision → Answer
-answer_of (gives (not_permitted x)) = answers.NotPermitted x
-answer_of (gives (permitted r)) = answers.Permitted r
-answer_of (gives (unknown r c)) = answers.UnKnown r c
-answer_of (refused f) = answers.Refused f
+unfoldable pub row_answer : List ℕ → Query → Outcome Decision
+row_answer l q = answer l q
 
-unfoldable pub row_answer : List ℕ → Query → Answer
-row_answer l q = answer_of (answer l q)
-
-unfoldable pub answers_after : List ℕ → List Query → List Answer → List Answer
+unfoldable pub answers_after : List ℕ → List Query → List (Outcome Decision) → List (Outcome Decision)
 answers_after l qs ys = unless_refused (queries_fault l (length qs) (length ys)) (map (row_answer l) qs) ys
-
-abbrev pub run_outcome : Run → Outcome (Option ℕ)
-run_outcome Fit = gives none
-run_outcome (Unfit n) = gives (some n)
-run_outcome (Refused f) = refused f

@@ -3,10 +3,5 @@
 
 use format::Refusal;
 
-// What a run of queries comes to: every row is Permitted, or the number of the first that is not, or the call is refused.
-#[derive(Clone, Copy)]
-pub enum Run {
-    Fit,
-    Unfit(usize),
-    Refused(Refusal),
-}
+// What a run of queries comes to: the number of the first row that is not Permitted, if there is one; or the call is refused.
+pub type Run = Result<Option<usize>, Refusal>;

@@ -15,8 +15,8 @@ use Rattle.streams.proofs.Puts.{placed_one, placed_then, taken_placed}
 pub rest_none : (l : List ℕ) (from : ℕ) → l ≡ placed 0 (drop from (take (from + 0) l)) l
 unfolding placed
 rest_none l from =
-    let none : from ≡ from + 0 = omega arith in
-    ap (λ s. placed 0 s l) (sym (slice_empty from l) ∙ ap (λ i. drop from (take i l)) none)
+    let None : from ≡ from + 0 = omega arith in
+    ap (λ s. placed 0 s l) (sym (slice_empty from l) ∙ ap (λ i. drop from (take i l)) None)
 
 -- behind the bytes that were put, nothing is touched
 rest_ahead : (s l : List ℕ) (i : ℕ) → length s ≤ i → get_or (placed 0 s l) i 0 ≡ get_or l i 0

@@ -6,7 +6,7 @@
 use Prim.Native.Nat.{ℕ, suc, ◌+◌, ◌≤◌, ◌<◌}
 use mathlib.Core.Path.{◌≡◌, refl, sym, subst, ap, ◌∙◌}
 use mathlib.Core.Bool.{true, ◌||◌}
-use mathlib.Core.Option.{Option, none, some}
+use Rattle.std.specs.Prelude.{Option, None, Some}
 use mathlib.Core.List.{List, [], ◌∷◌, ◌++◌}
 use native.Mathlib.Omega.{arith}
 use lib.ListN.{length}
@@ -16,7 +16,8 @@ use Rattle.format.specs.Bytes.{word_at}
 use Rattle.format.specs.Refusals.{refusal}
 use Rattle.format.specs.Format.{shape_ok}
 use Rattle.format.specs.Check.{check_front}
-use Rattle.format.specs.Answers.{Outcome, refused, gives}
+use Rattle.std.specs.Prelude.{Ok, Err}
+use Rattle.format.specs.Answers.{Outcome}
 use Rattle.format.specs.Sample.{empty}
 use Rattle.format.proofs.Chain.{some_not_none}
 use Rattle.format.specs.Policy.{image_of}
@@ -60,7 +61,7 @@ built_accepted text b h = leaves b (built text b).buffer (built_imaged text b h)
 
 record RowsAdded (rows : List (List ℕ)) (at : ℕ) (b : List ℕ) : Type 0 where
   records : List (List ℕ)
-  from_rows : records_in rows ≡ some records
+  from_rows : records_in rows ≡ Some records
   none_refused : all_added b records
   buffer : (rows_from at rows b).buffer ≡ add_all b records
   count : record_count (rows_from at rows b).buffer ≡ record_count b + length records
@@ -83,7 +84,7 @@ module _ (b₀ : List ℕ) where
       }
 
   rows_added_lem :
-      (rows : List (List ℕ)) (at n : ℕ) (b : List ℕ) → Imaged b₀ b → (rows_from at rows b).answer ≡ gives n → RowsAdded rows at b
+      (rows : List (List ℕ)) (at n : ℕ) (b : List ℕ) → Imaged b₀ b → (rows_from at rows b).answer ≡ Ok n → RowsAdded rows at b
   unfolding rows_from records_in all_added row_fault after_row onward
   rows_added_lem [] at n b k e = record { records = []; from_rows = refl; none_refused = tt; buffer = sym (add_all_none b); count = omega arith }
   rows_added_lem ([] ∷ rows) at n b k e =
@@ -105,7 +106,7 @@ each_row_added text b n e =
     let q = built_long text b h in
     let m = rows_added_lem b (split 10 text) 0 n (overwrite empty b) (imaged_empty b h) (sym (ap answer_of q) ∙ e) in
     let k = built_imaged text b h in
-    let w : gives n ≡ gives (word_at (built text b).buffer 1) = sym e ∙ ap answer_of (built_complete text b n e) in
+    let w : Ok n ≡ Ok (word_at (built text b).buffer 1) = sym e ∙ ap answer_of (built_complete text b n e) in
     let i : n ≡ word_at (built text b).buffer 1 = cc in
     record {
       records = m.records;
@@ -119,7 +120,7 @@ each_row_added text b n e =
 -- ---- the last row
 
 last_row :
-    (b₀ : List ℕ) (at : ℕ) (row b : List ℕ) (n : ℕ) → Imaged b₀ b → 0 < length row → (rows_from at (row ∷ []) b).answer ≡ gives n
+    (b₀ : List ℕ) (at : ℕ) (row b : List ℕ) (n : ℕ) → Imaged b₀ b → 0 < length row → (rows_from at (row ∷ []) b).answer ≡ Ok n
     → record_count (rows_from at (row ∷ []) b).buffer ≡ suc (record_count b)
 unfolding rows_from
 last_row b₀ at row b n k h e =
@@ -142,10 +143,10 @@ module _ (row b : List ℕ) (alone : split 10 row ≡ row ∷ []) (some_bytes : 
       ∙ last_row b 0 row w n (imaged_empty b h) some_bytes (sym (ap answer_of q) ∙ e)
       ∙ ap (λ (x : Made). suc (record_count x.buffer)) (sym z))
 
-  row_behind : (text : List ℕ) (n : ℕ) → (built (text ++ (10 ∷ row)) b).answer ≡ gives n → 9 ≤ length b → (o : Outcome ℕ) → (built text b).answer ≡ o
+  row_behind : (text : List ℕ) (n : ℕ) → (built (text ++ (10 ∷ row)) b).answer ≡ Ok n → 9 ≤ length b → (o : Outcome ℕ) → (built text b).answer ≡ o
       → record_count (built (text ++ (10 ∷ row)) b).buffer ≡ suc (record_count (built text b).buffer)
-  row_behind text n e h (refused f) k = gives_not_refused (sym e ∙ ap answer_of (refused_stops text row b f k) ∙ k)
-  row_behind text n e h (gives m) k =
+  row_behind text n e h (Err f) k = gives_not_refused (sym e ∙ ap answer_of (refused_stops text row b f k) ∙ k)
+  row_behind text n e h (Ok m) k =
       let w : List ℕ = (built text b).buffer in
       let q : built (text ++ (10 ∷ row)) b ≡ rows_from (suc (length text)) (row ∷ []) w =
       next_rows text row b m k ∙ ap (λ (x : List (List ℕ)). rows_from (suc (length text)) x w) alone in
@@ -165,37 +166,37 @@ last_row_counts row b alone some_bytes = (only_row row b alone some_bytes, behin
 abbrev pub OwnNumber : ℕ → Type 0
 OwnNumber n = (eqb n 11 || eqb n 12 || eqb n 13 || eqb n 18 || eqb n 20) ≡ true
 
-add_number : (b r : List ℕ) → check_front b ≡ none → shape_ok r ≡ true → (f : Refusal) → add_fault b r ≡ some f → OwnNumber f.number
+add_number : (b r : List ℕ) → check_front b ≡ None → shape_ok r ≡ true → (f : Refusal) → add_fault b r ≡ Some f → OwnNumber f.number
 add_number b r ok shape f e = formed_refused b r ok OwnNumber refl refl refl refl shape f e
 
 moved_number :
-    (at : ℕ) (o : Option Refusal) (f : Refusal) → ((g : Refusal) → o ≡ some g → OwnNumber g.number) → moved_to at o ≡ some f
+    (at : ℕ) (o : Option Refusal) (f : Refusal) → ((g : Refusal) → o ≡ Some g → OwnNumber g.number) → moved_to at o ≡ Some f
     → OwnNumber f.number
 unfolding moved_to
-moved_number at none f h e = some_not_none (sym e)
-moved_number at (some g) f h e = let z : refusal g.number at ≡ f = cc in subst (λ (x : Refusal). OwnNumber x.number) z (h g refl)
+moved_number at None f h e = some_not_none (sym e)
+moved_number at (Some g) f h e = let z : refusal g.number at ≡ f = cc in subst (λ (x : Refusal). OwnNumber x.number) z (h g refl)
 
-pub row_numbers : (at : ℕ) (row b : List ℕ) (f : Refusal) → check_front b ≡ none → row_fault at row b ≡ some f → OwnNumber f.number
+pub row_numbers : (at : ℕ) (row b : List ℕ) (f : Refusal) → check_front b ≡ None → row_fault at row b ≡ Some f → OwnNumber f.number
 unfolding record_fault
 row_numbers at row b f ok e = step (record_of_row row) refl where
   step : (o : Option (List ℕ)) → record_of_row row ≡ o → OwnNumber f.number
-  step none k =
-      let q = (row_record at row b none (row_fault_some at row b f e) k).0 in
-      let z : refusal 18 at ≡ f = (let y : some (refusal 18 at) ≡ some f = sym q ∙ e in cc) in
+  step None k =
+      let q = (row_record at row b None (row_fault_some at row b f e) k).0 in
+      let z : refusal 18 at ≡ f = (let y : Some (refusal 18 at) ≡ Some f = sym q ∙ e in cc) in
       subst (λ (x : Refusal). OwnNumber x.number) z refl
-  step (some r) k =
-      let q = (row_record at row b (some r) (row_fault_some at row b f e) k).0 in
+  step (Some r) k =
+      let q = (row_record at row b (Some r) (row_fault_some at row b f e) k).0 in
       moved_number at (add_fault b r) f (add_number b r ok (record_shape row r k)) (sym q ∙ e)
 
 module _ (b₀ : List ℕ) where
-  rows_numbers : (rows : List (List ℕ)) (at : ℕ) (b : List ℕ) (f : Refusal) → Imaged b₀ b → (rows_from at rows b).answer ≡ refused f → OwnNumber f.number
+  rows_numbers : (rows : List (List ℕ)) (at : ℕ) (b : List ℕ) (f : Refusal) → Imaged b₀ b → (rows_from at rows b).answer ≡ Err f → OwnNumber f.number
   unfolding rows_from
   rows_numbers [] at b f k e = gives_not_refused e
   rows_numbers (row ∷ rows) at b f k e =
       rows_first at row rows b
       (λ h q. rows_numbers rows (at + suc (length row)) (after_row row b) f (imaged_row b₀ row b k) (sym (ap answer_of q) ∙ e))
       (λ g h q.
-      let y : refused g ≡ refused f = sym (ap answer_of q) ∙ e in
+      let y : Err g ≡ Err f = sym (ap answer_of q) ∙ e in
       let z : g ≡ f = cc in
       subst (λ (x : Refusal). OwnNumber x.number) z (row_numbers at row b g (imaged_accepted b₀ b k) h))
 
@@ -203,7 +204,7 @@ pub own_numbers : OwnNumbers
 own_numbers text b f e =
     by_length b
     (λ h.
-    let y : refused (refusal 13 0) ≡ refused f = sym (ap answer_of (refused_short text b h)) ∙ e in
+    let y : Err (refusal 13 0) ≡ Err f = sym (ap answer_of (refused_short text b h)) ∙ e in
     let z : refusal 13 0 ≡ f = cc in
     subst (λ (x : Refusal). OwnNumber x.number) z refl)
     (λ h. rows_numbers b (split 10 text) 0 (overwrite empty b) f (imaged_empty b h) (sym (ap answer_of (built_long text b h)) ∙ e))

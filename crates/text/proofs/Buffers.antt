@@ -9,7 +9,7 @@
 use Prim.Native.Nat.{ℕ, suc, ◌+◌, ◌≤◌, ◌<◌}
 use mathlib.Core.Path.{◌≡◌, refl, sym, subst, ap, ◌∙◌}
 use mathlib.Core.Bool.{false}
-use mathlib.Core.Option.{Option, none, some}
+use Rattle.std.specs.Prelude.{Option, None, Some}
 use mathlib.Core.List.{List, [], ◌∷◌, ◌++◌}
 use native.Mathlib.Omega.{arith}
 use lib.ListN.{length, get_or, drop, length-append, length-drop}
@@ -60,7 +60,7 @@ module _ (b₀ b : List ℕ) (k : Imaged b₀ b) where
   unfolding i
   passes = image_accepted k.policy k.sound
 
-  pub imaged_accepted : check_front b ≡ none
+  pub imaged_accepted : check_front b ≡ None
   unfolding i t
   imaged_accepted = ap check_front k.image ∙ front_of i t passes
 
@@ -103,7 +103,7 @@ module _ (b₀ b : List ℕ) (k : Imaged b₀ b) where
   imaged_count = ap (λ (p : Policy). length (all_records p)) imaged_policy
 
 -- where it holds first
-pub imaged_front : (b : List ℕ) → check_front b ≡ none → Bytes b → Imaged b b
+pub imaged_front : (b : List ℕ) → check_front b ≡ None → Bytes b → Imaged b b
 imaged_front b e by =
     let a = front_accepted b e in
     let h = front_bytes b e by in
@@ -135,7 +135,7 @@ pub record OneAdded (b₀ b r : List ℕ) : Type 0 where
   pub image : Imaged b₀ (buffer_after b r)
   pub count : record_count (buffer_after b r) ≡ suc (record_count b)
 
-pub add_one : (b₀ b r : List ℕ) → Imaged b₀ b → Bytes r → add_fault b r ≡ none → OneAdded b₀ b r
+pub add_one : (b₀ b r : List ℕ) → Imaged b₀ b → Bytes r → add_fault b r ≡ None → OneAdded b₀ b r
 add_one b₀ b r k by e =
     let own = add_own b r e in
     let s : Section = section_of (get_or r 1 0) in
@@ -163,16 +163,16 @@ module _ (b₀ : List ℕ) where
   imaged_add : (b r : List ℕ) → Imaged b₀ b → Bytes r → Imaged b₀ (buffer_after b r)
   imaged_add b r k by = step (add_fault b r) refl where
     step : (o : Option Refusal) → add_fault b r ≡ o → Imaged b₀ (buffer_after b r)
-    step none e = (add_one b₀ b r k by e).image
-    step (some f) e = subst (Imaged b₀) (sym (buffer_refused b r f e)) k
+    step None e = (add_one b₀ b r k by e).image
+    step (Some f) e = subst (Imaged b₀) (sym (buffer_refused b r f e)) k
 
   pub imaged_row : (row b : List ℕ) → Imaged b₀ b → Imaged b₀ (after_row row b)
   unfolding after_row after_record
   imaged_row [] b k = k
   imaged_row (c ∷ row) b k = step (record_of_row (c ∷ row)) (record_bytes (c ∷ row)) where
-    step : (o : Option (List ℕ)) → ((r : List ℕ) → o ≡ some r → Bytes r) → Imaged b₀ (after_record o b)
-    step none f = k
-    step (some r) f = imaged_add b r k (f r refl)
+    step : (o : Option (List ℕ)) → ((r : List ℕ) → o ≡ Some r → Bytes r) → Imaged b₀ (after_record o b)
+    step None f = k
+    step (Some r) f = imaged_add b r k (f r refl)
 
   pub imaged_rows : (rows : List (List ℕ)) (at : ℕ) (b : List ℕ) → Imaged b₀ b → Imaged b₀ (rows_from at rows b).buffer
   unfolding rows_from
@@ -185,8 +185,8 @@ module _ (b₀ : List ℕ) where
 -- ---- an accepted front of bytes
 
 pub rows_accepted :
-    (b : List ℕ) → check_front b ≡ none → Bytes b → (at : ℕ) (rows : List (List ℕ))
-    → (check_front (rows_from at rows b).buffer ≡ none) × Bytes (rows_from at rows b).buffer × (length (rows_from at rows b).buffer ≡ length b)
+    (b : List ℕ) → check_front b ≡ None → Bytes b → (at : ℕ) (rows : List (List ℕ))
+    → (check_front (rows_from at rows b).buffer ≡ None) × Bytes (rows_from at rows b).buffer × (length (rows_from at rows b).buffer ≡ length b)
 rows_accepted b e by at rows =
     let after : List ℕ = (rows_from at rows b).buffer in
     let k = imaged_rows b rows at b (imaged_front b e by) in

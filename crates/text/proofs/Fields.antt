@@ -8,7 +8,7 @@
 use Prim.Native.Nat.{ℕ, zero, suc, ◌+◌, ◌-◌, ◌≤◌, ◌<◌}
 use mathlib.Core.Path.{◌≡◌, refl, sym, subst, ap, ap₂, ◌∙◌}
 use mathlib.Core.Bool.{Bool, true, false}
-use mathlib.Core.Option.{Option, none, some}
+use Rattle.std.specs.Prelude.{Option, None, Some}
 use mathlib.Core.List.Memᴰ
 use mathlib.Core.List.{List, [], ◌∷◌, ◌++◌, map, Memᴰ}
 use mathlib.Core.Logic.{⊎_elim}
@@ -50,7 +50,7 @@ type_group : (t k : ℕ) → t ≡ 32768 + k → type_word t ≡ 103 ∷ number_
 unfolding type_word ascii
 type_group t k e = let i : t - 32768 ≡ k = omega arith in rw (le-ltb t 32768 (omega arith), i)
 
-pub value_word : (f : Field) (w : List ℕ) (n : ℕ) → value_of f w ≡ some n → w ≡ word_for f n
+pub value_word : (f : Field) (w : List ℕ) (n : ℕ) → value_of f w ≡ Some n → w ≡ word_for f n
 unfolding value_of
 value_word Member w n e = number_spelled _ w n (omega arith) e
 value_word AnyType w n e =
@@ -71,16 +71,16 @@ type_cases {C} t f g = step (ltb t 32768) refl where
   step true e = f (ltb-true t 32768 e)
   step false e = g (t - 32768) (omega (arith, ltb-false t 32768 e))
 
-type_says : (t : ℕ) → t ≤ 65535 → value_of AnyType (type_word t) ≡ some t
+type_says : (t : ℕ) → t ≤ 65535 → value_of AnyType (type_word t) ≡ Some t
 unfolding value_of
 type_says t h =
     type_cases t (λ k. rw (type_basic t k) (or_else_first _ (word_number _ t (omega arith) (omega arith))))
     (λ k e.
     rw (type_group t k e)
     (or_else_next _ (letter_no_number _ 103 (number_word k) (omega arith))
-    ∙ word_lettered 103 _ _ (omega arith) k (omega arith) ∙ ap some (omega arith)))
+    ∙ word_lettered 103 _ _ (omega arith) k (omega arith) ∙ ap Some (omega arith)))
 
-pub word_says : (f : Field) (n : ℕ) → n ≤ value_most f → value_of f (word_for f n) ≡ some n
+pub word_says : (f : Field) (n : ℕ) → n ≤ value_most f → value_of f (word_for f n) ≡ Some n
 unfolding value_most value_of
 word_says Member n h = word_number _ n (omega arith) (omega arith)
 word_says AnyType n h = type_says n h
@@ -119,18 +119,18 @@ record First (f : Field) (w : List ℕ) (o : Option (List ℕ)) (l : List ℕ) :
   most : value ≤ value_most f
   word : w ≡ word_for f value
   back : List ℕ
-  rest : o ≡ some back
+  rest : o ≡ Some back
   bytes : l ≡ field_bytes f value ++ back
 
 first_field :
-    (f : Field) (w : List ℕ) (o : Option (List ℕ)) (l : List ℕ) → joined (as_bytes f (value_of f w)) o ≡ some l
+    (f : Field) (w : List ℕ) (o : Option (List ℕ)) (l : List ℕ) → joined (as_bytes f (value_of f w)) o ≡ Some l
     → First f w o l
 unfolding joined as_bytes
 first_field f w o l e = step (value_of f w) o refl refl e where
-  step : (v : Option ℕ) (p : Option (List ℕ)) → value_of f w ≡ v → o ≡ p → joined (as_bytes f v) p ≡ some l → First f w o l
-  step none p h k q = some_not_none (sym q)
-  step (some n) none h k q = some_not_none (sym q)
-  step (some n) (some back) h k q =
+  step : (v : Option ℕ) (p : Option (List ℕ)) → value_of f w ≡ v → o ≡ p → joined (as_bytes f v) p ≡ Some l → First f w o l
+  step None p h k q = some_not_none (sym q)
+  step (Some n) None h k q = some_not_none (sym q)
+  step (Some n) (Some back) h k q =
       let i : field_bytes f n ++ back ≡ l = cc in
       record { value = n; most = value_most_lem f w n h; word = value_word f w n h; back = back; rest = k; bytes = sym i }
 
@@ -176,7 +176,7 @@ pub record Read (fs : List Field) (f : Field) (k : ℕ) (ws : List (List ℕ)) (
 
 pub fields_read :
     (fs : List Field) (f : Field) (k : ℕ) (ws : List (List ℕ)) (l : List ℕ) → Wide f
-    → fields_of fs (replicate k f) ws ≡ some l
+    → fields_of fs (replicate k f) ws ≡ Some l
     → Read fs f k ws l
 unfolding fields_of
 fields_read [] f k [] l wide e =
@@ -219,20 +219,20 @@ fields_read (g ∷ fs) f k (w ∷ ws) l wide e =
 -- ---- and written
 
 pub record Written (fs more : List Field) (ws : List (List ℕ)) (l : List ℕ) : Type 0 where
-  pub fields : fields_of fs more ws ≡ some l
+  pub fields : fields_of fs more ws ≡ Some l
   pub solid : Solid ws
 
 pub fields_written :
     (fs : List Field) (f : Field) (k : ℕ) (v : Values fs) (ns : List ℕ) → Wide f → length ns ≤ k → Sayable f ns
     → Written fs (replicate k f) (words_for fs v (map (word_for f) ns)) (bytes_for fs v (put_words ns))
 unfolding fields_of joined as_bytes
-fields_written [] f k v [] wide h m = record { fields = ap some (sym put_none); solid = tt }
+fields_written [] f k v [] wide h m = record { fields = ap Some (sym put_none); solid = tt }
 fields_written [] f zero v (n ∷ ns) wide h m = absurd (omega arith)
 fields_written [] f (suc k) v (n ∷ ns) wide h m =
     let r = fields_written [] f k v ns wide (omega arith) (λ x i. m x (Memᴰ.tail i)) in
     let b = m n (Memᴰ.head refl) in
     record {
-      fields = rw (word_says f n b, r.fields, wide n) (ap some (sym (put_more n ns (sayable_small f (n ∷ ns) m))));
+      fields = rw (word_says f n b, r.fields, wide n) (ap Some (sym (put_more n ns (sayable_small f (n ∷ ns) m))));
       solid = (word_solid f n b, r.solid);
     }
 fields_written (g ∷ fs) f k v ns wide h m =
@@ -263,6 +263,6 @@ constraint_word = record { by = λ ws. refl; solid = refl }
 
 pub form_read :
     (f : Form) (ws : List (List ℕ)) (l : List ℕ) → ByWord f → Written f.fields f.more ws l
-    → record_of_row (f.word ++ spaced ws) ≡ some ((2 + length l) ∷ f.kind ∷ l)
+    → record_of_row (f.word ++ spaced ws) ≡ Some ((2 + length l) ∷ f.kind ∷ l)
 unfolding record_of_row headed
 form_read f ws l b r = ap record_of_words (words_split f.word ws (b.solid, r.solid)) ∙ b.by ws ∙ ap (headed f.kind) r.fields

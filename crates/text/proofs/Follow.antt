@@ -10,7 +10,7 @@
 use Prim.Native.Nat.{ℕ, zero, suc, ◌+◌, ◌≤◌, ◌<◌}
 use mathlib.Core.Path.{◌≡◌, refl, sym, subst, ap, ap₂, ◌∙◌}
 use mathlib.Core.Bool.{Bool, true, false}
-use mathlib.Core.Option.{Option, none, some}
+use Rattle.std.specs.Prelude.{Option, None, Some}
 use mathlib.Core.List.{List, [], ◌∷◌, ◌++◌, append_assoc}
 use native.Mathlib.Omega.{arith}
 use lib.ListN.{length, take, drop, length-append, length-drop}
@@ -18,7 +18,8 @@ use lib.Seq.{length-take-le, take-append-add, drop-drop}
 use lib.Dec.{ltb}
 use borrow.Author.Tests.{lt-ltb, le-ltb, ltb-true, ltb-false}
 use Rattle.format.specs.declared.Refusal.{Refusal}
-use Rattle.format.specs.Answers.{Outcome, refused, gives}
+use Rattle.std.specs.Prelude.{Ok, Err}
+use Rattle.format.specs.Answers.{Outcome}
 use Rattle.format.specs.Sample.{empty}
 use Rattle.format.proofs.Chain.{some_not_none}
 use Rattle.format.specs.Refusals.{refusal}
@@ -71,7 +72,7 @@ refused_stops text more b f e =
     let q = built_long text b h in
     built_long (text ++ (10 ∷ more)) b h ∙ rows_chain_refused 0 text more (overwrite empty b) f (sym (ap answer_of q) ∙ e) ∙ sym q)
 
-pub built_complete : (text b : List ℕ) (n : ℕ) → (built text b).answer ≡ gives n → built text b ≡ complete (built text b).buffer
+pub built_complete : (text b : List ℕ) (n : ℕ) → (built text b).answer ≡ Ok n → built text b ≡ complete (built text b).buffer
 built_complete text b n e =
     by_length b (λ h. gives_not_refused (sym e ∙ ap answer_of (refused_short text b h)))
     (λ h.
@@ -85,26 +86,26 @@ rows_none at b = refl
 pub last_line_feed : LastLineFeed
 last_line_feed text b = step (built text b).answer refl where
   step : (o : Outcome ℕ) → (built text b).answer ≡ o → built (text ++ (10 ∷ [])) b ≡ built text b
-  step (refused f) e = refused_stops text [] b f e
-  step (gives n) e = next_rows text [] b n e ∙ rows_none (suc (length text)) (built text b).buffer ∙ sym (built_complete text b n e)
+  step (Err f) e = refused_stops text [] b f e
+  step (Ok n) e = next_rows text [] b n e ∙ rows_none (suc (length text)) (built text b).buffer ∙ sym (built_complete text b n e)
 
 -- ---- each record added
 
 record WithFirst (o : Option (List ℕ)) (p : Option (List (List ℕ))) (rs : List (List ℕ)) : Type 0 where
   head : List ℕ
   tail : List (List ℕ)
-  head_is : o ≡ some head
-  tail_is : p ≡ some tail
+  head_is : o ≡ Some head
+  tail_is : p ≡ Some tail
   whole : head ∷ tail ≡ rs
 
-with_first_lem : (o : Option (List ℕ)) (p : Option (List (List ℕ))) (rs : List (List ℕ)) → with_first o p ≡ some rs → WithFirst o p rs
+with_first_lem : (o : Option (List ℕ)) (p : Option (List (List ℕ))) (rs : List (List ℕ)) → with_first o p ≡ Some rs → WithFirst o p rs
 unfolding with_first
-with_first_lem none p rs e = some_not_none (sym e)
-with_first_lem (some r) none rs e = some_not_none (sym e)
-with_first_lem (some r) (some qs) rs e = let i : r ∷ qs ≡ rs = cc in record { head = r; tail = qs; head_is = refl; tail_is = refl; whole = i }
+with_first_lem None p rs e = some_not_none (sym e)
+with_first_lem (Some r) None rs e = some_not_none (sym e)
+with_first_lem (Some r) (Some qs) rs e = let i : r ∷ qs ≡ rs = cc in record { head = r; tail = qs; head_is = refl; tail_is = refl; whole = i }
 
 pub rows_all :
-    (rows : List (List ℕ)) (at : ℕ) (b : List ℕ) (rs : List (List ℕ)) → records_in rows ≡ some rs → all_added b rs
+    (rows : List (List ℕ)) (at : ℕ) (b : List ℕ) (rs : List (List ℕ)) → records_in rows ≡ Some rs → all_added b rs
     → rows_from at rows b ≡ complete (add_all b rs)
 unfolding records_in rows_from all_added row_fault after_row onward record_fault after_record moved_to
 rows_all [] at b rs e a =
@@ -146,7 +147,7 @@ pub record Stopped (at : ℕ) (l b : List ℕ) (f : Refusal) : Type 0 where
   pub own : List ℕ
   pub later : List (List ℕ)
   pub rows : split 10 (drop ahead l) ≡ own ∷ later
-  pub fault : row_fault f.place own (rows_from at (split 10 l) b).buffer ≡ some f
+  pub fault : row_fault f.place own (rows_from at (split 10 l) b).buffer ≡ Some f
 
 module _ (l b : List ℕ) (at : ℕ) (f : Refusal) where
   row : List ℕ
@@ -158,11 +159,11 @@ module _ (l b : List ℕ) (at : ℕ) (f : Refusal) where
   next : ℕ
   next = at + suc (length (take (run_of 10 l) l))
 
-  stop_here : (g : Refusal) → row_fault at row b ≡ some g → (rows_from at (split 10 l) b).answer ≡ refused f → Stopped at l b f
+  stop_here : (g : Refusal) → row_fault at row b ≡ Some g → (rows_from at (split 10 l) b).answer ≡ Err f → Stopped at l b f
   unfolding rows_from onward split row_fault row after_row
   stop_here g p e =
-      let m : rows_from at (split 10 l) b ≡ record { answer = refused g; buffer = b } = rw (split_run 10 l, p) in
-      let k : refused g ≡ refused f = sym (ap answer_of m) ∙ e in
+      let m : rows_from at (split 10 l) b ≡ record { answer = Err g; buffer = b } = rw (split_run 10 l, p) in
+      let k : Err g ≡ Err f = sym (ap answer_of m) ∙ e in
       let i : g ≡ f = cc in
       let at_row : f.place ≡ at = ap (λ (x : Refusal). x.place) (sym i) ∙ row_fault_place at row b g p in
       record {
@@ -174,7 +175,7 @@ module _ (l b : List ℕ) (at : ℕ) (f : Refusal) where
         own = row;
         later = rest 10 l;
         rows = split_run 10 l;
-        fault = ap₂ (λ (n : ℕ) (x : List ℕ). row_fault n row x) at_row (ap (λ (x : Made). x.buffer) m) ∙ p ∙ ap some i;
+        fault = ap₂ (λ (n : ℕ) (x : List ℕ). row_fault n row x) at_row (ap (λ (x : Made). x.buffer) m) ∙ p ∙ ap Some i;
       }
 
   -- a place behind the first row
@@ -186,7 +187,7 @@ module _ (l b : List ℕ) (at : ℕ) (f : Refusal) where
       (omega (arith, length-append row (10 ∷ before)))
 
   stop_with :
-      run_of 10 l < length l → row_fault at row b ≡ none → rows_from at (split 10 l) b ≡ rows_from next (split 10 more) (after_row row b)
+      run_of 10 l < length l → row_fault at row b ≡ None → rows_from at (split 10 l) b ≡ rows_from next (split 10 more) (after_row row b)
       → Stopped next more (after_row row b) f → Stopped at l b f
   unfolding rows_from onward row more next
   stop_with d p m s =
@@ -204,9 +205,9 @@ module _ (l b : List ℕ) (at : ℕ) (f : Refusal) where
       }
 
   stop_later :
-      row_fault at row b ≡ none
-      → (run_of 10 l < length l → (rows_from next (split 10 more) (after_row row b)).answer ≡ refused f → Stopped next more (after_row row b) f)
-      → (rows_from at (split 10 l) b).answer ≡ refused f → (t : Bool) → ltb (run_of 10 l) (length l) ≡ t → Stopped at l b f
+      row_fault at row b ≡ None
+      → (run_of 10 l < length l → (rows_from next (split 10 more) (after_row row b)).answer ≡ Err f → Stopped next more (after_row row b) f)
+      → (rows_from at (split 10 l) b).answer ≡ Err f → (t : Bool) → ltb (run_of 10 l) (length l) ≡ t → Stopped at l b f
   unfolding rows_from onward row more next
   stop_later p ih e false h =
       let m : rows_from at (split 10 l) b ≡ complete (after_row row b) = rw (split_run 10 l, p, rest_end 10 l (ltb-false _ _ h)) in
@@ -217,12 +218,12 @@ module _ (l b : List ℕ) (at : ℕ) (f : Refusal) where
       stop_with d p m (ih d (sym (ap answer_of m) ∙ e))
 
   stop_row :
-      (run_of 10 l < length l → (rows_from next (split 10 more) (after_row row b)).answer ≡ refused f → Stopped next more (after_row row b) f)
-      → (rows_from at (split 10 l) b).answer ≡ refused f → (o : Option Refusal) → row_fault at row b ≡ o → Stopped at l b f
-  stop_row ih e (some g) p = stop_here g p e
-  stop_row ih e none p = stop_later p ih e (ltb (run_of 10 l) (length l)) refl
+      (run_of 10 l < length l → (rows_from next (split 10 more) (after_row row b)).answer ≡ Err f → Stopped next more (after_row row b) f)
+      → (rows_from at (split 10 l) b).answer ≡ Err f → (o : Option Refusal) → row_fault at row b ≡ o → Stopped at l b f
+  stop_row ih e (Some g) p = stop_here g p e
+  stop_row ih e None p = stop_later p ih e (ltb (run_of 10 l) (length l)) refl
 
-stops : (n : ℕ) (l b : List ℕ) (at : ℕ) (f : Refusal) → length l ≤ n → (rows_from at (split 10 l) b).answer ≡ refused f → Stopped at l b f
+stops : (n : ℕ) (l b : List ℕ) (at : ℕ) (f : Refusal) → length l ≤ n → (rows_from at (split 10 l) b).answer ≡ Err f → Stopped at l b f
 unfolding row more next
 stops zero l b at f size e = stop_row l b at f (λ h k. absurd (omega arith)) e (row_fault at (row l b at f) b) refl
 stops (suc n) l b at f size e =
@@ -230,34 +231,34 @@ stops (suc n) l b at f size e =
     (λ h k. stops n (more l b at f) (after_row (row l b at f) b) (next l b at f) f (omega (arith, length-drop (suc (run_of 10 l)) l)) k)
     e (row_fault at (row l b at f) b) refl
 
-pub rows_stopped : (at : ℕ) (l b : List ℕ) (f : Refusal) → (rows_from at (split 10 l) b).answer ≡ refused f → Stopped at l b f
+pub rows_stopped : (at : ℕ) (l b : List ℕ) (f : Refusal) → (rows_from at (split 10 l) b).answer ≡ Err f → Stopped at l b f
 rows_stopped at l b f e = stops (length l) l b at f (omega arith) e
 
-pub rows_place : (at : ℕ) (l b : List ℕ) (f : Refusal) → (rows_from at (split 10 l) b).answer ≡ refused f → (at ≤ f.place) × (f.place < at + length l)
+pub rows_place : (at : ℕ) (l b : List ℕ) (f : Refusal) → (rows_from at (split 10 l) b).answer ≡ Err f → (at ≤ f.place) × (f.place < at + length l)
 rows_place at l b f e = let s = rows_stopped at l b f e in (omega (arith, s.place), omega (arith, s.place, s.inside))
 
 -- why a row is refused
-row_cause : (at : ℕ) (row b : List ℕ) (f : Refusal) → row_fault at row b ≡ some f → Cause row b f.number
+row_cause : (at : ℕ) (row b : List ℕ) (f : Refusal) → row_fault at row b ≡ Some f → Cause row b f.number
 unfolding record_fault moved_to
 row_cause at row b f e = step (record_of_row row) refl where
-  added : (r : List ℕ) → record_of_row row ≡ some r → (o : Option Refusal) → add_fault b r ≡ o → moved_to at o ≡ some f → Cause row b f.number
-  added r k none p q = some_not_none (sym q)
-  added r k (some g) p q =
+  added : (r : List ℕ) → record_of_row row ≡ Some r → (o : Option Refusal) → add_fault b r ≡ o → moved_to at o ≡ Some f → Cause row b f.number
+  added r k None p q = some_not_none (sym q)
+  added r k (Some g) p q =
       let z : refusal g.number at ≡ f = cc in not_added r g k p (ap (λ (x : Refusal). x.number) (sym z))
 
   step : (o : Option (List ℕ)) → record_of_row row ≡ o → Cause row b f.number
-  step none k =
-      let z : some (refusal 18 at) ≡ some f = sym (row_record at row b none (row_fault_some at row b f e) k).0 ∙ e in
+  step None k =
+      let z : Some (refusal 18 at) ≡ Some f = sym (row_record at row b None (row_fault_some at row b f e) k).0 ∙ e in
       let y : refusal 18 at ≡ f = cc in
       outside k (ap (λ (x : Refusal). x.number) (sym y))
-  step (some r) k = added r k (add_fault b r) refl (sym (row_record at row b (some r) (row_fault_some at row b f e) k).0 ∙ e)
+  step (Some r) k = added r k (add_fault b r) refl (sym (row_record at row b (Some r) (row_fault_some at row b f e) k).0 ∙ e)
 
 pub refused_keeps : RefusedKeeps
 refused_keeps text b f long e =
     let q = built_long text b long in
     let s : Stopped 0 text (overwrite empty b) f = rows_stopped 0 text (overwrite empty b) f (sym (ap answer_of q) ∙ e) in
     let k : s.ahead ≡ f.place = sym (s.place ∙ (omega arith)) in
-    let h : row_fault f.place s.own (built text b).buffer ≡ some f = ap (λ (x : Made). row_fault f.place s.own x.buffer) q ∙ s.fault in
+    let h : row_fault f.place s.own (built text b).buffer ≡ Some f = ap (λ (x : Made). row_fault f.place s.own x.buffer) q ∙ s.fault in
     record {
       row = subst (RowAt text) k s.row;
       inside = omega (arith, s.inside, k);

@@ -7,7 +7,7 @@
 use Prim.Native.Nat.{ℕ, zero, suc, ◌+◌, ◌*◌, ◌≤◌, ◌<◌}
 use mathlib.Core.Path.{◌≡◌, refl, sym, subst, ap, ◌∙◌}
 use mathlib.Core.Bool.{Bool, true, false, cond}
-use mathlib.Core.Option.{Option, none, some}
+use Rattle.std.specs.Prelude.{Option, None, Some}
 use mathlib.Core.List.{List, [], ◌∷◌, ◌++◌}
 use native.Mathlib.Omega.{arith}
 use lib.ListN.{length, replicate, take, length-append}
@@ -54,7 +54,7 @@ on_short : length (ascii "on") ≤ 6
 unfolding ascii
 on_short = omega arith
 
-value_says : (f : Field) (w : List ℕ) (n : ℕ) → value_of f w ≡ some n → Says (value_most f) w n
+value_says : (f : Field) (w : List ℕ) (n : ℕ) → value_of f w ≡ Some n → Says (value_most f) w n
 unfolding value_of value_most
 value_says Member w n e = record { most = number_most 32767 w n e; short = omega (arith, number_short 32767 w n e (omega arith)) }
 value_says AnyType w n e =
@@ -73,7 +73,7 @@ value_says Condition w n e =
     says_named : {word : List ℕ} {v x : ℕ} → (w ≡ word) × (x ≡ v) → length word ≤ 6 → v ≤ 33 → Says 33 w x
     says_named q k m = record { most = omega (arith, q.1); short = omega (arith, ap length q.0) }
 
-pub value_most_lem : (f : Field) (w : List ℕ) (n : ℕ) → value_of f w ≡ some n → n ≤ value_most f
+pub value_most_lem : (f : Field) (w : List ℕ) (n : ℕ) → value_of f w ≡ Some n → n ≤ value_most f
 value_most_lem f w n e = (value_says f w n e).most
 
 field_length_lem : (f : Field) (n : ℕ) → length (field_bytes f n) ≡ field_length f
@@ -95,18 +95,18 @@ field_bytes_lem Condition n h = bytes_cons n [] (omega arith) bytes_nil
 -- the bytes of a word in its field, with those of the words behind it
 record First (f : Field) (w : List ℕ) (o : Option (List ℕ)) (l : List ℕ) : Type 0 where
   back : List ℕ
-  more : o ≡ some back
+  more : o ≡ Some back
   size : length l ≡ field_length f + length back
   bytes : Bytes back → Bytes l
   short : length w ≤ 6
 
-first_field : (f : Field) (w : List ℕ) (o : Option (List ℕ)) (l : List ℕ) → joined (as_bytes f (value_of f w)) o ≡ some l → First f w o l
+first_field : (f : Field) (w : List ℕ) (o : Option (List ℕ)) (l : List ℕ) → joined (as_bytes f (value_of f w)) o ≡ Some l → First f w o l
 unfolding joined as_bytes
 first_field f w o l e = step (value_of f w) o refl refl e where
-  step : (v : Option ℕ) (p : Option (List ℕ)) → value_of f w ≡ v → o ≡ p → joined (as_bytes f v) p ≡ some l → First f w o l
-  step none p h k q = some_not_none (sym q)
-  step (some n) none h k q = some_not_none (sym q)
-  step (some n) (some back) h k q =
+  step : (v : Option ℕ) (p : Option (List ℕ)) → value_of f w ≡ v → o ≡ p → joined (as_bytes f v) p ≡ Some l → First f w o l
+  step None p h k q = some_not_none (sym q)
+  step (Some n) None h k q = some_not_none (sym q)
+  step (Some n) (Some back) h k q =
       let i : field_bytes f n ++ back ≡ l = cc in
       let s = value_says f w n h in
       record {
@@ -130,7 +130,7 @@ record Fields (fs more : List Field) (ws : List (List ℕ)) (l : List ℕ) : Typ
   bytes : Bytes l
   narrow : width ws ≤ 7 * (length fs + length more)
 
-fields_are : (fs more : List Field) (ws : List (List ℕ)) (l : List ℕ) → fields_of fs more ws ≡ some l → Fields fs more ws l
+fields_are : (fs more : List Field) (ws : List (List ℕ)) (l : List ℕ) → fields_of fs more ws ≡ Some l → Fields fs more ws l
 unfolding fields_of width lengths
 fields_are [] more [] l e =
     let h : [] ≡ l = cc in
@@ -169,28 +169,28 @@ lengths_more f (suc n) (suc k) h = let i = lengths_more f n k (omega arith) in o
 pub record RecordBy (f : Form) (w : List ℕ) (ws : List (List ℕ)) (r : List ℕ) : Type 0 where
   pub word : w ≡ f.word
   pub fields : List ℕ
-  pub from_words : fields_of f.fields f.more ws ≡ some fields
+  pub from_words : fields_of f.fields f.more ws ≡ Some fields
   pub is : r ≡ (2 + length fields) ∷ f.kind ∷ fields
 
 form_here : (f : Form) (w : List ℕ) (ws : List (List ℕ)) (r : List ℕ) (o : Option (List ℕ)) → w ≡ f.word → fields_of f.fields f.more ws ≡ o
-    → headed f.kind o ≡ some r → RecordBy f w ws r
+    → headed f.kind o ≡ Some r → RecordBy f w ws r
 unfolding headed
-form_here f w ws r none h k e = some_not_none (sym e)
-form_here f w ws r (some l) h k e =
+form_here f w ws r None h k e = some_not_none (sym e)
+form_here f w ws r (Some l) h k e =
     let i : (2 + length l) ∷ f.kind ∷ l ≡ r = cc in
     record { word = h; fields = l; from_words = k; is = sym i }
 
 form_next :
-    {C : Type 0} (f : Form) (fs : List Form) (w : List ℕ) (ws : List (List ℕ)) (r : List ℕ) → record_by (f ∷ fs) w ws ≡ some r
-    → (RecordBy f w ws r → C) → (record_by fs w ws ≡ some r → C) → C
+    {C : Type 0} (f : Form) (fs : List Form) (w : List ℕ) (ws : List (List ℕ)) (r : List ℕ) → record_by (f ∷ fs) w ws ≡ Some r
+    → (RecordBy f w ws r → C) → (record_by fs w ws ≡ Some r → C) → C
 unfolding record_by
 form_next {C} f fs w ws r e g h = step (same w f.word) refl e where
-  step : (t : Bool) → same w f.word ≡ t → cond t (headed f.kind (fields_of f.fields f.more ws)) (record_by fs w ws) ≡ some r → C
+  step : (t : Bool) → same w f.word ≡ t → cond t (headed f.kind (fields_of f.fields f.more ws)) (record_by fs w ws) ≡ Some r → C
   step true k q = g (form_here f w ws r (fields_of f.fields f.more ws) (same_equal w f.word k) refl q)
   step false k q = h q
 
 pub record_cases :
-    {C : Type 0} (w : List ℕ) (ws : List (List ℕ)) (r : List ℕ) → record_of_words (w ∷ ws) ≡ some r
+    {C : Type 0} (w : List ℕ) (ws : List (List ℕ)) (r : List ℕ) → record_of_words (w ∷ ws) ≡ Some r
     → (RecordBy group w ws r → C) → (RecordBy allow w ws r → C) → (RecordBy transition w ws r → C) → (RecordBy constraint w ws r → C) → C
 unfolding record_of_words forms record_by
 record_cases w ws r e f₁ f₂ f₃ f₄ =
@@ -257,18 +257,18 @@ module _ (w : List ℕ) (ws : List (List ℕ)) (r : List ℕ) where
       let n : 2 + length b.fields ≡ 11 + 2 * q.extra = omega (arith, q.size, m) in
       form_record constraint w ws r b (omega arith) refl (omega arith) (long_constraint_lem (2 + length b.fields) (omega arith) (omega arith) (omega arith))
 
-words_made : (w : List ℕ) (ws : List (List ℕ)) (r : List ℕ) → record_of_words (w ∷ ws) ≡ some r → RowRecord w ws r
+words_made : (w : List ℕ) (ws : List (List ℕ)) (r : List ℕ) → record_of_words (w ∷ ws) ≡ Some r → RowRecord w ws r
 words_made w ws r e = record_cases w ws r e (of_group w ws r) (of_allow w ws r) (of_transition w ws r) (of_constraint w ws r)
 
-row_made : (row r : List ℕ) → record_of_row row ≡ some r → RowRecord (take (run_of 32 row) row) (rest 32 row) r
+row_made : (row r : List ℕ) → record_of_row row ≡ Some r → RowRecord (take (run_of 32 row) row) (rest 32 row) r
 unfolding record_of_row
 row_made row r e = words_made (take (run_of 32 row) row) (rest 32 row) r (rw (split_run 32 row) at e)
 
-pub record_shape : (row r : List ℕ) → record_of_row row ≡ some r → shape_ok r ≡ true
+pub record_shape : (row r : List ℕ) → record_of_row row ≡ Some r → shape_ok r ≡ true
 record_shape row r e = (row_made row r e).shape
 
-pub record_bytes : (row r : List ℕ) → record_of_row row ≡ some r → Bytes r
+pub record_bytes : (row r : List ℕ) → record_of_row row ≡ Some r → Bytes r
 record_bytes row r e = (row_made row r e).bytes
 
-pub record_row_short : (row r : List ℕ) → record_of_row row ≡ some r → length row ≤ 460
+pub record_row_short : (row r : List ℕ) → record_of_row row ≡ Some r → length row ≤ 460
 record_row_short row r e = omega (arith, (row_made row r e).narrow, ap width (split_run 32 row), width_split 32 row)

@@ -11,13 +11,14 @@
 --     row_moved, rows_moved       rows further behind in their text
 use Prim.Native.Nat.{ℕ, suc, ◌+◌, ◌<◌}
 use mathlib.Core.Path.{◌≡◌, refl, sym, ap, ◌∙◌}
-use mathlib.Core.Option.{Option, none, some}
+use Rattle.std.specs.Prelude.{Option, None, Some}
 use mathlib.Core.List.{List, [], ◌∷◌, ◌++◌}
 use native.Mathlib.Omega.{arith}
 use lib.ListN.{length}
 use Rattle.format.specs.declared.Refusal.{Refusal}
 use Rattle.format.specs.Refusals.{refusal}
-use Rattle.format.specs.Answers.{Outcome, refused, gives}
+use Rattle.std.specs.Prelude.{Ok, Err}
+use Rattle.format.specs.Answers.{Outcome}
 use Rattle.format.proofs.Chain.{some_not_none}
 use Rattle.extension.specs.Add.{add_fault, buffer_after}
 use Rattle.extension.proofs.Adds.{buffer_refused}
@@ -33,25 +34,25 @@ use Rattle.text.proofs.Records.{record_row_short}
 abbrev pub answer_of : Made → Outcome ℕ
 answer_of m = m.answer
 
-pub gives_not_refused : {C : Type 0} {n : ℕ} {f : Refusal} → gives n ≡ refused f → C
+pub gives_not_refused : {C : Type 0} {n : ℕ} {f : Refusal} → Ok n ≡ Err f → C
 gives_not_refused e = let z : ◌≡◌ {A = ℕ} 0 1 = cc in absurd (omega arith)
 
 -- ---- one row
 
-moved_place : (at : ℕ) (o : Option Refusal) (f : Refusal) → moved_to at o ≡ some f → f.place ≡ at
+moved_place : (at : ℕ) (o : Option Refusal) (f : Refusal) → moved_to at o ≡ Some f → f.place ≡ at
 unfolding moved_to
-moved_place at none f e = some_not_none (sym e)
-moved_place at (some g) f e = let h : refusal g.number at ≡ f = cc in ap (λ (x : Refusal). x.place) (sym h)
+moved_place at None f e = some_not_none (sym e)
+moved_place at (Some g) f e = let h : refusal g.number at ≡ f = cc in ap (λ (x : Refusal). x.place) (sym h)
 
-pub row_fault_place : (at : ℕ) (row b : List ℕ) (f : Refusal) → row_fault at row b ≡ some f → f.place ≡ at
+pub row_fault_place : (at : ℕ) (row b : List ℕ) (f : Refusal) → row_fault at row b ≡ Some f → f.place ≡ at
 unfolding row_fault record_fault
 row_fault_place at [] b f e = some_not_none (sym e)
 row_fault_place at (c ∷ row) b f e = step (record_of_row (c ∷ row)) e where
-  step : (o : Option (List ℕ)) → record_fault at o b ≡ some f → f.place ≡ at
-  step none e = let h : refusal 18 at ≡ f = cc in ap (λ (x : Refusal). x.place) (sym h)
-  step (some r) e = moved_place at (add_fault b r) f e
+  step : (o : Option (List ℕ)) → record_fault at o b ≡ Some f → f.place ≡ at
+  step None e = let h : refusal 18 at ≡ f = cc in ap (λ (x : Refusal). x.place) (sym h)
+  step (Some r) e = moved_place at (add_fault b r) f e
 
-pub row_fault_some : (at : ℕ) (row b : List ℕ) (f : Refusal) → row_fault at row b ≡ some f → 0 < length row
+pub row_fault_some : (at : ℕ) (row b : List ℕ) (f : Refusal) → row_fault at row b ≡ Some f → 0 < length row
 unfolding row_fault
 row_fault_some at [] b f e = some_not_none (sym e)
 row_fault_some at (c ∷ row) b f e = omega arith
@@ -66,68 +67,68 @@ row_record at (c ∷ row) b o h e = rw e (refl, refl)
 -- what it says that a row is not refused
 pub record RowAdded (row b : List ℕ) : Type 0 where
   pub stands : List ℕ
-  pub from_row : record_of_row row ≡ some stands
-  pub passes : add_fault b stands ≡ none
+  pub from_row : record_of_row row ≡ Some stands
+  pub passes : add_fault b stands ≡ None
   pub after : after_row row b ≡ buffer_after b stands
 
-moved_none : (at : ℕ) (o : Option Refusal) → moved_to at o ≡ none → o ≡ none
+moved_none : (at : ℕ) (o : Option Refusal) → moved_to at o ≡ None → o ≡ None
 unfolding moved_to
-moved_none at none e = refl
-moved_none at (some f) e = some_not_none e
+moved_none at None e = refl
+moved_none at (Some f) e = some_not_none e
 
-pub row_added : (at : ℕ) (row b : List ℕ) → 0 < length row → row_fault at row b ≡ none → RowAdded row b
+pub row_added : (at : ℕ) (row b : List ℕ) → 0 < length row → row_fault at row b ≡ None → RowAdded row b
 unfolding record_fault after_record
 row_added at row b h e = step (record_of_row row) refl where
   step : (o : Option (List ℕ)) → record_of_row row ≡ o → RowAdded row b
-  step none k = some_not_none (sym (row_record at row b none h k).0 ∙ e)
-  step (some r) k =
-      let q = row_record at row b (some r) h k in
+  step None k = some_not_none (sym (row_record at row b None h k).0 ∙ e)
+  step (Some r) k =
+      let q = row_record at row b (Some r) h k in
       record { stands = r; from_row = k; passes = moved_none at (add_fault b r) (sym q.0 ∙ e); after = q.1 }
 
-pub row_long : (at : ℕ) (row b : List ℕ) → 460 < length row → row_fault at row b ≡ some (refusal 18 at)
+pub row_long : (at : ℕ) (row b : List ℕ) → 460 < length row → row_fault at row b ≡ Some (refusal 18 at)
 unfolding row_fault record_fault
 row_long at [] b h = absurd (omega arith)
 row_long at (c ∷ row) b h = step (record_of_row (c ∷ row)) refl where
-  step : (o : Option (List ℕ)) → record_of_row (c ∷ row) ≡ o → record_fault at (record_of_row (c ∷ row)) b ≡ some (refusal 18 at)
-  step none e = rw e
-  step (some r) e = absurd (omega (arith, record_row_short (c ∷ row) r e))
+  step : (o : Option (List ℕ)) → record_of_row (c ∷ row) ≡ o → record_fault at (record_of_row (c ∷ row)) b ≡ Some (refusal 18 at)
+  step None e = rw e
+  step (Some r) e = absurd (omega (arith, record_row_short (c ∷ row) r e))
 
-pub rows_kept : (at : ℕ) (row b : List ℕ) (f : Refusal) → row_fault at row b ≡ some f → after_row row b ≡ b
+pub rows_kept : (at : ℕ) (row b : List ℕ) (f : Refusal) → row_fault at row b ≡ Some f → after_row row b ≡ b
 unfolding row_fault after_row record_fault after_record moved_to
 rows_kept at [] b f e = refl
 rows_kept at (c ∷ row) b f e = step (record_of_row (c ∷ row)) e where
-  kept : (r : List ℕ) (o : Option Refusal) → add_fault b r ≡ o → moved_to at o ≡ some f → buffer_after b r ≡ b
-  kept r none k q = some_not_none (sym q)
-  kept r (some g) k q = buffer_refused b r g k
+  kept : (r : List ℕ) (o : Option Refusal) → add_fault b r ≡ o → moved_to at o ≡ Some f → buffer_after b r ≡ b
+  kept r None k q = some_not_none (sym q)
+  kept r (Some g) k q = buffer_refused b r g k
 
-  step : (o : Option (List ℕ)) → record_fault at o b ≡ some f → after_record o b ≡ b
-  step none q = refl
-  step (some r) q = kept r (add_fault b r) refl q
+  step : (o : Option (List ℕ)) → record_fault at o b ≡ Some f → after_record o b ≡ b
+  step None q = refl
+  step (Some r) q = kept r (add_fault b r) refl q
 
 -- ---- rows one after the other
 
 module _ (at : ℕ) (row : List ℕ) (rows : List (List ℕ)) (b : List ℕ) where
-  pub rows_first_added : row_fault at row b ≡ none → rows_from at (row ∷ rows) b ≡ rows_from (at + suc (length row)) rows (after_row row b)
+  pub rows_first_added : row_fault at row b ≡ None → rows_from at (row ∷ rows) b ≡ rows_from (at + suc (length row)) rows (after_row row b)
   unfolding rows_from onward
   rows_first_added e = rw e
 
-  pub rows_first_refused : {f : Refusal} → row_fault at row b ≡ some f → rows_from at (row ∷ rows) b ≡ record { answer = refused f; buffer = b }
+  pub rows_first_refused : {f : Refusal} → row_fault at row b ≡ Some f → rows_from at (row ∷ rows) b ≡ record { answer = Err f; buffer = b }
   unfolding rows_from onward
   rows_first_refused e = rw e
 
   -- by the first row
   pub rows_first :
       {C : Type 0}
-      → (row_fault at row b ≡ none → rows_from at (row ∷ rows) b ≡ rows_from (at + suc (length row)) rows (after_row row b) → C)
-      → ((f : Refusal) → row_fault at row b ≡ some f → rows_from at (row ∷ rows) b ≡ record { answer = refused f; buffer = b } → C)
+      → (row_fault at row b ≡ None → rows_from at (row ∷ rows) b ≡ rows_from (at + suc (length row)) rows (after_row row b) → C)
+      → ((f : Refusal) → row_fault at row b ≡ Some f → rows_from at (row ∷ rows) b ≡ record { answer = Err f; buffer = b } → C)
       → C
   rows_first {C} g h = step (row_fault at row b) refl where
     step : (o : Option Refusal) → row_fault at row b ≡ o → C
-    step none e = g e (rows_first_added e)
-    step (some f) e = h f e (rows_first_refused e)
+    step None e = g e (rows_first_added e)
+    step (Some f) e = h f e (rows_first_refused e)
 
 pub rows_complete :
-    (at : ℕ) (rows : List (List ℕ)) (b : List ℕ) (n : ℕ) → (rows_from at rows b).answer ≡ gives n
+    (at : ℕ) (rows : List (List ℕ)) (b : List ℕ) (n : ℕ) → (rows_from at rows b).answer ≡ Ok n
     → rows_from at rows b ≡ complete (rows_from at rows b).buffer
 unfolding rows_from
 rows_complete at [] b n e = refl
@@ -139,7 +140,7 @@ rows_complete at (x ∷ xs) b n e =
     (λ f h q. gives_not_refused (sym e ∙ ap answer_of q))
 
 pub rows_append_gives :
-    (at : ℕ) (xs ys : List (List ℕ)) (b : List ℕ) (n : ℕ) → (rows_from at xs b).answer ≡ gives n
+    (at : ℕ) (xs ys : List (List ℕ)) (b : List ℕ) (n : ℕ) → (rows_from at xs b).answer ≡ Ok n
     → rows_from at (xs ++ ys) b ≡ rows_from (at + width xs) ys (rows_from at xs b).buffer
 unfolding rows_from width
 rows_append_gives at [] ys b n e = ap (λ (k : ℕ). rows_from k ys b) (omega arith)
@@ -153,7 +154,7 @@ rows_append_gives at (x ∷ xs) ys b n e =
     (λ f h q. gives_not_refused (sym e ∙ ap answer_of q))
 
 pub rows_append_refused :
-    (at : ℕ) (xs ys : List (List ℕ)) (b : List ℕ) (f : Refusal) → (rows_from at xs b).answer ≡ refused f
+    (at : ℕ) (xs ys : List (List ℕ)) (b : List ℕ) (f : Refusal) → (rows_from at xs b).answer ≡ Err f
     → rows_from at (xs ++ ys) b ≡ rows_from at xs b
 unfolding rows_from
 rows_append_refused at [] ys b f e = gives_not_refused e
@@ -164,7 +165,7 @@ rows_append_refused at (x ∷ xs) ys b f e =
 
 module _ (at : ℕ) (t u b : List ℕ) where
   pub rows_chain_gives :
-      (n : ℕ) → (rows_from at (split 10 t) b).answer ≡ gives n
+      (n : ℕ) → (rows_from at (split 10 t) b).answer ≡ Ok n
       → rows_from at (split 10 (t ++ (10 ∷ u))) b ≡ rows_from (at + suc (length t)) (split 10 u) (rows_from at (split 10 t) b).buffer
   rows_chain_gives n e =
       ap (λ (rows : List (List ℕ)). rows_from at rows b) (split_append 10 t u)
@@ -172,7 +173,7 @@ module _ (at : ℕ) (t u b : List ℕ) where
       ∙ ap (λ (k : ℕ). rows_from (at + k) (split 10 u) (rows_from at (split 10 t) b).buffer) (width_split 10 t)
 
   pub rows_chain_refused :
-      (f : Refusal) → (rows_from at (split 10 t) b).answer ≡ refused f
+      (f : Refusal) → (rows_from at (split 10 t) b).answer ≡ Err f
       → rows_from at (split 10 (t ++ (10 ∷ u))) b ≡ rows_from at (split 10 t) b
   rows_chain_refused f e =
       ap (λ (rows : List (List ℕ)). rows_from at rows b) (split_append 10 t u) ∙ rows_append_refused at (split 10 t) (split 10 u) b f e
@@ -185,12 +186,12 @@ module _ (k at : ℕ) where
   row_moved [] b = refl
   row_moved (c ∷ row) b = step (record_of_row (c ∷ row)) where
     moved : (o : Option Refusal) → moved_to (k + at) o ≡ fault_by k (moved_to at o)
-    moved none = refl
-    moved (some f) = refl
+    moved None = refl
+    moved (Some f) = refl
 
     step : (o : Option (List ℕ)) → record_fault (k + at) o b ≡ fault_by k (record_fault at o b)
-    step none = refl
-    step (some r) = moved (add_fault b r)
+    step None = refl
+    step (Some r) = moved (add_fault b r)
 
 pub rows_moved : (k at : ℕ) (rows : List (List ℕ)) (b : List ℕ) → rows_from (k + at) rows b ≡ made_by k (rows_from at rows b)
 unfolding rows_from made_by answer_by fault_by

@@ -3,7 +3,7 @@
 use Prim.Native.Nat.{ℕ, ◌+◌, ◌≤◌, ◌<◌}
 use mathlib.Core.Path.{◌≡◌, sym, ◌∙◌}
 use mathlib.Core.Bool.{false}
-use mathlib.Core.Option.{some}
+use Rattle.std.specs.Prelude.{Some}
 use mathlib.Core.List.{List}
 use native.Mathlib.Omega.{arith}
 use lib.ListN.{length, get_or}
@@ -28,7 +28,7 @@ use Rattle.text.proofs.Buffers.{Imaged, imaged_accepted, imaged_length, imaged_s
 use Rattle.text.proofs.Accepted.{built_imaged}
 
 -- a record that has its shape and its place is not short of it
-module _ (b₀ b r : List ℕ) (k : Imaged b₀ b) (by : Bytes r) (long : 55561 ≤ length b₀) (f : Refusal) (e : add_fault b r ≡ some f) (n : f.number ≡ 13) where
+module _ (b₀ b r : List ℕ) (k : Imaged b₀ b) (by : Bytes r) (long : 55561 ≤ length b₀) (f : Refusal) (e : add_fault b r ≡ Some f) (n : f.number ≡ 13) where
   p : Policy
   p = k.policy
 

@@ -2,7 +2,7 @@
 use Prim.Native.Nat.{ℕ, ◌+◌, ◌-◌, ◌*◌, ◌/◌, ◌%◌, ◌≤◌}
 use mathlib.Core.Path.{◌≡◌, refl, sym, subst, subst₂, ap, ap₂, ◌∙◌}
 use mathlib.Core.Bool.{true}
-use mathlib.Core.Option.{some}
+use Rattle.std.specs.Prelude.{Some}
 use mathlib.Core.List.Memᴰ
 use mathlib.Core.List.{List, [], ◌∷◌, ◌++◌, map, Memᴰ}
 use mathlib.Core.Logic.{⊎_elim}
@@ -130,7 +130,7 @@ constraint_spells v ns h m =
       ) refl;
     }
 
-row_spelt : (row r : List ℕ) → record_of_row row ≡ some r → Spelt row r
+row_spelt : (row r : List ℕ) → record_of_row row ≡ Some r → Spelt row r
 unfolding record_of_row group allow transition constraint
 row_spelt row r e =
     let w : List ℕ = take (run_of 32 row) row in
@@ -141,7 +141,7 @@ row_spelt row r e =
     (by_values transition Member 0 member_wide refl transition_spells w ws r)
     (by_values constraint AnyType 16 type_wide refl constraint_spells w ws r))
 
-only_spelling : (row r : List ℕ) → record_of_row row ≡ some r → Spellable r × (row ≡ spelling r)
+only_spelling : (row r : List ℕ) → record_of_row row ≡ Some r → Spellable r × (row ≡ spelling r)
 only_spelling row r e =
     let q = row_spelt row r e in
     let s : Spellable r =
@@ -168,14 +168,14 @@ module _ (r : List ℕ) (s : Spellable r) where
   spelled_by :
       (f : Form) (g : Field) (k : ℕ) → Wide g → f.more ≡ replicate k g
       → ByWord f → get_or r 1 0 ≡ f.kind → (v : Values f.fields) (ns : List ℕ) → length ns ≤ k → Sayable g ns
-      → drop 2 r ≡ bytes_in f v ns → record_of_row (row_in f g v ns) ≡ some r
+      → drop 2 r ≡ bytes_in f v ns → record_of_row (row_in f g v ns) ≡ Some r
   unfolding bytes_in row_in
   spelled_by f g k wide more word kind v ns few most d =
       let ws : List (List ℕ) = words_for f.fields v (map (word_for g) ns) in
       let q : Written f.fields f.more ws (bytes_in f v ns) =
       subst (λ (x : List Field). Written f.fields x ws (bytes_in f v ns)) (sym more)
       (fields_written f.fields g k v ns wide few most) in
-      form_read f ws (bytes_in f v ns) word q ∙ ap some (record_whole r (bytes_in f v ns) f.kind s.shape kind d)
+      form_read f ws (bytes_in f v ns) word q ∙ ap Some (record_whole r (bytes_in f v ns) f.kind s.shape kind d)
 
   small : (at : ℕ) → word_at r at ≤ 65535
   small at = omega (arith, word_small r s.bytes at)
@@ -186,7 +186,7 @@ module _ (r : List ℕ) (s : Spellable r) where
   rest_words : (at n : ℕ) → length r ≡ at + 2 * n → drop at r ≡ put_words (words (drop at r))
   rest_words at n h = sym (put_words_lem (drop at r) n (omega (arith, length-drop at r)) (bytes_drop at r s.bytes))
 
-  as_group : get_or r 1 0 ≡ 1 → 4 ≤ length r → length r ≤ 130 → length r % 2 ≡ 0 → record_of_row (spelling r) ≡ some r
+  as_group : get_or r 1 0 ≡ 1 → 4 ≤ length r → length r ≤ 130 → length r % 2 ≡ 0 → record_of_row (spelling r) ≡ Some r
   unfolding bytes_in row_in group value_most field_bytes spelling group_row
   as_group e low high even =
       let ns : List ℕ = words (drop 4 r) in
@@ -198,7 +198,7 @@ module _ (r : List ℕ) (s : Spellable r) where
       (omega (arith, length_words (drop 4 r), length-drop 4 r)) (λ x i. all x (Memᴰ.tail i))
       (front 2 (put_words ns) (omega arith) (rest_words 4 ((length r - 4) / 2) half)))
 
-  as_allow : get_or r 1 0 ≡ 2 → length r ≡ 11 → record_of_row (spelling r) ≡ some r
+  as_allow : get_or r 1 0 ≡ 2 → length r ≡ 11 → record_of_row (spelling r) ≡ Some r
   unfolding bytes_in row_in allow value_most field_bytes spelling allow_row
   as_allow e long =
       let v : Values allow.fields = (
@@ -224,7 +224,7 @@ module _ (r : List ℕ) (s : Spellable r) where
       (drop-cons r 10 0 (omega arith)
       ∙ ap (λ (x : List ℕ). get_or r 10 0 ∷ x) (drop_of_length-le r {i = 11} (omega arith) ∙ sym put_none)))))))
 
-  as_transition : get_or r 1 0 ≡ 3 → length r ≡ 8 → record_of_row (spelling r) ≡ some r
+  as_transition : get_or r 1 0 ≡ 3 → length r ≡ 8 → record_of_row (spelling r) ≡ Some r
   unfolding bytes_in row_in transition value_most field_bytes spelling transition_row
   as_transition e long =
       let v : Values transition.fields = (word_at r 2, small 2, (word_at r 4, small 4, (word_at r 6, small 6, tt))) in
@@ -233,7 +233,7 @@ module _ (r : List ℕ) (s : Spellable r) where
       (front 2 _ (omega arith) (front 4 _ (omega arith) (front 6 _ (omega arith)
       (drop_of_length-le r {i = 8} (omega arith) ∙ sym put_none)))))
 
-  as_constraint : get_or r 1 0 ≡ 4 → 11 ≤ length r → length r ≤ 43 → length r % 2 ≡ 1 → record_of_row (spelling r) ≡ some r
+  as_constraint : get_or r 1 0 ≡ 4 → 11 ≤ length r → length r ≤ 43 → length r % 2 ≡ 1 → record_of_row (spelling r) ≡ Some r
   unfolding bytes_in row_in constraint value_most field_bytes spelling constraint_row
   as_constraint e low high odd =
       let ns : List ℕ = words (drop 11 r) in
@@ -262,7 +262,7 @@ module _ (r : List ℕ) (s : Spellable r) where
       (drop-cons r 10 0 (omega arith)
       ∙ ap (λ (x : List ℕ). get_or r 10 0 ∷ x) (rest_words 11 ((length r - 11) / 2) half)))))))
 
-  each_spelling : record_of_row (spelling r) ≡ some r
+  each_spelling : record_of_row (spelling r) ≡ Some r
   each_spelling = length_cases (get_or r 1 0) (length r) (shape_kind r s.shape) as_group as_allow as_transition as_constraint
 
 pub one_spelling : OneSpelling

@@ -6,10 +6,11 @@
 --     WorkedTexts     texts in buffers of a size, filled with the byte 7: the answer, and the buffer
 use Rattle.std.specs.Prelude.{ℕ, zero, suc, ◌≡◌, List, [], ◌∷◌, ◌++◌, map, replicate}
 use Prim.Native.String.{String}
-use Rattle.std.proofs.Math.Option.{Option, none, some}
+use Rattle.std.specs.Prelude.{Option, None, Some}
 use Rattle.format.specs.declared.Refusal.{Refusal}
 use Rattle.format.specs.Refusals.{refusal}
-use Rattle.format.specs.Answers.{Outcome, refused, gives}
+use Rattle.std.specs.Prelude.{Ok, Err}
+use Rattle.format.specs.Answers.{Outcome}
 use Rattle.format.specs.Sample.{sample, empty}
 use Rattle.text.specs.Words.{ascii}
 use Rattle.text.specs.Rows.{record_of_row}
@@ -50,7 +51,7 @@ unfoldable pub row_gives : WorkedRow → Option (List ℕ)
 row_gives w = record_of_row (ascii w.row)
 
 unfoldable pub row_stands : WorkedRow → Option (List ℕ)
-row_stands w = some w.stands
+row_stands w = Some w.stands
 
 abbrev pub WorkedRows : Type 0
 WorkedRows = map row_gives worked_rows ≡ map row_stands worked_rows
@@ -89,11 +90,11 @@ group_of [] = []
 group_of (w ∷ ws) = w ++ group_of ws
 
 pub record WorkedOutside : Type 0 where
-  pub rows : map row_named outside_rows ≡ replicate 92 none
-  pub zero_byte : record_of_row (ascii "group 1" ++ (0 ∷ [])) ≡ none
-  pub high_byte : record_of_row (ascii "group " ++ (177 ∷ [])) ≡ none
-  pub members_65 : record_of_row (ascii "group" ++ group_of (members 65)) ≡ none
-  pub members_64 : record_of_row (ascii "group" ++ group_of (members 64)) ≡ some (130 ∷ 1 ∷ group_of (replicate 64 (0 ∷ 7 ∷ [])))
+  pub rows : map row_named outside_rows ≡ replicate 92 None
+  pub zero_byte : record_of_row (ascii "group 1" ++ (0 ∷ [])) ≡ None
+  pub high_byte : record_of_row (ascii "group " ++ (177 ∷ [])) ≡ None
+  pub members_65 : record_of_row (ascii "group" ++ group_of (members 65)) ≡ None
+  pub members_64 : record_of_row (ascii "group" ++ group_of (members 64)) ≡ Some (130 ∷ 1 ∷ group_of (replicate 64 (0 ∷ 7 ∷ [])))
 
 pub record WorkedText : Type 0 where
   pub text : String
@@ -119,54 +120,54 @@ two_groups = 1 ∷ 0 ∷ 19 ∷ 0 ∷ 2 ∷ 0 ∷ 0 ∷ 0 ∷ 0 ∷ 6 ∷ 1 ∷ 
 
 unfoldable pub worked_texts : List WorkedText
 worked_texts =
-    record { text = sample_text; space = 83; answer = gives 80; buffer = sample ++ replicate 3 7 }
-    ∷ record { text = ""; space = 10; answer = gives 9; buffer = empty ++ replicate 1 7 }
-    ∷ record { text = "\n\n"; space = 9; answer = gives 9; buffer = empty }
-    ∷ record { text = ""; space = 8; answer = refused (refusal 13 0); buffer = replicate 8 7 }
-    ∷ record { text = "x"; space = 0; answer = refused (refusal 13 0); buffer = [] }
-    ∷ record { text = "trans 12 20 5"; space = 17; answer = gives 17; buffer = one_transition }
-    ∷ record { text = "trans 12 20 5\n"; space = 17; answer = gives 17; buffer = one_transition }
-    ∷ record { text = "trans 12 20 5"; space = 16; answer = refused (refusal 13 0); buffer = empty ++ replicate 7 7 }
+    record { text = sample_text; space = 83; answer = Ok 80; buffer = sample ++ replicate 3 7 }
+    ∷ record { text = ""; space = 10; answer = Ok 9; buffer = empty ++ replicate 1 7 }
+    ∷ record { text = "\n\n"; space = 9; answer = Ok 9; buffer = empty }
+    ∷ record { text = ""; space = 8; answer = Err (refusal 13 0); buffer = replicate 8 7 }
+    ∷ record { text = "x"; space = 0; answer = Err (refusal 13 0); buffer = [] }
+    ∷ record { text = "trans 12 20 5"; space = 17; answer = Ok 17; buffer = one_transition }
+    ∷ record { text = "trans 12 20 5\n"; space = 17; answer = Ok 17; buffer = one_transition }
+    ∷ record { text = "trans 12 20 5"; space = 16; answer = Err (refusal 13 0); buffer = empty ++ replicate 7 7 }
     ∷ record {
       text = "trans 12 20 5\ngroup g0\n";
       space = 20;
-      answer = refused (refusal 18 14);
+      answer = Err (refusal 18 14);
       buffer = one_transition ++ replicate 3 7;
     }
     ∷ record {
       text = "trans 12 20 5\ntrans 1 2 3\nx";
       space = 20;
-      answer = refused (refusal 13 14);
+      answer = Err (refusal 13 14);
       buffer = one_transition ++ replicate 3 7;
     }
     ∷ record {
       text = "trans 12 20 5\nx\ntrans 1 2 3";
       space = 28;
-      answer = refused (refusal 18 14);
+      answer = Err (refusal 18 14);
       buffer = one_transition ++ replicate 11 7;
     }
-    ∷ record { text = "trans 12 20 5\nx"; space = 17; answer = refused (refusal 18 14); buffer = one_transition }
-    ∷ record { text = "\n\ntrans 1 1024 3"; space = 17; answer = refused (refusal 11 2); buffer = empty ++ replicate 8 7 }
-    ∷ record { text = "trans 1 g0 3"; space = 17; answer = refused (refusal 11 0); buffer = empty ++ replicate 8 7 }
-    ∷ record { text = "group 5 5"; space = 20; answer = refused (refusal 11 0); buffer = empty ++ replicate 11 7 }
-    ∷ record { text = "limit 1 2 3 4 2"; space = 20; answer = refused (refusal 11 0); buffer = empty ++ replicate 11 7 }
-    ∷ record { text = "limit 1 2 3 4 1 5"; space = 22; answer = refused (refusal 11 0); buffer = empty ++ replicate 13 7 }
-    ∷ record { text = "limit 1 2 3 4 4"; space = 20; answer = refused (refusal 11 0); buffer = empty ++ replicate 11 7 }
-    ∷ record { text = "group 1\r\n"; space = 13; answer = refused (refusal 18 0); buffer = empty ++ replicate 4 7 }
-    ∷ record { text = " \n"; space = 9; answer = refused (refusal 18 0); buffer = empty }
-    ∷ record { text = "\r\n"; space = 9; answer = refused (refusal 18 0); buffer = empty }
-    ∷ record { text = "# x\n"; space = 9; answer = refused (refusal 18 0); buffer = empty }
-    ∷ record { text = "trans 1 1024 3"; space = 9; answer = refused (refusal 11 0); buffer = empty }
-    ∷ record { text = "allow 12 20 5 1 s31"; space = 20; answer = gives 20; buffer = one_switched }
+    ∷ record { text = "trans 12 20 5\nx"; space = 17; answer = Err (refusal 18 14); buffer = one_transition }
+    ∷ record { text = "\n\ntrans 1 1024 3"; space = 17; answer = Err (refusal 11 2); buffer = empty ++ replicate 8 7 }
+    ∷ record { text = "trans 1 g0 3"; space = 17; answer = Err (refusal 11 0); buffer = empty ++ replicate 8 7 }
+    ∷ record { text = "group 5 5"; space = 20; answer = Err (refusal 11 0); buffer = empty ++ replicate 11 7 }
+    ∷ record { text = "limit 1 2 3 4 2"; space = 20; answer = Err (refusal 11 0); buffer = empty ++ replicate 11 7 }
+    ∷ record { text = "limit 1 2 3 4 1 5"; space = 22; answer = Err (refusal 11 0); buffer = empty ++ replicate 13 7 }
+    ∷ record { text = "limit 1 2 3 4 4"; space = 20; answer = Err (refusal 11 0); buffer = empty ++ replicate 11 7 }
+    ∷ record { text = "group 1\r\n"; space = 13; answer = Err (refusal 18 0); buffer = empty ++ replicate 4 7 }
+    ∷ record { text = " \n"; space = 9; answer = Err (refusal 18 0); buffer = empty }
+    ∷ record { text = "\r\n"; space = 9; answer = Err (refusal 18 0); buffer = empty }
+    ∷ record { text = "# x\n"; space = 9; answer = Err (refusal 18 0); buffer = empty }
+    ∷ record { text = "trans 1 1024 3"; space = 9; answer = Err (refusal 11 0); buffer = empty }
+    ∷ record { text = "allow 12 20 5 1 s31"; space = 20; answer = Ok 20; buffer = one_switched }
     ∷ record {
       text = "allow 12 20 5 1 s31\nallow 12 20 5 1 s32";
       space = 33;
-      answer = refused (refusal 18 20);
+      answer = Err (refusal 18 20);
       buffer = one_switched ++ replicate 13 7;
     }
-    ∷ record { text = "group 5 7\ngroup 5"; space = 20; answer = gives 19; buffer = two_groups ++ replicate 1 7 }
-    ∷ record { text = "group 5 7\ngroup 5\ngroup 5 7"; space = 25; answer = refused (refusal 20 18); buffer = two_groups ++ replicate 6 7 }
-    ∷ record { text = "group 5 7\ngroup 5\n\ngroup 5\nx"; space = 19; answer = refused (refusal 20 19); buffer = two_groups }
+    ∷ record { text = "group 5 7\ngroup 5"; space = 20; answer = Ok 19; buffer = two_groups ++ replicate 1 7 }
+    ∷ record { text = "group 5 7\ngroup 5\ngroup 5 7"; space = 25; answer = Err (refusal 20 18); buffer = two_groups ++ replicate 6 7 }
+    ∷ record { text = "group 5 7\ngroup 5\n\ngroup 5\nx"; space = 19; answer = Err (refusal 20 19); buffer = two_groups }
     ∷ []
 
 unfoldable pub text_gives : WorkedText → Made
@@ -193,5 +194,5 @@ full_fault row = row_fault 5 (ascii row) full_groups
 abbrev pub WorkedFull : Type 0
 WorkedFull =
     map full_fault ("group 256" ∷ "group 0" ∷ "group 255" ∷ "x" ∷ "group 1024" ∷ "trans 1 g255 3" ∷ [])
-    ≡ some (refusal 12 5) ∷ some (refusal 20 5) ∷ some (refusal 20 5) ∷ some (refusal 18 5) ∷ some (refusal 11 5)
-    ∷ some (refusal 13 5) ∷ []
+    ≡ Some (refusal 12 5) ∷ Some (refusal 20 5) ∷ Some (refusal 20 5) ∷ Some (refusal 18 5) ∷ Some (refusal 11 5)
+    ∷ Some (refusal 13 5) ∷ []

@@ -7,7 +7,7 @@
 --                           words; none where a word says nothing in its field, or where there are too few words or too many
 --     record_of_row row       the record that a row stands for, or none where the row is outside the form
 use Rattle.std.specs.Prelude.{ℕ, ◌+◌, cond, List, [], ◌∷◌, ◌++◌, length, replicate}
-use Rattle.std.proofs.Math.Option.{Option, none, some}
+use Rattle.std.specs.Prelude.{Option, None, Some}
 use Rattle.format.specs.Bytes.{put_word}
 use Rattle.format.specs.Refusals.{◌or_else◌}
 use Rattle.text.specs.declared.Field.{Field}
@@ -63,33 +63,33 @@ unfoldable pub forms : List Form
 forms = group ∷ allow ∷ transition ∷ constraint ∷ []
 
 unfoldable pub as_bytes : Field → Option ℕ → Option (List ℕ)
-as_bytes f none = none
-as_bytes f (some n) = some (field_bytes f n)
+as_bytes f None = None
+as_bytes f (Some n) = Some (field_bytes f n)
 
 unfoldable pub joined : Option (List ℕ) → Option (List ℕ) → Option (List ℕ)
-joined none b = none
-joined (some x) none = none
-joined (some x) (some y) = some (x ++ y)
+joined None b = None
+joined (Some x) None = None
+joined (Some x) (Some y) = Some (x ++ y)
 
 unfoldable pub fields_of : List Field → List Field → List (List ℕ) → Option (List ℕ)
-fields_of [] more [] = some []
-fields_of [] [] (w ∷ ws) = none
+fields_of [] more [] = Some []
+fields_of [] [] (w ∷ ws) = None
 fields_of [] (f ∷ more) (w ∷ ws) = joined (as_bytes f (value_of f w)) (fields_of [] more ws)
-fields_of (f ∷ fs) more [] = none
+fields_of (f ∷ fs) more [] = None
 fields_of (f ∷ fs) more (w ∷ ws) = joined (as_bytes f (value_of f w)) (fields_of fs more ws)
 
 -- a record starts with its own length and its kind
 unfoldable pub headed : ℕ → Option (List ℕ) → Option (List ℕ)
-headed k none = none
-headed k (some l) = some ((2 + length l) ∷ k ∷ l)
+headed k None = None
+headed k (Some l) = Some ((2 + length l) ∷ k ∷ l)
 
 -- the record of a row of one of these forms, whose first word is w
 unfoldable pub record_by : List Form → List ℕ → List (List ℕ) → Option (List ℕ)
-record_by [] w ws = none
+record_by [] w ws = None
 record_by (f ∷ fs) w ws = cond (same w f.word) (headed f.kind (fields_of f.fields f.more ws)) (record_by fs w ws)
 
 unfoldable pub record_of_words : List (List ℕ) → Option (List ℕ)
-record_of_words [] = none
+record_of_words [] = None
 record_of_words (w ∷ ws) = record_by forms w ws
 
 -- words are separated by one space, 32

@@ -9,7 +9,7 @@
 --     Spellable r        the record has a spelling: its fields are in the form's ranges, also where adding refuses them
 --     OneSpelling        a row gives a record exactly where it is the spelling of that record
 use Rattle.std.specs.Prelude.{ℕ, zero, suc, ◌+◌, ◌-◌, ◌/◌, ◌%◌, ◌≤◌, ◌≡◌, true, cond, get_or, drop, ltb, eqb}
-use Rattle.std.proofs.Math.Option.{some}
+use Rattle.std.specs.Prelude.{Some}
 use mathlib.Core.List.{List, [], ◌∷◌, ◌++◌, map, Memᴰ}
 use Rattle.format.specs.Bytes.{Bytes, word_at, words}
 use Rattle.format.specs.Format.{shape_ok}
@@ -69,5 +69,5 @@ pub record Spellable (r : List ℕ) : Type 0 where
   pub condition : get_or r 1 0 ≡ 2 → get_or r 10 0 ≤ 33
 
 pub record OneSpelling : Type 0 where
-  pub only : (row r : List ℕ) → record_of_row row ≡ some r → Spellable r × (row ≡ spelling r)
-  pub each : (r : List ℕ) → Spellable r → record_of_row (spelling r) ≡ some r
+  pub only : (row r : List ℕ) → record_of_row row ≡ Some r → Spellable r × (row ≡ spelling r)
+  pub each : (r : List ℕ) → Spellable r → record_of_row (spelling r) ≡ Some r

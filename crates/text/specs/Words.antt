@@ -9,7 +9,7 @@
 use Rattle.std.specs.Prelude.{ℕ, ◌+◌, ◌-◌, ◌*◌, Bool, true, false, cond, ◌&&◌, List, [], ◌∷◌, leb, eqb}
 use Prim.Native.Char.{code}
 use Prim.Native.String as string
-use Rattle.std.proofs.Math.Option.{Option, none, some}
+use Rattle.std.specs.Prelude.{Option, None, Some}
 
 unfoldable pub ascii : string.String → List ℕ
 ascii string.[] = []
@@ -36,29 +36,29 @@ is_digit c = leb 48 c && leb c 57
 
 -- the number that digits write behind those of n
 unfoldable pub digits_from : ℕ → List ℕ → Option ℕ
-digits_from n [] = some n
-digits_from n (c ∷ w) = cond (is_digit c) (digits_from (n * 10 + (c - 48)) w) none
+digits_from n [] = Some n
+digits_from n (c ∷ w) = cond (is_digit c) (digits_from (n * 10 + (c - 48)) w) None
 
 -- one digit, or several of which the first is not 0
 unfoldable pub number_of : List ℕ → Option ℕ
-number_of [] = none
+number_of [] = None
 number_of (c ∷ []) = digits_from 0 (c ∷ [])
-number_of (c ∷ d ∷ w) = cond (eqb c 48) none (digits_from 0 (c ∷ d ∷ w))
+number_of (c ∷ d ∷ w) = cond (eqb c 48) None (digits_from 0 (c ∷ d ∷ w))
 
 unfoldable pub up_to : ℕ → Option ℕ → Option ℕ
-up_to most none = none
-up_to most (some n) = cond (leb n most) (some n) none
+up_to most None = None
+up_to most (Some n) = cond (leb n most) (Some n) None
 
 unfoldable pub number_to : ℕ → List ℕ → Option ℕ
 number_to most w = up_to most (number_of w)
 
 unfoldable pub named : List ℕ → ℕ → List ℕ → Option ℕ
-named word n w = cond (same w word) (some n) none
+named word n w = cond (same w word) (Some n) None
 
 unfoldable pub above : ℕ → Option ℕ → Option ℕ
-above base none = none
-above base (some n) = some (base + n)
+above base None = None
+above base (Some n) = Some (base + n)
 
 unfoldable pub lettered : ℕ → ℕ → ℕ → List ℕ → Option ℕ
-lettered letter base most [] = none
-lettered letter base most (c ∷ w) = cond (eqb c letter) (above base (number_to most w)) none
+lettered letter base most [] = None
+lettered letter base most (c ∷ w) = cond (eqb c letter) (above base (number_to most w)) None

@@ -1,8 +1,6 @@
 // The types of policies as text. Their meaning is in specs/, and no code is here.
 #![tactic(auto)]
 
-use format::Refusal;
-
 // What a word of a row stands for: a member of a group, a type (a basic one or a group), a class or an action, a
 // predicate, a condition.
 #[derive(Clone, Copy)]
@@ -12,11 +10,4 @@ pub enum Field {
     Number,
     Predicate,
     Condition,
-}
-
-// What building from a text answers: the length of the image, or the refusal.
-#[derive(Clone, Copy)]
-pub enum Built {
-    Length(usize),
-    Refused(Refusal),
 }

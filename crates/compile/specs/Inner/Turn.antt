@@ -5,7 +5,7 @@
 --     Turned s l r input image   a turn on the bytes l; input and image after it: a refused row, or the reading goes on
 --     Ended s r image            the end of the input: a refused row, or an image at the front of its buffer
 use Rattle.std.specs.Prelude.{ℕ, ◌+◌, ◌≤◌, ◌<◌, ◌≡◌, List, [], length, take, drop}
-use Rattle.std.proofs.Math.Option.{none, some}
+use Rattle.std.specs.Prelude.{None, Some}
 use Rattle.format.specs.Check.{check_front}
 use Rattle.lines.specs.declared.RowRefusal.{RowRefusal}
 use Rattle.lines.specs.Compiled.{feeds, Reading, row_line, cut, turn_fault, turned, reads}
@@ -32,14 +32,14 @@ Rests p l (step.Onward q) input = Kept p l q input
 Rests p l (step.Fault f) input = Filled p l f
 
 pub record Goes (s : Reading) (l : List ℕ) (p : Place) (input image : List ℕ) : Type 0 where
-  pub none_refused : turn_fault s l ≡ none
-  pub accepted : check_front image ≡ none
+  pub none_refused : turn_fault s l ≡ None
+  pub accepted : check_front image ≡ None
   pub few : p.kept < 65536
   pub next : turned s l ≡ reading_of p input image
 
 abbrev pub Turned : Reading → List ℕ → Step → List ℕ → List ℕ → Type 0
 Turned s l (step.Onward p) input image = Goes s l p input image
-Turned s l (step.Fault f) input image = turn_fault s l ≡ some f
+Turned s l (step.Fault f) input image = turn_fault s l ≡ Some f
 
 pub record Image (s : Reading) (n : ℕ) (image : List ℕ) : Type 0 where
   pub fits : n ≤ length image

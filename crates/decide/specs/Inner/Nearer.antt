@@ -9,17 +9,15 @@
 --     near_of b              the nearest so far, as the code's `Best`
 --     AtNearest l q b count n at   where the walk stands: the nearest so far, and the rules from rule n on, give the nearest of all
 --     Comes l q b count n x   where it stands at the next rule, from rule n on, that comes nearer, if one does
-use Rattle.std.specs.Prelude.{ℕ, ◌+◌, ◌≤◌, ◌<◌, ◌≡◌, Bool, true, false, not, cond, List, get_or, take, eqb, ltb}
+use Rattle.std.specs.Prelude.{ℕ, ◌+◌, ◌≤◌, ◌<◌, ◌≡◌, Bool, true, false, not, cond, List, get_or, take, eqb, ltb, Some}
 use Rattle.format.specs.declared.Section.TheVariants.{Rules}
 use Rattle.format.specs.Bytes.{word_at}
 use Rattle.format.specs.Policy.{policy_of}
 use Rattle.decision.specs.declared.Query.{Query}
-use Rattle.decision.specs.declared.Nearest.{Nearest}
-use Rattle.decision.specs.declared.Nearest.TheVariants.{Near}
 use Rattle.decision.specs.Sets.{any_of, within}
 use Rattle.decision.specs.Conditions.{is_on}
 use Rattle.decision.specs.Reading.{Rule, Request, rule_of}
-use Rattle.decision.specs.Decide.{tests, covers, passes, nearest}
+use Rattle.decision.specs.Decide.{tests, covers, passes, nearest, near, Nearest}
 use Rattle.decision.specs.Inner.OnePass.{nearest_from}
 use Rattle.decide.specs.declared.nearest.Best.{Best}
 use Rattle.decide.specs.declared.nearest.Next.{Next}
@@ -51,7 +49,7 @@ pub record Counts (most s r : ℕ) : Type 0 where
   pub less : s ≤ most → r ≤ most
 
 abbrev pub near_of : Best → Nearest
-near_of b = Near b.steps b.rule
+near_of b = Some (near b.steps b.rule)
 
 pub record On (l : List ℕ) (w at : ℕ) : Type 0 where
   pub here : RuleHere l at

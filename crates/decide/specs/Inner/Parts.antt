@@ -14,13 +14,12 @@
 use Rattle.std.specs.Prelude.{ℕ, ◌+◌, ◌*◌, ◌≤◌, ◌<◌, ◌≡◌, List, length, get_or}
 use Rattle.format.specs.declared.Section.TheVariants.{Groups, Constraints}
 use Rattle.format.specs.declared.Starts.{Starts}
-use Rattle.format.specs.declared.Sections.{Sections}
 use Rattle.format.specs.Bytes.{word_at}
 use Rattle.format.specs.Format.{count_of}
 use Rattle.format.specs.Policy.{policy_of, record_at, place_of}
 use Rattle.format.specs.Check.{check, Accepted}
 use Rattle.format.specs.Claims.{IsType}
-use Rattle.format.specs.Answers.{outcome, sections_outcome, starts}
+use Rattle.format.specs.Answers.{outcome, starts, Outcome}
 use Rattle.format.specs.Inner.Places.{words_at, Rising, RuleAt, ConstraintAt}
 use Rattle.decision.specs.declared.Query.{Query}
 use Rattle.decision.specs.Sets.{set_of}
@@ -72,8 +71,8 @@ pub record Ready (l ps : List ℕ) (s : Starts) : Type 0 where
   pub known : Known l ps
   pub starting : s ≡ starts l
 
-pub record Surveyed (l ps : List ℕ) (x : Sections) : Type 0 where
-  pub sections : sections_outcome x ≡ outcome (check l) (starts l)
+pub record Surveyed (l ps : List ℕ) (x : Outcome Starts) : Type 0 where
+  pub sections : x ≡ outcome (check l) (starts l)
   pub placed : Accepted l → Placed l ps
 
 pub record TypeAt (l : List ℕ) (at : ℕ) : Type 0 where

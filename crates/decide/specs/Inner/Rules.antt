@@ -11,7 +11,7 @@
 --     reaching_from ms f a   such a rule, whose source passes a test
 --     shares_source rs ms s  a rule of the list that reaches marks has a source that touches s
 use Rattle.std.specs.Prelude.{ℕ, ◌+◌, Bool, true, false, ◌&&◌, cond, List, get_or, eqb}
-use Rattle.std.proofs.Math.Option.{Option, none, some}
+use Rattle.std.specs.Prelude.{Option, None, Some}
 use Rattle.format.specs.Bytes.{word_at}
 use Rattle.format.specs.Policy.{policy_of}
 use Rattle.decision.specs.declared.Query.{Query}
@@ -44,8 +44,8 @@ pub record AtRule (l ps : List ℕ) (at : ℕ) : Type 0 where
   pub here : RuleHere l at
 
 unfoldable pub found_of : Option ℕ → Found
-found_of none = Nothing
-found_of (some n) = At n
+found_of None = Nothing
+found_of (Some n) = At n
 
 unfoldable pub first_rule : List ℕ → Query → Found
 first_rule l q = found_of (first_at (covers (request_in l q)) 0 (rules_in l q.switches))

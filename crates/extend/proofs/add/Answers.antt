@@ -1,9 +1,9 @@
 -- `add` meets its contract: where nothing is refused, what is inserted is the new image. Assumes nothing.
 use native.Mathlib.Omega.{arith}
 use mathlib.Core.Path.{◌≡◌, sym, ap, ◌∙◌}
-use mathlib.Core.Option.{none, some}
+use Rattle.std.specs.Prelude.{None, Some}
 use Rattle.format.specs.Bytes.{Bytes}
-use Rattle.format.specs.Answers.{gives}
+use Rattle.std.specs.Prelude.{Ok}
 use Rattle.format.proofs.Chain.{outcome_gives, outcome_refused}
 use Rattle.extension.specs.Add.{new_number, add_fault}
 use Rattle.extension.specs.Inner.Splice.{inserted}
@@ -14,23 +14,23 @@ use Rattle.extend.proofs.add.Goals as goal
 
 pub insert-requires : goal.insert-requires
 insert-requires c =
-    let slotted : (add_fault c.args.buffer.now c.args.part.now ≡ none) × (c.in-Put.slot ≡ slot_of c.args.buffer.now c.args.part.now) = outcome_gives _ _ (sym (ap plan_outcome c.in-Put.is) ∙ c.planned.ensures) in
+    let slotted : (add_fault c.args.buffer.now c.args.part.now ≡ None) × (c.in-Put.slot ≡ slot_of c.args.buffer.now c.args.part.now) = outcome_gives _ _ (sym c.in-Put.is ∙ c.planned.ensures) in
     let q = slotted in rw q.1 (slot_fits _ _ (λ i. omega (arith, c.type_inv.part i)) q.0)
 
 pub returns-in-Refused : goal.returns-in-Refused
-returns-in-Refused c = let f : add_fault c.args.buffer.now c.args.part.now ≡ some c.in-Refused.f =
-    outcome_refused _ _ (sym (ap plan_outcome c.in-Refused.is) ∙ c.planned.ensures) in
+returns-in-Refused c = let f : add_fault c.args.buffer.now c.args.part.now ≡ Some c.in-Refused.f =
+    outcome_refused _ _ (sym c.in-Refused.is ∙ c.planned.ensures) in
     record { answer = rw f; buffer = sym (buffer_refused _ _ _ f) }
 
 pub returns-in-Put : goal.returns-in-Put
 unfolding slot_of new_number
 returns-in-Put c =
-    let slotted : (add_fault c.args.buffer.now c.args.part.now ≡ none) × (c.in-Put.slot ≡ slot_of c.args.buffer.now c.args.part.now) = outcome_gives _ _ (sym (ap plan_outcome c.in-Put.is) ∙ c.planned.ensures) in
+    let slotted : (add_fault c.args.buffer.now c.args.part.now ≡ None) × (c.in-Put.slot ≡ slot_of c.args.buffer.now c.args.part.now) = outcome_gives _ _ (sym c.in-Put.is ∙ c.planned.ensures) in
     let q = slotted in
     let b = c.args.buffer.now in
     let r = c.args.part.now in
     let bytes : Bytes b = λ i. omega (arith, c.slice_known-1.given i) in
     record {
-      answer = rw q.0 (ap (λ x. gives x.count) q.1);
+      answer = rw q.0 (ap (λ x. Ok x.count) q.1);
       buffer = c.insert.ensures ∙ ap (λ x. inserted b r x.at x.size x.field x.count) q.1 ∙ buffer_inserted b r bytes q.0;
     }

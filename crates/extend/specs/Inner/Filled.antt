@@ -10,7 +10,7 @@
 --     Says o text at w    the word at a place of the text says o, and ends where it is said to
 --     Fills k text at r b, Records text at r b   what is put for the words from a place on, and for the row at a place
 use Rattle.std.specs.Prelude.{ℕ, ◌+◌, ◌-◌, ◌≤◌, ◌<◌, ◌≡◌, Bool, true, false, cond, List, ◌++◌, length, take, drop, ltb, eqb}
-use Rattle.std.proofs.Math.Option.{Option, none, some}
+use Rattle.std.specs.Prelude.{Option, None, Some}
 use Rattle.text.specs.declared.Field.{Field}
 use Rattle.text.specs.declared.Field.TheVariants.{Member, AnyType, Number, Predicate, Condition}
 use Rattle.text.specs.Words.{split, same}
@@ -21,8 +21,8 @@ use Rattle.extend.specs.declared.spell.Word.{Word}
 use Rattle.extend.specs.declared.row.Row.{Row}
 
 unfoldable pub said : Option ℕ → ℕ
-said none = 65536
-said (some n) = n
+said None = 65536
+said (Some n) = n
 
 unfoldable pub kind_of : List ℕ → ℕ
 kind_of w =
@@ -46,10 +46,10 @@ unfoldable pub fields_from : ℕ → ℕ → List (List ℕ) → Option (List �
 fields_from k i ws = fields_of (drop i (form_of k).fields) (drop (i - length (form_of k).fields) (form_of k).more) ws
 
 unfoldable pub fields_of_part : ℕ → List ℕ → Option (List ℕ)
-fields_of_part n b = cond (ltb n 2) none (some (drop 2 (take n b)))
+fields_of_part n b = cond (ltb n 2) None (Some (drop 2 (take n b)))
 
 unfoldable pub record_of_part : ℕ → List ℕ → Option (List ℕ)
-record_of_part n b = cond (ltb n 2) none (some (take n b))
+record_of_part n b = cond (ltb n 2) None (Some (take n b))
 
 unfoldable pub closed_row : ℕ → ℕ → ℕ → ℕ → Row
 closed_row k words n end = record { length = cond (ltb words (length (form_of k).fields)) 0 n; end = end }

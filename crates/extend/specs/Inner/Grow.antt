@@ -3,26 +3,24 @@
 --     Grows at b r g after       what adding the record of a row answers and leaves: the places in the image after it
 --     AddsEach text b r after    what adding all rows of a text answers and leaves
 use Rattle.std.specs.Prelude.{ℕ, ◌+◌, ◌≡◌, cond, List, eqb}
-use Rattle.std.proofs.Math.Option.{none}
+use Rattle.std.specs.Prelude.{None}
 use Rattle.format.specs.declared.Starts.{Starts}
-use Rattle.format.specs.declared.Sections.{Sections}
 use Rattle.format.specs.Check.{image_in, check_front}
-use Rattle.format.specs.Answers.{sections_outcome, outcome, starts}
+use Rattle.format.specs.Answers.{outcome, starts, Outcome}
 use Rattle.extension.specs.Add.{add_fault, buffer_after}
-use Rattle.text.specs.declared.Built.{Built}
 use Rattle.text.specs.Words.{split}
-use Rattle.text.specs.Build.{moved_to, rows_from, built_outcome}
+use Rattle.text.specs.Build.{moved_to, rows_from}
 
 unfoldable pub moved_starts : Starts → ℕ → ℕ → Starts
 moved_starts s field by =
     cond (eqb field 3) (record { rules = s.rules + by; constraints = s.constraints + by })
     (cond (eqb field 5) (record { rules = s.rules; constraints = s.constraints + by }) s)
 
-pub record Grows (at : ℕ) (b r : List ℕ) (g : Sections) (after : List ℕ) : Type 0 where
-  pub answer : sections_outcome g ≡ outcome (moved_to at (add_fault b r)) (starts (image_in after))
+pub record Grows (at : ℕ) (b r : List ℕ) (g : Outcome Starts) (after : List ℕ) : Type 0 where
+  pub answer : g ≡ outcome (moved_to at (add_fault b r)) (starts (image_in after))
   pub buffer : after ≡ buffer_after b r
-  pub accepted : check_front after ≡ none
+  pub accepted : check_front after ≡ None
 
-pub record AddsEach (text b : List ℕ) (r : Built) (after : List ℕ) : Type 0 where
-  pub answer : built_outcome r ≡ (rows_from 0 (split 10 text) b).answer
+pub record AddsEach (text b : List ℕ) (r : Outcome ℕ) (after : List ℕ) : Type 0 where
+  pub answer : r ≡ (rows_from 0 (split 10 text) b).answer
   pub buffer : after ≡ (rows_from 0 (split 10 text) b).buffer

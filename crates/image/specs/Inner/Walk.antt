@@ -9,27 +9,19 @@
 --     start_in y s          where a section starts
 --     Hops l at n          the first n length bytes from a place on, and the records, lie in the image; no place is above 55,561
 use Rattle.std.specs.Prelude.{ℕ, zero, suc, ◌+◌, ◌≤◌, ◌<◌, ◌≡◌, List, length, get_or, drop, set, leb, eqb}
-use Rattle.std.proofs.Math.Option.{Option, none, some}
+use Rattle.std.specs.Prelude.{None}
 use Rattle.format.specs.declared.Section.{Section}
 use Rattle.format.specs.declared.Section.TheVariants.{Groups, Rules, Constraints}
-use Rattle.format.specs.declared.Refusal.{Refusal}
 use Rattle.format.specs.declared.Starts.{Starts}
-use Rattle.format.specs.declared.Sections.{Sections}
-use Rattle.image.specs.declared.checker.Walked.{Walked}
-use Rattle.image.specs.declared.checker.Walked.TheVariants.{To, Stop}
 use Rattle.format.specs.Refusals.{refusal, need, unless_refused}
-use Rattle.format.specs.Answers.{Outcome, outcome, sections_outcome, starts}
+use Rattle.format.specs.Answers.{Outcome, outcome, starts}
 use Rattle.format.specs.Format.{header_length, count_of}
 use Rattle.format.specs.Policy.{place_after}
 use Rattle.format.specs.Longest.{longest_length}
 use Rattle.format.specs.Check.{read_of, read_fault, section_fault, header_fault, body_fault, layout_fault}
 
-abbrev pub walked_to : Option Refusal → ℕ → Walked
-walked_to none at = To at
-walked_to (some f) at = Stop f
-
-unfoldable pub walk_of : List ℕ → Section → ℕ → ℕ → Walked
-walk_of l s at n = walked_to (section_fault l s at n) (place_after l at n)
+unfoldable pub walk_of : List ℕ → Section → ℕ → ℕ → Outcome ℕ
+walk_of l s at n = outcome (section_fault l s at n) (place_after l at n)
 
 unfoldable pub noted_from : List ℕ → Section → ℕ → ℕ → ℕ → List ℕ → List ℕ
 noted_from l s at k zero ps = ps
@@ -42,23 +34,23 @@ abbrev pub noted : List ℕ → List ℕ → List ℕ
 noted l ps = noted_from l Groups header_length 0 (count_of l Groups) ps
 
 pub record Fits (l : List ℕ) (s : Section) (at n : ℕ) : Type 0 where
-  pub place : (k : ℕ) → k ≤ n → section_fault l s at k ≡ none → place_after l at k ≤ longest_length
+  pub place : (k : ℕ) → k ≤ n → section_fault l s at k ≡ None → place_after l at k ≤ longest_length
 
 pub record Ahead (l : List ℕ) (s : Section) (g at n : ℕ) : Type 0 where
   pub groups : g ≡ count_of l Groups
   pub inside : at ≤ length l
   pub fits : Fits l s at n
 
-pub record Walks (l : List ℕ) (s : Section) (at n : ℕ) (before : List ℕ) (r : Walked) (after : List ℕ) : Type 0 where
+pub record Walks (l : List ℕ) (s : Section) (at n : ℕ) (before : List ℕ) (r : Outcome ℕ) (after : List ℕ) : Type 0 where
   pub comes : r ≡ walk_of l s at n
   pub table : after ≡ noted_from l s at 0 n before
 
-pub record ChecksBody (l before : List ℕ) (r : Sections) (after : List ℕ) : Type 0 where
-  pub sections : sections_outcome r ≡ outcome (body_fault l) (starts l)
+pub record ChecksBody (l before : List ℕ) (r : Outcome Starts) (after : List ℕ) : Type 0 where
+  pub sections : r ≡ outcome (body_fault l) (starts l)
   pub table : after ≡ noted l before
 
-pub record Checks (l before : List ℕ) (r : Sections) (after : List ℕ) : Type 0 where
-  pub sections : sections_outcome r ≡ outcome (layout_fault l) (starts l)
+pub record Checks (l before : List ℕ) (r : Outcome Starts) (after : List ℕ) : Type 0 where
+  pub sections : r ≡ outcome (layout_fault l) (starts l)
   pub table : after ≡ unless_refused (header_fault eqb l) (noted l before) before
 
 unfoldable pub ends_of : List ℕ → ℕ → ℕ → ℕ → Outcome Starts

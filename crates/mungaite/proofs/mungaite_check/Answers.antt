@@ -1,6 +1,5 @@
 -- `mungaite_check` meets its contract: a case for each answer of the check. Assumes nothing.
 use mathlib.Core.Path.{sym, ap, ◌∙◌}
-use Rattle.format.specs.Answers.{refusal_of}
 use Rattle.mungaite.specs.Code.{fault_code}
 use Rattle.mungaite.proofs.mungaite_check.Goals as goal
 

@@ -1,7 +1,6 @@
 -- `mungaite_record` meets its contract: a case for each section. Assumes nothing.
 use Rattle.std.proofs.Common.{arith}
 use mathlib.Core.Path.{sym, ap, ◌∙◌}
-use Rattle.format.specs.Answers.{refusal_of}
 use Rattle.mungaite.specs.Code.{fault_code}
 use Rattle.mungaite.proofs.CodeLaws.{record_groups, record_rules, record_constraints, record_nowhere, no_section_accepted, no_section_refused}
 use Rattle.mungaite.proofs.mungaite_record.Goals as goal

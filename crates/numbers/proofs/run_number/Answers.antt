@@ -6,10 +6,10 @@ use Rattle.runs.specs.Numbers.{run_code}
 use Rattle.numbers.proofs.run_number.Goals as goal
 
 pub returns-in-Fit : goal.returns-in-Fit
-returns-in-Fit c = c.parts.ensures ∙ ap (λ r. run_code (run_outcome r)) (sym c.in-Fit.is)
+returns-in-Fit c = c.parts.ensures ∙ ap (λ r. run_code (r)) (sym c.in-Fit.is)
 
 pub returns-in-Unfit : goal.returns-in-Unfit
-returns-in-Unfit c = c.parts-in-Unfit.ensures ∙ ap (λ r. run_code (run_outcome r)) (sym c.in-Unfit.is)
+returns-in-Unfit c = c.parts-in-Unfit.ensures ∙ ap (λ r. run_code (r)) (sym c.in-Unfit.is)
 
 pub returns-in-Refused : goal.returns-in-Refused
-returns-in-Refused c = c.refused.ensures ∙ ap (λ r. run_code (run_outcome r)) (sym c.in-Refused.is)
+returns-in-Refused c = c.refused.ensures ∙ ap (λ r. run_code (r)) (sym c.in-Refused.is)

@@ -6,10 +6,10 @@
 --     Faulty f         f is the refusal of an image
 --     Due s            s is to be written: it is what a turn says, or the line of an image's refusal
 use Rattle.std.specs.Prelude.{ℕ, ◌<◌, ◌≡◌, List, []}
-use Rattle.std.proofs.Math.Option.{some}
+use Rattle.std.specs.Prelude.{Some}
 use Rattle.format.specs.declared.Refusal.{Refusal}
 use Rattle.format.specs.Check.{check}
-use Rattle.format.specs.Answers.{refused}
+use Rattle.std.specs.Prelude.{Err}
 use Rattle.lines.specs.Lines.{line, lines}
 use Rattle.lines.specs.Output.{rest_of, ending}
 use Rattle.streams.specs.Put.{Front}
@@ -39,8 +39,8 @@ pub record Turned (g : Got) (l b input output : List ℕ) (r : Turn) : Type 0 wh
 
 pub record Faulty (f : Refusal) : Type 0 where
   pub image : List ℕ
-  pub refuses : check image ≡ some f
+  pub refuses : check image ≡ Some f
 
 pub data Due (s : List ℕ) : Type 0 where
   turn : (g : Got) (l b : List ℕ) → s ≡ says g l b → Due s
-  fault : (f : Refusal) → Faulty f → s ≡ line (refused f) → Due s
+  fault : (f : Refusal) → Faulty f → s ≡ line (Err f) → Due s

@@ -1,14 +1,13 @@
 -- `convert` meets its contract: it refuses what passes not 1 to 7. Assumes nothing.
 use mathlib.Core.Path.{sym, ap, ◌∙◌}
 use lib.ListN.{replicate}
-use Rattle.format.specs.Answers.{sections_outcome}
 use Rattle.format.proofs.Chain.{outcome_gives, outcome_refused}
 use Rattle.rewrite.proofs.AnswerLaws.{alike_all, converts_refused}
 use Rattle.rewrite.proofs.convert.Goals as goal
 
 pub put_converted-requires : goal.put_converted-requires
 put_converted-requires c = let survey = c.survey_old.ensures in
-    let q = outcome_gives _ _ (sym (ap sections_outcome c.in-At.is) ∙ survey.sections) in (
+    let q = outcome_gives _ _ (sym c.in-At.is ∙ survey.sections) in (
       q.0,
       q.1,
       alike_all c.args.image.now (replicate 256 0) _ q.0 survey.alike,
@@ -16,5 +15,5 @@ put_converted-requires c = let survey = c.survey_old.ensures in
 
 pub returns-in-Refused : goal.returns-in-Refused
 returns-in-Refused c = converts_refused _ _ _
-    (outcome_refused _ _ (sym (ap sections_outcome c.in-Refused.is)
+    (outcome_refused _ _ (sym c.in-Refused.is
     ∙ c.survey_old.ensures.sections))

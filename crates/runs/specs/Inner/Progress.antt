@@ -5,39 +5,38 @@
 --     next_run r i a        what it comes to after row i, where it was r before and the row is answered a
 --     row_at ns i           row i of a list of numbers
 use Rattle.std.specs.Prelude.{ℕ, ◌+◌, ◌*◌, Bool, List, get_or}
-use Rattle.std.proofs.Math.Option.{Option, none, some}
+use Rattle.std.specs.Prelude.{Option, None, Some}
 use Rattle.format.specs.declared.Refusal.{Refusal}
 use Rattle.format.specs.declared.Starts.{Starts}
-use Rattle.format.specs.Answers.{Outcome, refused, gives}
+use Rattle.std.specs.Prelude.{Ok, Err}
+use Rattle.format.specs.Answers.{Outcome}
 use Rattle.decision.specs.declared.Query.{Query}
-use Rattle.decision.specs.declared.Answer.{Answer}
-use Rattle.decision.specs.declared.Answer.TheVariants as answers
 use Rattle.decision.specs.Decide.{query_of}
-use Rattle.runs.specs.declared.Run.{Run}
-use Rattle.runs.specs.declared.Run.TheVariants.{Fit, Unfit, Refused}
-use Rattle.runs.specs.Runs.{rows_fault}
+use Rattle.runs.specs.Runs.{rows_fault, Run}
 use Rattle.runs.specs.Numbers.{word_from}
+use Rattle.decision.specs.declared.Decision.{Decision}
+use Rattle.decision.specs.declared.Decision.TheVariants.{NotPermitted, Permitted, UnKnown}
 
 abbrev pub open_fault : Outcome Starts → ℕ → Bool → Option Refusal
-open_fault (refused f) rows fits = some f
-open_fault (gives s) rows fits = rows_fault rows fits
+open_fault (Err f) rows fits = Some f
+open_fault (Ok s) rows fits = rows_fault rows fits
 
 abbrev pub run_said : Option Refusal → Run
-run_said none = Fit
-run_said (some f) = Refused f
+run_said None = Ok None
+run_said (Some f) = Err f
 
 abbrev pub rows_for : Run → ℕ → ℕ
-rows_for Fit n = n
-rows_for (Unfit i) n = n
-rows_for (Refused f) n = 0
+rows_for (Ok None) n = n
+rows_for (Ok (Some i)) n = n
+rows_for (Err f) n = 0
 
-abbrev pub next_run : Run → ℕ → Answer → Run
-next_run Fit i (answers.NotPermitted x) = Unfit i
-next_run Fit i (answers.Permitted r) = Fit
-next_run Fit i (answers.UnKnown r c) = Unfit i
-next_run Fit i (answers.Refused f) = Unfit i
-next_run (Unfit n) i a = Unfit n
-next_run (Refused f) i a = Refused f
+abbrev pub next_run : Run → ℕ → Outcome Decision → Run
+next_run (Ok None) i (Ok (NotPermitted x)) = Ok (Some i)
+next_run (Ok None) i (Ok (Permitted r)) = Ok None
+next_run (Ok None) i (Ok (UnKnown r c)) = Ok (Some i)
+next_run (Ok None) i (Err f) = Ok (Some i)
+next_run (Ok (Some n)) i a = Ok (Some n)
+next_run (Err f) i a = Err f
 
 abbrev pub row_at : List ℕ → ℕ → Query
 row_at ns i =

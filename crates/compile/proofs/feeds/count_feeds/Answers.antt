@@ -18,5 +18,5 @@ loop-i-preserved c =
 pub returns : goal.returns
 returns c =
     let bytes = c.args.bytes.now in
-    let none = no_feeds (drop c.loop-i.i bytes) (omega (arith, length-drop c.loop-i.i bytes)) in
-    (omega (arith, none), omega (arith, none, feeds_most bytes))
+    let None = no_feeds (drop c.loop-i.i bytes) (omega (arith, length-drop c.loop-i.i bytes)) in
+    (omega (arith, None), omega (arith, None, feeds_most bytes))

@@ -21,5 +21,5 @@ loop-end-preserved c =
 
 pub returns : goal.returns
 returns c =
-    let none : c.loop-end.end ≡ 0 = omega arith in
-    (sym (c.loop-end.invariant.same ∙ ap (λ k. cut (take k c.args.bytes.now)) none ∙ cut_none c.args.bytes.now), omega arith)
+    let None : c.loop-end.end ≡ 0 = omega arith in
+    (sym (c.loop-end.invariant.same ∙ ap (λ k. cut (take k c.args.bytes.now)) None ∙ cut_none c.args.bytes.now), omega arith)

@@ -25,15 +25,15 @@ pub loop-turn-preserved : goal.loop-turn-preserved
 loop-turn-preserved g c =
     let loop = c.loop-turn in
     let input = c.read_between.new.buffer in
-    let some = c.in-Bytes.ensures.brings in
+    let Some = c.in-Bytes.ensures.brings in
     let reached = reached_read loop.p loop.input input loop.image c.read_between.ensures.before loop.invariant.reached in
-    let long = length-take-le (loop.p.kept + c.in-Bytes.n) input (omega (arith, some)) in
+    let long = length-take-le (loop.p.kept + c.in-Bytes.n) input (omega (arith, Some)) in
     let goes = turns_on _ _ _ _ _ _ c.in-Onward.is c.take_turn.ensures in
     let most = goes_most _ _ _ _ _ goes in
     record {
       accepted = goes.accepted;
       few = goes.few;
-      place = omega (arith, most, long, some);
-      row = omega (arith, most, long, some);
+      place = omega (arith, most, long, Some);
+      row = omega (arith, most, long, Some);
       reached = reached_next _ reached _ _ (read_bytes input loop.p.kept c.in-Bytes.n) _ _ _ goes;
     }

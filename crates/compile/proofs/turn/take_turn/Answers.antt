@@ -1,6 +1,6 @@
 -- By what adding the rows answers: the whole rows are among the bytes that have come.
 use Rattle.std.proofs.Common.{rules, ◌≤◌, ◌∙◌, sym, ap, arith}
-use Rattle.std.proofs.Math.Option.{some}
+use Rattle.std.specs.Prelude.{Some}
 use Rattle.std.proofs.Math.Seq.{length-take-le}
 use Rattle.compile.proofs.Turns.{turn_fault_lem, fault_inside, turn_rests}
 use Rattle.compile.proofs.turn.take_turn.Goals as goal
@@ -17,7 +17,7 @@ returns-in-Refused c =
     let long = length-take-le c.args.have c.args.input.now (omega arith) in
     let inside : c.rows_end-end.result ≤ c.args.have = omega (arith, long) in
     turn_fault_lem c.args.p c.args.input.now c.args.image.now _ c.args.have c.rows_end-end.result _ inside c.rows_end-end.ensures.0 c.add_rows.ensures _ c.in-Refused.is
-    ∙ ap some (sym c.row_refusal.ensures)
+    ∙ ap Some (sym c.row_refusal.ensures)
 
 pub returns-in-Length : goal.returns-in-Length
 returns-in-Length c =

@@ -6,9 +6,9 @@ use Rattle.convert.proofs.source.read_input.Goals as goal
 pub loop-have-preserved : goal.loop-have-preserved
 loop-have-preserved g c =
     let loop = c.loop-have in
-    let some = c.in-Bytes.ensures.brings in
+    let Some = c.in-Bytes.ensures.brings in
     record {
-      few = omega (arith, some);
+      few = omega (arith, Some);
       long = omega arith;
       gathered = gathered_more loop.space c.read_between.new.buffer loop.have _ (omega arith) (omega arith) c.read_between.ensures.before loop.invariant.gathered;
     }

@@ -2,9 +2,7 @@
 use Rattle.std.proofs.Common.{ℕ, ◌+◌, ◌≡◌, ◌<◌, List, map, length, get_or, refl, sym, ap, subst, ◌∙◌, add-one, arith}
 use Rattle.std.proofs.Math.ListN.{set, length-map, get_or-map}
 use Rattle.decision.specs.declared.Query.{Query}
-use Rattle.decision.specs.declared.Answer.{Answer}
-use Rattle.runs.specs.declared.Run.{Run}
-use Rattle.runs.specs.Runs.{queries_fault, row_answer, run_outcome}
+use Rattle.runs.specs.Runs.{queries_fault, row_answer, run_outcome, Run}
 use Rattle.runs.specs.Inner.Progress.{run_said, rows_for, next_run}
 use Rattle.runs.proofs.Faults.{same_lengths}
 use Rattle.runs.proofs.Fill.{fill, fill_next}
@@ -13,6 +11,9 @@ use Rattle.decide.specs.declared.steps.Step.{Step}
 use Rattle.decide.specs.Inner.Steps.{Stepped}
 use Rattle.decide.proofs.VerdictLaws.{kept_fresh}
 use Rattle.decide.proofs.batch.run.Goals as goal
+use Rattle.format.specs.Answers.{Outcome}
+use Rattle.decision.specs.declared.Decision.{Decision}
+use Rattle.std.specs.Prelude.{Ok, Err, Some, None}
 
 -- a row that is decided has a query and a slot
 row_slot :
@@ -23,7 +24,7 @@ row_slot l n m i h =
     (omega (arith, h, rows_most f n), omega (arith, h, rows_most f n, e))
 
 -- what the run comes to after it, and its slot
-module _ (l : List ℕ) (qs : List Query) (ys : List Answer) (i : ℕ) (d : Query) (h : i < length qs) where
+module _ (l : List ℕ) (qs : List Query) (ys : List (Outcome Decision)) (i : ℕ) (d : Query) (h : i < length qs) where
   row_run : (r : Run) (s : Step) → Stepped l (get_or qs i d) r i s
       → r ≡ out_at l (queries_fault l (length qs) (length ys)) qs i
       → s.progress.run ≡ out_at l (queries_fault l (length qs) (length ys)) qs (i + 1)
@@ -32,12 +33,12 @@ module _ (l : List ℕ) (qs : List Query) (ys : List Answer) (i : ℕ) (d : Quer
       z.run ∙ ap (λ x. next_run x i (row_answer l (get_or qs i d))) e ∙ out_next l f qs i d h
       ∙ ap (out_at l f qs) (sym (add-one i))
 
-  row_slots : (r : Run) (s : Step) → Stepped l (get_or qs i d) r i s → i < length ys → (zs : List Answer)
+  row_slots : (r : Run) (s : Step) → Stepped l (get_or qs i d) r i s → i < length ys → (zs : List (Outcome Decision))
       → zs ≡ fill (map (row_answer l) qs) ys i → set zs i s.answer ≡ fill (map (row_answer l) qs) ys (i + 1)
   row_slots r s z k zs e =
       let xs = map (row_answer l) qs in
       let many : i < length xs = subst (λ n. i < n) (sym (length-map qs (row_answer l))) h in
-      ap (λ (x : List Answer). set x i s.answer) e
+      ap (λ (x : List (Outcome Decision)). set x i s.answer) e
       ∙ ap (set (fill xs ys i) i) (z.answer ∙ sym (get_or-map (row_answer l) qs i d))
       ∙ fill_next xs ys i (row_answer l d) many k
       ∙ ap (fill xs ys) (sym (add-one i))

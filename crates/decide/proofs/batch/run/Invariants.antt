@@ -1,16 +1,17 @@
 -- `run` meets its contract: after i rows the slots are filled so far, and the run comes to what the rows so far say.
 use Rattle.std.proofs.Common.{ℕ, ◌-◌, ◌≤◌, ◌≡◌, Bool, List, map, length}
 use Rattle.decision.specs.declared.Query.{Query}
-use Rattle.decision.specs.declared.Answer.{Answer}
 use Rattle.runs.specs.Runs.{queries_fault, row_answer}
 use Rattle.runs.proofs.Fill.{fill}
 use Rattle.runs.proofs.Progress.{out_at}
 use Rattle.decide.specs.declared.steps.Progress.{Progress}
 use Rattle.decide.specs.Inner.Verdicts.{RowTables}
 use Rattle.decide.proofs.batch.run.Given as goal
+use Rattle.format.specs.Answers.{Outcome}
+use Rattle.decision.specs.declared.Decision.{Decision}
 
 -- i rows are decided, of `many`
-pub record Rows (l : List ℕ) (qs : List Query) (ys : List Answer) (many : ℕ) (slots : List Answer) (progress : Progress)
+pub record Rows (l : List ℕ) (qs : List Query) (ys : List (Outcome Decision)) (many : ℕ) (slots : List (Outcome Decision)) (progress : Progress)
     (verdicts : List ℕ) (source dest : List Bool) (i : ℕ) : Type 0 where
   pub few : i ≤ many
   pub ran : progress.run ≡ out_at l (queries_fault l (length qs) (length ys)) qs i

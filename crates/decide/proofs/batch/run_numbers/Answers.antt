@@ -2,8 +2,7 @@
 use native.Mathlib.Omega.{arith}
 use mathlib.Core.Path.{◌≡◌, refl, ap, subst, ◌∙◌}
 use lib.ListN.{length}
-use Rattle.runs.specs.declared.Run.{Run}
-use Rattle.runs.specs.Runs.{run_outcome}
+use Rattle.runs.specs.Runs.{run_outcome, Run}
 use Rattle.runs.specs.Numbers.{rows_of}
 use Rattle.runs.proofs.Fill.{fill, length_fill}
 use Rattle.runs.proofs.Progress.{out_none, ran_numbers, wrote_numbers}
@@ -11,6 +10,7 @@ use Rattle.decide.specs.Inner.Steps.{Begins, Stepped}
 use Rattle.decide.proofs.VerdictLaws.{kept_fresh}
 use Rattle.decide.proofs.NumberLaws.{fault, codes, out, begun_numbers, row_slot, row_few, row_numbers, row_run, row_code_lem}
 use Rattle.decide.proofs.batch.run_numbers.Goals as goal
+use Rattle.std.specs.Prelude.{Ok, Err, Some, None}
 
 pub loop-i-init : goal.loop-i-init
 loop-i-init c =

@@ -5,7 +5,6 @@ use mathlib.Core.Path.{◌≡◌, sym, ap, ◌∙◌}
 use mathlib.Core.Bool.{true}
 use Rattle.format.specs.declared.Section.TheVariants.{Groups}
 use Rattle.format.specs.Format.{count_of, is_type}
-use Rattle.format.specs.Answers.{sections_outcome}
 use Rattle.format.proofs.Accepted.{accepted_header}
 use Rattle.format.proofs.ByCase.{count_groups}
 use Rattle.format.proofs.Chain.{outcome_gives, outcome_refused}
@@ -18,14 +17,14 @@ use Rattle.decide.proofs.engine.decide_surveyed.Goals as goal
 pub word_in-count-requires : goal.word_in-count-requires
 word_in-count-requires c =
     let ready : Ready c.args.image.now c.args.groups.now c.in-At.s = let p = c.requires.0 in
-    let k = outcome_gives _ _ (sym (ap sections_outcome c.in-At.is) ∙ p.sections) in
+    let k = outcome_gives _ _ (sym c.in-At.is ∙ p.sections) in
     record { known = record { accepted = k.0; placed = p.placed k.0 }; starting = k.1 } in
     omega (arith, (accepted_header _ ready.known.accepted).long)
 
 pub returns-then-not-is_type : goal.returns-then-not-is_type
 returns-then-not-is_type c =
     let ready : Ready c.args.image.now c.args.groups.now c.in-At.s = let p = c.requires.0 in
-    let k = outcome_gives _ _ (sym (ap sections_outcome c.in-At.is) ∙ p.sections) in
+    let k = outcome_gives _ _ (sym c.in-At.is ∙ p.sections) in
     record { known = record { accepted = k.0; placed = p.placed k.0 }; starting = k.1 } in
     let counted : c.word_in-count.result ≡ count_of c.args.image.now Groups =
     c.word_in-count.ensures.0 ∙ sym (count_groups _) in
@@ -41,7 +40,7 @@ returns-then-not-is_type c =
 pub returns-then-not-is_type-2 : goal.returns-then-not-is_type-2
 returns-then-not-is_type-2 c =
     let ready : Ready c.args.image.now c.args.groups.now c.in-At.s = let p = c.requires.0 in
-    let k = outcome_gives _ _ (sym (ap sections_outcome c.in-At.is) ∙ p.sections) in
+    let k = outcome_gives _ _ (sym c.in-At.is ∙ p.sections) in
     record { known = record { accepted = k.0; placed = p.placed k.0 }; starting = k.1 } in
     let counted : c.word_in-count.result ≡ count_of c.args.image.now Groups =
     c.word_in-count.ensures.0 ∙ sym (count_groups _) in
@@ -61,7 +60,7 @@ returns-then-not-is_type-2 c =
 pub judge-requires : goal.judge-requires
 judge-requires c =
     let ready : Ready c.args.image.now c.args.groups.now c.in-At.s = let p = c.requires.0 in
-    let k = outcome_gives _ _ (sym (ap sections_outcome c.in-At.is) ∙ p.sections) in
+    let k = outcome_gives _ _ (sym c.in-At.is ∙ p.sections) in
     record { known = record { accepted = k.0; placed = p.placed k.0 }; starting = k.1 } in
     let counted : c.word_in-count.result ≡ count_of c.args.image.now Groups =
     c.word_in-count.ensures.0 ∙ sym (count_groups _) in
@@ -77,14 +76,14 @@ judge-requires c =
 pub returns-in-Refused : goal.returns-in-Refused
 returns-in-Refused c = let p = c.requires in
     record {
-      is = sym (image_refused _ _ _ (outcome_refused _ _ (sym (ap sections_outcome c.in-Refused.is) ∙ p.0.sections)));
+      is = sym (image_refused _ _ _ (outcome_refused _ _ (sym c.in-Refused.is ∙ p.0.sections)));
       kept = left_same _ _ _ _ _ p.1;
     }
 
 pub returns-else-not-is_type-2 : goal.returns-else-not-is_type-2
 returns-else-not-is_type-2 c =
     let ready : Ready c.args.image.now c.args.groups.now c.in-At.s = let p = c.requires.0 in
-    let k = outcome_gives _ _ (sym (ap sections_outcome c.in-At.is) ∙ p.sections) in
+    let k = outcome_gives _ _ (sym c.in-At.is ∙ p.sections) in
     record { known = record { accepted = k.0; placed = p.placed k.0 }; starting = k.1 } in
     let counted : c.word_in-count.result ≡ count_of c.args.image.now Groups =
     c.word_in-count.ensures.0 ∙ sym (count_groups _) in

@@ -1,9 +1,10 @@
 -- `judge_marked` meets its contract: the lowest covering rule and the lowest failing constraint make the decision. Assumes
 -- nothing.
 use mathlib.Core.Path.{refl, sym, ap, ◌∙◌}
-use Rattle.format.specs.Answers.{gives}
+use Rattle.std.specs.Prelude.{Ok}
 use Rattle.format.proofs.Fields.{type_is}
-use Rattle.decision.specs.Decide.{not_permitted, decision_of}
+use Rattle.decision.specs.declared.Decision.TheVariants.{NotPermitted}
+use Rattle.decision.specs.Decide.{decision_of}
 use Rattle.decide.specs.declared.cover.Found.TheVariants.{At, Nothing}
 use Rattle.decide.proofs.KeptLaws.{kept_none}
 use Rattle.decide.proofs.VerdictLaws.{written_same}
@@ -33,8 +34,8 @@ unfolding decision_of
 returns-in-Nothing c =
     record {
       is =
-          ap (λ x. gives (not_permitted x)) c.nearest_rule.ensures
-          ∙ ap gives (engine_is _ _ Nothing _ (sym c.in-Nothing.is ∙ c.first_rule.ensures.is) refl);
+          ap (λ x. Ok (NotPermitted x)) c.nearest_rule.ensures
+          ∙ ap Ok (engine_is _ _ Nothing _ (sym c.in-Nothing.is ∙ c.first_rule.ensures.is) refl);
       kept = written_same _ _ _ c.requires.4;
     }
 
@@ -44,7 +45,7 @@ returns-in-Nothing-first_constraint c =
     let r = c.first_rule.ensures in
     let k = c.first_constraint.ensures in
     record {
-      is = ap gives (engine_is _ _ (At _) Nothing (sym c.in-At.is ∙ r.is) (sym c.in-Nothing-first_constraint.is ∙ k.is));
+      is = ap Ok (engine_is _ _ (At _) Nothing (sym c.in-At.is ∙ r.is) (sym c.in-Nothing-first_constraint.is ∙ k.is));
       kept = k.kept;
     }
 
@@ -54,6 +55,6 @@ returns-in-At-first_constraint c =
     let r = c.first_rule.ensures in
     let k = c.first_constraint.ensures in
     record {
-      is = ap gives (engine_is _ _ (At _) (At _) (sym c.in-At.is ∙ r.is) (sym c.in-At-first_constraint.is ∙ k.is));
+      is = ap Ok (engine_is _ _ (At _) (At _) (sym c.in-At.is ∙ r.is) (sym c.in-At-first_constraint.is ∙ k.is));
       kept = k.kept;
     }

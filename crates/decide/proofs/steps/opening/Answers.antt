@@ -1,21 +1,21 @@
 -- `opening` meets its contract: the check's refusal, then 16, then 17. Assumes nothing.
 use native.Mathlib.Omega.{arith}
 use mathlib.Core.Path.{sym}
-use mathlib.Core.Option.{none, some}
+use Rattle.std.specs.Prelude.{None, Some}
 use Rattle.format.specs.Refusals.{refusal}
 use Rattle.runs.proofs.Faults.{rows_few, rows_many, rows_slots, rows_none}
 use Rattle.decide.proofs.BatchLaws.{opened, opened_refused}
 use Rattle.decide.proofs.steps.opening.Goals as goal
 
 pub returns-then-rows-lt1 : goal.returns-then-rows-lt1
-returns-then-rows-lt1 c = opened _ _ _ _ (some (refusal 16 0)) (sym c.in-At.is) (rows_few _ _ c.if-rows-lt1.true)
+returns-then-rows-lt1 c = opened _ _ _ _ (Some (refusal 16 0)) (sym c.in-At.is) (rows_few _ _ c.if-rows-lt1.true)
 
 pub returns-then-rows-gt64 : goal.returns-then-rows-gt64
-returns-then-rows-gt64 c = opened _ _ _ _ (some (refusal 16 0)) (sym c.in-At.is) (rows_many _ _ c.if-rows-gt64.true)
+returns-then-rows-gt64 c = opened _ _ _ _ (Some (refusal 16 0)) (sym c.in-At.is) (rows_many _ _ c.if-rows-gt64.true)
 
 pub returns-then-not-fits : goal.returns-then-not-fits
 returns-then-not-fits c =
-    opened _ _ _ _ (some (refusal 17 0)) (sym c.in-At.is)
+    opened _ _ _ _ (Some (refusal 17 0)) (sym c.in-At.is)
     (rows_slots _ _ (omega (arith, c.if-rows-lt1.false)) (omega (arith, c.if-rows-gt64.false)) c.if-not-fits.true)
 
 pub returns-in-Refused : goal.returns-in-Refused
@@ -23,5 +23,5 @@ returns-in-Refused c = opened_refused _ _ _ _ c.in-Refused.is
 
 pub returns-else-not-fits : goal.returns-else-not-fits
 returns-else-not-fits c =
-    opened _ _ _ _ none (sym c.in-At.is)
+    opened _ _ _ _ None (sym c.in-At.is)
     (rows_none _ _ (omega (arith, c.if-rows-lt1.false)) (omega (arith, c.if-rows-gt64.false)) c.if-not-fits.false)

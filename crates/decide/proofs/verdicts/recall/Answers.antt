@@ -1,6 +1,5 @@
 -- `recall` meets its contract: a refused image has no verdicts. Assumes nothing.
 use mathlib.Core.Path.{sym, ap, ◌∙◌}
-use Rattle.format.specs.Answers.{sections_outcome}
 use Rattle.format.proofs.Chain.{outcome_gives, outcome_refused}
 use Rattle.decide.proofs.VerdictLaws.{recalled_refused, refused_not}
 use Rattle.decide.proofs.verdicts.recall.Goals as goal
@@ -8,10 +7,10 @@ use Rattle.decide.proofs.verdicts.recall.Goals as goal
 pub recall_at-requires : goal.recall_at-requires
 recall_at-requires c =
     let p = c.requires in
-    let k = outcome_gives _ _ (sym (ap sections_outcome c.in-At.is) ∙ p.0.sections) in
+    let k = outcome_gives _ _ (sym c.in-At.is ∙ p.0.sections) in
     (record { known = record { accepted = k.0; placed = p.0.placed k.0 }; starting = k.1 }, p.1)
 
 pub returns-in-Refused : goal.returns-in-Refused
 returns-in-Refused c =
     let p = c.requires in
-    recalled_refused _ _ _ (refused_not _ _ (outcome_refused _ _ (sym (ap sections_outcome c.in-Refused.is) ∙ p.0.sections)))
+    recalled_refused _ _ _ (refused_not _ _ (outcome_refused _ _ (sym c.in-Refused.is ∙ p.0.sections)))

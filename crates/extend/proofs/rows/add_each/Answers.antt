@@ -4,15 +4,15 @@ use Prim.Native.Nat.{ℕ}
 use mathlib.Core.Path.{◌≡◌, refl, sym, ap, ◌∙◌}
 use mathlib.Core.List.{List}
 use lib.Seq.{length-take-le}
-use Rattle.format.specs.Answers.{gives}
-use Rattle.text.specs.declared.Built.{Built}
-use Rattle.text.specs.Build.{Made, built_outcome}
+use Rattle.std.specs.Prelude.{Ok}
+use Rattle.text.specs.Build.{Made}
 use Rattle.extend.specs.Inner.Grow.{AddsEach}
 use Rattle.extend.proofs.RowsLaws.{From, rows_past, rows_feed, rows_outside, rows_refused, rows_starts, rows_ahead, rows_added_lem}
 use Rattle.extend.proofs.rows.add_each.Goals as goal
+use Rattle.format.specs.Answers.{Outcome}
 
 -- the answer and the buffer, where the rows come to this
-adds : {text b after : List ℕ} {r : Built} {m : Made} → From text 0 b ≡ m → built_outcome r ≡ m.answer → after ≡ m.buffer → AddsEach text b r after
+adds : {text b after : List ℕ} {r : Built} {m : Made} → From text 0 b ≡ m → r ≡ m.answer → after ≡ m.buffer → AddsEach text b r after
 adds e x y = record { answer = x ∙ ap (λ (k : Made). k.answer) (sym e); buffer = y ∙ ap (λ (k : Made). k.buffer) (sym e) }
 
 pub loop-at-init : goal.loop-at-init
@@ -47,7 +47,7 @@ loop-at-preserved c = let g = c.grow in let d = c.record_at-row in let l = c.loo
 
 pub returns : goal.returns
 returns c = let l = c.loop-at in let a = c.args in
-    adds (l.invariant.2 ∙ rows_past a.text.now l.at l.buffer (omega arith)) (ap gives c.word_at.ensures.0) refl
+    adds (l.invariant.2 ∙ rows_past a.text.now l.at l.buffer (omega arith)) (ap Ok c.word_at.ensures.0) refl
 
 pub slice_bounds-record_at-end : goal.slice_bounds-record_at-end
 slice_bounds-record_at-end c =

@@ -6,15 +6,16 @@ use mathlib.Core.List.{List}
 use native.Mathlib.Nat.{sub-zero}
 use lib.ListN.{length, drop, set, length-set}
 use Rattle.format.specs.declared.Section.TheVariants.{Groups}
-use Rattle.format.specs.declared.Read.{Read}
-use Rattle.format.specs.declared.Read.TheVariants.{Whole, BadField}
+use Rattle.format.specs.Check.{Read}
+use Rattle.format.specs.declared.Misread.TheVariants.{BadField}
 use Rattle.format.specs.Format.{count_of}
-use Rattle.format.specs.Check.{read_of}
+use Rattle.format.specs.Check.{read_of, read_fault}
 use Rattle.image.specs.Inner.Walk.{Fits}
 use Rattle.image.proofs.WalkLaws.{part_from, part_length, part_next, whole_inside, bad_inside}
-use Rattle.image.proofs.WalkLaws.{walk_end, walk_whole, walk_malformed, walk_field, fits_here, fits_whole}
-use Rattle.image.proofs.WalkLaws.{note_end, note_whole, note_malformed, note_field}
+use Rattle.image.proofs.WalkLaws.{walk_end, walk_whole, walk_stops, fits_here, fits_whole}
+use Rattle.image.proofs.WalkLaws.{note_end, note_whole, note_stops}
 use Rattle.image.proofs.checker.walk.Goals as goal
+use Rattle.std.specs.Prelude.{Ok, Err}
 
 pub slice_bounds-part-count : goal.slice_bounds-part-count
 slice_bounds-part-count c = omega (arith, c.wide_word.ensures.0, c.requires.inside)
@@ -31,26 +32,26 @@ loop-k-init c =
       part_from image _ ∙ ap (λ at. drop at image) c.wide_word.ensures.0,
     )
 
-pub slice_bounds-part-count-in-Whole : goal.slice_bounds-part-count-in-Whole
-slice_bounds-part-count-in-Whole c =
+pub slice_bounds-part-count-in-Ok : goal.slice_bounds-part-count-in-Ok
+slice_bounds-part-count-in-Ok c =
     let l : List ℕ = c.args.image.now in
     let reading : Read = read_of c.args.section (count_of l Groups) (drop c.loop-k.at l) in
     let read : c.read_record.result ≡ reading = let a = c.args in
     c.read_record.ensures
     ∙ ap (λ p. read_of a.section a.groups p) c.loop-k.invariant.6
     ∙ ap (λ g. read_of a.section g (drop c.loop-k.at l)) c.requires.groups in
-    let whole : reading ≡ Whole c.in-Whole.length = sym read ∙ c.in-Whole.is in
+    let whole : reading ≡ Ok c.in-Ok.length = sym read ∙ c.in-Ok.is in
     omega (arith, part_length l _ c.loop-k.at c.loop-k.invariant.6, whole_inside l _ c.loop-k.at _ whole)
 
-pub slice_bounds-part-start-in-Whole : goal.slice_bounds-part-start-in-Whole
-slice_bounds-part-start-in-Whole c =
+pub slice_bounds-part-start-in-Ok : goal.slice_bounds-part-start-in-Ok
+slice_bounds-part-start-in-Ok c =
     let l : List ℕ = c.args.image.now in
     let reading : Read = read_of c.args.section (count_of l Groups) (drop c.loop-k.at l) in
     let read : c.read_record.result ≡ reading = let a = c.args in
     c.read_record.ensures
     ∙ ap (λ p. read_of a.section a.groups p) c.loop-k.invariant.6
     ∙ ap (λ g. read_of a.section g (drop c.loop-k.at l)) c.requires.groups in
-    let whole : reading ≡ Whole c.in-Whole.length = sym read ∙ c.in-Whole.is in
+    let whole : reading ≡ Ok c.in-Ok.length = sym read ∙ c.in-Ok.is in
     omega (arith, part_length l _ c.loop-k.at c.loop-k.invariant.6, whole_inside l _ c.loop-k.at _ whole)
 
 pub narrow-at-requires : goal.narrow-at-requires
@@ -61,8 +62,8 @@ narrow-at-requires c =
     c.read_record.ensures
     ∙ ap (λ p. read_of a.section a.groups p) c.loop-k.invariant.6
     ∙ ap (λ g. read_of a.section g (drop c.loop-k.at l)) c.requires.groups in
-    let whole : reading ≡ Whole c.in-Whole.length = sym read ∙ c.in-Whole.is in
-    let fits : Fits l c.args.section (c.loop-k.at + c.in-Whole.length)
+    let whole : reading ≡ Ok c.in-Ok.length = sym read ∙ c.in-Ok.is in
+    let fits : Fits l c.args.section (c.loop-k.at + c.in-Ok.length)
     (c.args.count - (c.loop-k.k + 1)) = fits_whole _ _ _ _ _ _ (omega arith) whole c.loop-k.invariant.5 in
     omega (arith, fits_here _ _ _ _ fits)
 
@@ -74,53 +75,36 @@ overflow_add-at c =
     c.read_record.ensures
     ∙ ap (λ p. read_of a.section a.groups p) c.loop-k.invariant.6
     ∙ ap (λ g. read_of a.section g (drop c.loop-k.at l)) c.requires.groups in
-    let whole : reading ≡ Whole c.in-Whole.length = sym read ∙ c.in-Whole.is in
-    let fits : Fits l c.args.section (c.loop-k.at + c.in-Whole.length)
+    let whole : reading ≡ Ok c.in-Ok.length = sym read ∙ c.in-Ok.is in
+    let fits : Fits l c.args.section (c.loop-k.at + c.in-Ok.length)
     (c.args.count - (c.loop-k.k + 1)) = fits_whole _ _ _ _ _ _ (omega arith) whole c.loop-k.invariant.5 in
     omega (arith, c.narrow-at.ensures, fits_here _ _ _ _ fits)
 
-pub returns-in-Malformed : goal.returns-in-Malformed
-returns-in-Malformed c =
+pub misread-requires : goal.misread-requires
+misread-requires c i e =
     let l : List ℕ = c.args.image.now in
     let reading : Read = read_of c.args.section (count_of l Groups) (drop c.loop-k.at l) in
     let read : c.read_record.result ≡ reading = let a = c.args in
     c.read_record.ensures
     ∙ ap (λ p. read_of a.section a.groups p) c.loop-k.invariant.6
     ∙ ap (λ g. read_of a.section g (drop c.loop-k.at l)) c.requires.groups in
-    let places : List ℕ = c.note.new.places in
-    let table : places ≡ set c.loop-k.places c.loop-k.k c.loop-k.at = c.note.ensures in
-    let e = sym read ∙ c.in-Malformed.is in
-    record {
-      comes = rw c.wide_word-in-Malformed.ensures.0 (sym (c.loop-k.invariant.3 ∙ walk_malformed _ _ _ _ (omega arith) e));
-      table = table ∙ sym (c.loop-k.invariant.4 ∙ note_malformed _ _ _ _ _ _ (omega arith) e);
-    }
+    let bad : reading ≡ Err (BadField i) = sym read ∙ c.in-Err.is ∙ ap Err e in
+    omega (arith, c.wide_word-in-Err.ensures.0, bad_inside _ _ c.loop-k.at _ bad)
 
-pub overflow_add-result : goal.overflow_add-result
-overflow_add-result c =
+pub returns-in-Err : goal.returns-in-Err
+returns-in-Err c =
     let l : List ℕ = c.args.image.now in
     let reading : Read = read_of c.args.section (count_of l Groups) (drop c.loop-k.at l) in
     let read : c.read_record.result ≡ reading = let a = c.args in
     c.read_record.ensures
     ∙ ap (λ p. read_of a.section a.groups p) c.loop-k.invariant.6
     ∙ ap (λ g. read_of a.section g (drop c.loop-k.at l)) c.requires.groups in
-    let bad : reading ≡ BadField c.in-BadField.i = sym read ∙ c.in-BadField.is in
-    omega (arith, c.wide_word-in-BadField.ensures.0, bad_inside _ _ c.loop-k.at _ bad)
-
-pub returns-in-BadField : goal.returns-in-BadField
-returns-in-BadField c =
-    let places : List ℕ = c.note.new.places in
-    let table : places ≡ set c.loop-k.places c.loop-k.k c.loop-k.at = c.note.ensures in
-    let l : List ℕ = c.args.image.now in
-    let reading : Read = read_of c.args.section (count_of l Groups) (drop c.loop-k.at l) in
-    let read : c.read_record.result ≡ reading = let a = c.args in
-    c.read_record.ensures
-    ∙ ap (λ p. read_of a.section a.groups p) c.loop-k.invariant.6
-    ∙ ap (λ g. read_of a.section g (drop c.loop-k.at l)) c.requires.groups in
-    let bad : reading ≡ BadField c.in-BadField.i = sym read ∙ c.in-BadField.is in
-    let e = bad in
+    let table : c.note.new.places ≡ set c.loop-k.places c.loop-k.k c.loop-k.at = c.note.ensures in
+    let e = sym read ∙ c.in-Err.is in
+    let f = ap (λ p. read_fault p (Err c.in-Err.error)) (sym c.wide_word-in-Err.ensures.0) ∙ c.misread.ensures in
     record {
-      comes = rw c.wide_word-in-BadField.ensures.0 (sym (c.loop-k.invariant.3 ∙ walk_field _ _ _ _ _ (omega arith) e));
-      table = table ∙ sym (c.loop-k.invariant.4 ∙ note_field _ _ _ _ _ _ _ (omega arith) e);
+      comes = sym (c.loop-k.invariant.3 ∙ walk_stops _ _ _ _ _ _ (omega arith) e f);
+      table = table ∙ sym (c.loop-k.invariant.4 ∙ note_stops _ _ _ _ _ _ _ _ (omega arith) e f);
     }
 
 pub loop-k-preserved : goal.loop-k-preserved
@@ -134,8 +118,8 @@ loop-k-preserved c =
     c.read_record.ensures
     ∙ ap (λ p. read_of a.section a.groups p) c.loop-k.invariant.6
     ∙ ap (λ g. read_of a.section g (drop c.loop-k.at l)) c.requires.groups in
-    let whole : reading ≡ Whole c.in-Whole.length = sym read ∙ c.in-Whole.is in
-    let fits : Fits l c.args.section (c.loop-k.at + c.in-Whole.length)
+    let whole : reading ≡ Ok c.in-Ok.length = sym read ∙ c.in-Ok.is in
+    let fits : Fits l c.args.section (c.loop-k.at + c.in-Ok.length)
     (c.args.count - (c.loop-k.k + 1)) = fits_whole _ _ _ _ _ _ (omega arith) whole c.loop-k.invariant.5 in
     let t = c.loop-k in
     let e = whole in

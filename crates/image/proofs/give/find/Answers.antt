@@ -6,30 +6,32 @@ use mathlib.Core.List.{List}
 use Rattle.format.specs.Format.{count_of}
 use Rattle.format.specs.Policy.{place_after, start_of, place_of}
 use Rattle.format.specs.Check.{Accepted}
-use Rattle.format.specs.Answers.{sections_outcome, starts}
+use Rattle.format.specs.Answers.{starts}
 use Rattle.format.proofs.Chain.{outcome_gives, outcome_refused}
 use Rattle.format.proofs.Accepted.{accepted_header}
 use Rattle.image.specs.Inner.Walk.{start_in}
 use Rattle.image.proofs.BodyLaws.{start_in_lem, start_fits, give_refused, give_past, place_byte, extent_is, hops}
+use Rattle.std.specs.Prelude.{Err}
+use borrow.Author.Rules.{rules}
 use Rattle.image.proofs.give.find.Goals as goal
 
 pub count_in-requires : goal.count_in-requires
 count_in-requires c =
     let l : List ℕ = c.args.image.now in
-    let accepted : Accepted l × (c.in-At.starts ≡ starts l) = outcome_gives _ _ (sym (ap sections_outcome c.in-At.is) ∙ c.layout.ensures) in
+    let accepted : Accepted l × (c.in_ok-starts.starts ≡ starts l) = outcome_gives _ _ (sym c.in_ok-starts.was ∙ c.layout.ensures) in
     (accepted_header _ accepted.0).long
 
 pub returns-then-count_in-n : goal.returns-then-count_in-n
 returns-then-count_in-n c =
     let l : List ℕ = c.args.image.now in
-    let accepted : Accepted l × (c.in-At.starts ≡ starts l) = outcome_gives _ _ (sym (ap sections_outcome c.in-At.is) ∙ c.layout.ensures) in
+    let accepted : Accepted l × (c.in_ok-starts.starts ≡ starts l) = outcome_gives _ _ (sym c.in_ok-starts.was ∙ c.layout.ensures) in
     let a = c.args in
     rw (give_past a.image.now a.section a.n accepted.0 (omega (arith, c.count_in.ensures)))
 
 pub narrow-start-requires : goal.narrow-start-requires
 narrow-start-requires c =
     let l : List ℕ = c.args.image.now in
-    let accepted : Accepted l × (c.in-At.starts ≡ starts l) = outcome_gives _ _ (sym (ap sections_outcome c.in-At.is) ∙ c.layout.ensures) in
+    let accepted : Accepted l × (c.in_ok-starts.starts ≡ starts l) = outcome_gives _ _ (sym c.in_ok-starts.was ∙ c.layout.ensures) in
     let started : c.start_in.result ≡ start_of l c.args.section = let s = c.args.section in
     c.start_in.ensures ∙ ap (λ y. start_in y s) accepted.1 ∙ start_in_lem l s in
     omega (arith, started, start_fits _ accepted.0 c.args.section)
@@ -37,7 +39,7 @@ narrow-start-requires c =
 pub place_after-requires : goal.place_after-requires
 place_after-requires c =
     let l : List ℕ = c.args.image.now in
-    let accepted : Accepted l × (c.in-At.starts ≡ starts l) = outcome_gives _ _ (sym (ap sections_outcome c.in-At.is) ∙ c.layout.ensures) in
+    let accepted : Accepted l × (c.in_ok-starts.starts ≡ starts l) = outcome_gives _ _ (sym c.in_ok-starts.was ∙ c.layout.ensures) in
     let counted : c.args.n < count_of l c.args.section = omega (arith, c.count_in.ensures) in
     let started : c.start_in.result ≡ start_of l c.args.section = let s = c.args.section in
     c.start_in.ensures ∙ ap (λ y. start_in y s) accepted.1 ∙ start_in_lem l s in
@@ -48,7 +50,7 @@ pub bounds-image-place : goal.bounds-image-place
 unfolding place_of
 bounds-image-place c =
     let l : List ℕ = c.args.image.now in
-    let accepted : Accepted l × (c.in-At.starts ≡ starts l) = outcome_gives _ _ (sym (ap sections_outcome c.in-At.is) ∙ c.layout.ensures) in
+    let accepted : Accepted l × (c.in_ok-starts.starts ≡ starts l) = outcome_gives _ _ (sym c.in_ok-starts.was ∙ c.layout.ensures) in
     let counted : c.args.n < count_of l c.args.section = omega (arith, c.count_in.ensures) in
     let started : c.start_in.result ≡ start_of l c.args.section = let s = c.args.section in
     c.start_in.ensures ∙ ap (λ y. start_in y s) accepted.1 ∙ start_in_lem l s in
@@ -58,17 +60,18 @@ bounds-image-place c =
     ∙ ap (λ at. place_after l at c.args.n) narrowed in
     rw placed (place_byte _ _ _ accepted.0 counted)
 
-pub returns-in-Refused : goal.returns-in-Refused
-returns-in-Refused c =
+pub returns-in_err-starts : goal.returns-in_err-starts
+returns-in_err-starts c =
     let a = c.args in
-    let e = sym (ap sections_outcome c.in-Refused.is) ∙ c.layout.ensures in
-    rw (give_refused _ a.section a.n _ (outcome_refused _ _ e))
+    let e = sym c.in_err-starts.was ∙ c.layout.ensures in
+    let passed_on : c.from_residual.result ≡ Err c.in_err-starts.field-0.0 = search rules in
+    rw (passed_on, give_refused _ a.section a.n _ (outcome_refused _ _ e))
 
-pub returns-else-count_in-n : goal.returns-else-count_in-n
+pub returns : goal.returns
 unfolding place_of
-returns-else-count_in-n c =
+returns c =
     let l : List ℕ = c.args.image.now in
-    let accepted : Accepted l × (c.in-At.starts ≡ starts l) = outcome_gives _ _ (sym (ap sections_outcome c.in-At.is) ∙ c.layout.ensures) in
+    let accepted : Accepted l × (c.in_ok-starts.starts ≡ starts l) = outcome_gives _ _ (sym c.in_ok-starts.was ∙ c.layout.ensures) in
     let counted : c.args.n < count_of l c.args.section = omega (arith, c.count_in.ensures) in
     let started : c.start_in.result ≡ start_of l c.args.section = let s = c.args.section in
     c.start_in.ensures ∙ ap (λ y. start_in y s) accepted.1 ∙ start_in_lem l s in

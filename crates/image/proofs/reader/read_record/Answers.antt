@@ -2,12 +2,12 @@
 use native.Mathlib.Omega.{arith}
 use Rattle.image.proofs.ReaderLaws.{read_tiny, read_past, read_kind, read_length, whole_size, whole_kind, read_fields_lem, least_group, least_allow, least_transition, rest_constraint, least_constraint}
 use mathlib.Core.Path.{◌≡◌, refl, sym, ◌∙◌}
-use mathlib.Core.Option.{Option}
+use Rattle.std.specs.Prelude.{Option}
 use mathlib.Core.List.{List}
 use mathlib.Core.Bool.{true}
 use Prim.Native.Nat.{ℕ, ◌≤◌}
 use lib.ListN.{length, get_or, take}
-use Rattle.format.specs.declared.Read.{Read}
+use Rattle.format.specs.Check.{Read}
 use Rattle.format.specs.Format.{kind_in, length_ok, bad_field}
 use Rattle.format.specs.Check.{read_fields, read_of}
 use Rattle.format.proofs.Fields.{field_group, field_allow, field_transition, field_constraint}

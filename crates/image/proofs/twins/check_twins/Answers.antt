@@ -22,7 +22,7 @@ returns-then-first-count c =
     let count_is : c.word_in-count.result ≡ count_of l Groups = c.word_in-count.ensures.0 ∙ sym (count_groups l) in
     let place = c.requires.place c.first_twin-first.result (omega (arith, count_is)) in
     rw (c.wide_word.ensures.0 ∙ place)
-    (sym (ap (λ f. outcome f c.args.starts)
+    (sym (ap (λ f. outcome f tt)
     (twins_here l _ _ c.word_in-count.result count_is c.fill_alike.ensures
     c.first_twin-first.result c.first_twin-first.ensures (omega arith))))
 
@@ -30,7 +30,7 @@ pub returns : goal.returns
 returns c =
     let l : List ℕ = c.args.image.now in
     let count_is : c.word_in-count.result ≡ count_of l Groups = c.word_in-count.ensures.0 ∙ sym (count_groups l) in
-    sym (ap (λ f. outcome f c.args.starts)
+    sym (ap (λ f. outcome f tt)
     (twins_end l _ _ c.word_in-count.result count_is c.fill_alike.ensures
     c.first_twin-first.result c.first_twin-first.ensures (omega arith)))
 

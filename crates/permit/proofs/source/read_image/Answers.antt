@@ -4,10 +4,10 @@ use Rattle.permit.proofs.source.read_image.Goals as goal
 
 pub loop-have-preserved : goal.loop-have-preserved
 loop-have-preserved g c =
-    let some = c.in-Bytes.ensures.brings in
+    let Some = c.in-Bytes.ensures.brings in
     let size = c.image_size-size.ensures in
     record {
-      few = omega (arith, some, size.1);
+      few = omega (arith, Some, size.1);
       long = omega arith;
-      told = size_more c.loop-have.space c.read_between.new.buffer c.loop-have.have _ (omega arith) c.read_between.ensures.before (omega arith) (omega (arith, some, size.1)) (omega (arith, some, size.0));
+      told = size_more c.loop-have.space c.read_between.new.buffer c.loop-have.have _ (omega arith) c.read_between.ensures.before (omega arith) (omega (arith, Some, size.1)) (omega (arith, Some, size.0));
     }
