@@ -84,7 +84,7 @@ module _ (text : List ℕ) (at : ℕ) (b : List ℕ) where
       whole = is_record (Some (take r.length part)) (rw (le-ltb r.length 2 k))
 
       pub rows_refused :
-          {f : Refusal} {g : Sections} {after : List ℕ} → g ≡ Err f → Grows at b (take r.length part) g after
+          {f : Refusal} {g : Outcome Starts} {after : List ℕ} → g ≡ Err f → Grows at b (take r.length part) g after
           → From text at b ≡ record { answer = Err f; buffer = after }
       rows_refused {f} {g} {after} e q =
           let x = outcome_refused (moved_to at (add_fault b (take r.length part))) _ (sym e ∙ q.answer) in
@@ -92,7 +92,7 @@ module _ (text : List ℕ) (at : ℕ) (b : List ℕ) where
           let z : after ≡ b = q.buffer ∙ sym whole.1 ∙ rows_kept at row b f y in
           rw (rows_are, z) (rows_first_refused at row (rest 10 (drop at text)) b y)
 
-      module _ {y : Starts} {g : Sections} {after : List ℕ} (e : g ≡ Ok y) (q : Grows at b (take r.length part) g after) where
+      module _ {y : Starts} {g : Outcome Starts} {after : List ℕ} (e : g ≡ Ok y) (q : Grows at b (take r.length part) g after) where
         passed : (moved_to at (add_fault b (take r.length part)) ≡ None) × (y ≡ starts (image_in after))
         passed = outcome_gives (moved_to at (add_fault b (take r.length part))) _ (sym e ∙ q.answer)
 

@@ -13,34 +13,28 @@ mod rows; // rows.rt: the rows of a text, one after the other
 ghost use Rattle.extension.specs.Add.{Adds};
 ghost use Rattle.text.specs.Build.{Builds, AddsRows};
 
-use extension::Added;
-use format::{Refusal, Sections, Starts, header};
-use plan::{Plan, planned};
+use format::{Refusal, Starts, header};
+use plan::planned;
 use rows::{add_each, put_empty};
 use splice::insert;
-use text::Built;
 
 // One more record at the end of its section: later sections move up, the length field and the section's count grow,
 // bytes past the new image stay, and the answer is the record's number. A refused call changes no byte.
-pub fn add(buffer: &mut [u8], part: &[u8]) -> Added
+pub fn add(buffer: &mut [u8], part: &[u8]) -> Result<usize, Refusal>
     ensures { Adds buffer.old part.now result buffer.new }
 {
-    match planned(buffer, part) {
-        Plan::Refused(f) => Added::Refused(f),
-        Plan::Put(slot) => {
-            insert(buffer, part, slot);
-            Added::Number(slot.count)
-        }
-    }
+    let slot = planned(buffer, part)?;
+    insert(buffer, part, slot);
+    Ok(slot.count)
 }
 
 // Builds the image of a text at the front of a buffer: the answer is the image's length, and bytes past it stay. A text
 // that is refused leaves the image of the rows before the refused one; a buffer under 9 bytes is left as it was.
-pub fn build(text: &[u8], buffer: &mut [u8]) -> Built
+pub fn build(text: &[u8], buffer: &mut [u8]) -> Result<usize, Refusal>
     ensures { Builds text.now buffer.old result buffer.new }
 {
     if buffer.len() < header::SIZE {
-        return Built::Refused(Refusal {
+        return Err(Refusal {
             number: 13,
             place: 0,
         });
@@ -58,11 +52,9 @@ pub fn build(text: &[u8], buffer: &mut [u8]) -> Built
 
 // Adds the rows of a text to the image that a buffer starts with, as `build` does to the empty policy: the answer is the
 // new image's length. An image that is refused is left as it was, with its own refusal.
-pub fn add_rows(text: &[u8], buffer: &mut [u8]) -> Built
+pub fn add_rows(text: &[u8], buffer: &mut [u8]) -> Result<usize, Refusal>
     ensures { AddsRows text.now buffer.old result buffer.new }
 {
-    match image::front(buffer) {
-        Sections::Refused(f) => Built::Refused(f),
-        Sections::At(sections) => add_each(text, buffer, sections),
-    }
+    let sections = image::front(buffer)?;
+    add_each(text, buffer, sections)
 }

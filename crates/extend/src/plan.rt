@@ -10,7 +10,7 @@ ghost use Rattle.extension.specs.Add.{added_twin, own_fault, add_fault};
 ghost use Rattle.extend.specs.Inner.Plans.{slot_at, slot_of};
 
 use crate::word::wide;
-use format::{Read, Refusal, Section, Sections, Starts, header};
+use format::{Misread, Refusal, Section, Starts, header};
 use image::{same_record, word_at};
 
 // The place that a record goes to, the image's size, and the place and the value of its section's count.
@@ -22,16 +22,10 @@ pub(crate) struct Slot {
     pub count: usize,
 }
 
-#[derive(Clone, Copy)]
-pub(crate) enum Plan {
-    Put(Slot),
-    Refused(Refusal),
-}
-
-fn refused(number: u8, place: usize) -> Plan
-    ensures { result ≡ Plan.Refused (refusal number place) }
+fn refused(number: u8, place: usize) -> Result<Slot, Refusal>
+    ensures { result ≡ Err (refusal number place) }
 {
-    Plan::Refused(Refusal { number, place })
+    Err(Refusal { number, place })
 }
 
 fn count_place(section: Section) -> usize
@@ -84,14 +78,14 @@ fn is_twin(buffer: &[u8], part: &[u8], section: Section) -> bool
 }
 
 // A whole record of a section that ends at a place of an accepted image: refusals 11, 20, 12 and 13, and 10 for its length.
-fn room(buffer: &[u8], part: &[u8], section: Section, at: usize) -> Plan
+fn room(buffer: &[u8], part: &[u8], section: Section, at: usize) -> Result<Slot, Refusal>
     requires { (check_front buffer.now ≡ None) × (get_or part.now 0 0 ≡ length part.now) × (kind_in section (get_or part.now 1 0) ≡ true) }
     ensures { result ≡ outcome (own_fault buffer.now part.now) (slot_at buffer.now section at) }
 {
     match image::read_record(part, section, word_at(buffer, header::GROUPS_AT)) {
-        Read::Malformed => refused(10, 0),
-        Read::BadField(i) => refused(11, i),
-        Read::Whole(_) => {
+        Err(Misread::Malformed) => refused(10, 0),
+        Err(Misread::BadField(i)) => refused(11, i),
+        Ok(_) => {
             if is_twin(buffer, part, section) {
                 return refused(20, 0);
             }
@@ -104,7 +98,7 @@ fn room(buffer: &[u8], part: &[u8], section: Section, at: usize) -> Plan
             if buffer.len() - size < part.len() {
                 return refused(13, 0);
             }
-            Plan::Put(Slot {
+            Ok(Slot {
                 at,
                 size,
                 field,
@@ -115,7 +109,7 @@ fn room(buffer: &[u8], part: &[u8], section: Section, at: usize) -> Plan
 }
 
 // The call's own causes, for a buffer whose image is accepted and whose sections start at given places.
-pub(crate) fn own_causes(buffer: &[u8], part: &[u8], sections: Starts) -> Plan
+pub(crate) fn own_causes(buffer: &[u8], part: &[u8], sections: Starts) -> Result<Slot, Refusal>
     requires { (check_front buffer.now ≡ None) × (sections ≡ starts (image_in buffer.now)) }
     ensures { result ≡ outcome (own_fault buffer.now part.now) (slot_of buffer.now part.now) }
 {
@@ -138,11 +132,9 @@ pub(crate) fn own_causes(buffer: &[u8], part: &[u8], sections: Starts) -> Plan
     }
 }
 
-pub(crate) fn planned(buffer: &[u8], part: &[u8]) -> Plan
+pub(crate) fn planned(buffer: &[u8], part: &[u8]) -> Result<Slot, Refusal>
     ensures { result ≡ outcome (add_fault buffer.now part.now) (slot_of buffer.now part.now) }
 {
-    match image::front(buffer) {
-        Sections::Refused(f) => Plan::Refused(f),
-        Sections::At(sections) => own_causes(buffer, part, sections),
-    }
+    let sections = image::front(buffer)?;
+    own_causes(buffer, part, sections)
 }

@@ -7,12 +7,11 @@ ghost use Rattle.extension.specs.Add.{overwrite};
 ghost use Rattle.extend.specs.Inner.Grow.{moved_starts, Grows, AddsEach};
 
 use crate::bytes;
-use crate::plan::{Plan, own_causes};
+use crate::plan::own_causes;
 use crate::row::record_at;
 use crate::splice::insert;
-use format::{Refusal, Sections, Starts, header};
+use format::{Refusal, Starts, header};
 use image::word_at;
-use text::Built;
 
 // The sections' places with one record more, whose section's count stands at a place of the header.
 fn moved(sections: Starts, field: usize, by: usize) -> Starts
@@ -35,19 +34,24 @@ fn moved(sections: Starts, field: usize, by: usize) -> Starts
 }
 
 // Adds the record of the row at a place, and answers the sections' places after it.
-fn grow(buffer: &mut [u8], part: &[u8], at: usize, sections: Starts) -> Sections
+fn grow(
+    buffer: &mut [u8],
+    part: &[u8],
+    at: usize,
+    sections: Starts,
+) -> Result<Starts, Refusal>
     requires { (check_front buffer.old ≡ None) × (sections ≡ starts (image_in buffer.old)) }
     ensures { Grows at buffer.old part.now result buffer.new }
 {
     match own_causes(buffer, part, sections) {
-        Plan::Refused(f) => Sections::Refused(Refusal {
+        Err(f) => Err(Refusal {
             number: f.number,
             place: at,
         }),
-        Plan::Put(slot) => {
+        Ok(slot) => {
             let by = part.len();
             insert(buffer, part, slot);
-            Sections::At(moved(sections, slot.field, by))
+            Ok(moved(sections, slot.field, by))
         }
     }
 }
@@ -62,7 +66,7 @@ pub(crate) fn put_empty(buffer: &mut [u8])
 
 // Adds the records of all rows, up to the first that is refused. A line feed is met where a row is empty, and behind a
 // row.
-pub(crate) fn add_each(text: &[u8], buffer: &mut [u8], sections: Starts) -> Built
+pub(crate) fn add_each(text: &[u8], buffer: &mut [u8], sections: Starts) -> Result<usize, Refusal>
     requires { (check_front buffer.old ≡ None) × (sections ≡ starts (image_in buffer.old)) }
     ensures { AddsEach text.now buffer.old result buffer.new }
 {
@@ -78,19 +82,19 @@ pub(crate) fn add_each(text: &[u8], buffer: &mut [u8], sections: Starts) -> Buil
         let row = record_at(text, at, &mut part);
         let length = row.length;
         if length < 2 {
-            return Built::Refused(Refusal {
+            return Err(Refusal {
                 number: 18,
                 place: at,
             });
         }
         match grow(buffer, &part[..length], at, Starts { rules, constraints }) {
-            Sections::Refused(f) => return Built::Refused(f),
-            Sections::At(s) => {
+            Err(f) => return Err(f),
+            Ok(s) => {
                 rules = s.rules;
                 constraints = s.constraints;
             }
         }
         at = row.end;
     }
-    Built::Length(word_at(buffer, header::LENGTH_AT))
+    Ok(word_at(buffer, header::LENGTH_AT))
 }

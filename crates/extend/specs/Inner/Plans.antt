@@ -1,5 +1,4 @@
 -- What the plan of an add answers.
---     p      what a `Plan` says
 --     slot_at b s at      the slot of a section of the buffer's image, at a place
 --     slot_of b r         the slot of a record: the end of its section
 use Rattle.std.specs.Prelude.{ℕ, List, get_or}
@@ -7,17 +6,9 @@ use Rattle.format.specs.declared.Section.{Section}
 use Rattle.format.specs.Bytes.{word_at}
 use Rattle.format.specs.Format.{length_place, count_place, count_of}
 use Rattle.format.specs.Check.{image_in}
-use Rattle.std.specs.Prelude.{Ok, Err}
-use Rattle.format.specs.Answers.{Outcome}
 use Rattle.extension.specs.Add.{section_of}
 use Rattle.extension.specs.Inner.Splice.{end_of_section}
 use Rattle.extend.specs.declared.plan.Slot.{Slot}
-use Rattle.extend.specs.declared.plan.Plan.{Plan}
-use Rattle.extend.specs.declared.plan.Plan.TheVariants.{Put, Refused}
-
-abbrev pub plan_outcome : Plan → Outcome Slot
-(Put s) = Ok s
-(Refused f) = Err f
 
 abbrev pub slot_at : List ℕ → Section → ℕ → Slot
 slot_at b s at = record { at = at; size = word_at b length_place; field = count_place s; count = count_of b s }

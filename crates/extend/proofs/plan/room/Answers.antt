@@ -14,7 +14,7 @@ use Rattle.format.proofs.Front.{front_fits}
 use Rattle.extension.specs.Add.{added_twin}
 use Rattle.extend.proofs.PlanLaws.{own_malformed, own_field, own_twin, own_full, own_short, own_none, slot_made}
 use Rattle.extend.proofs.plan.room.Goals as goal
-use Rattle.std.specs.Prelude.{Ok}
+use Rattle.std.specs.Prelude.{Ok, Err}
 
 pub returns-then-is_twin : goal.returns-then-is_twin
 returns-then-is_twin c =
@@ -22,7 +22,7 @@ returns-then-is_twin c =
     → read_of c.args.section (count_of c.args.buffer.now Groups) c.args.part.now ≡ w = λ w e. let a = c.args in
     ap (λ g. read_of a.section g a.part.now) (count_groups _ ∙ sym c.word_at.ensures.0) ∙ sym c.read_record.ensures ∙ e in
     let whole : read_of c.args.section (count_of c.args.buffer.now Groups) c.args.part.now
-    ≡ Ok c.in-Whole.field-0 = read _ c.in-Whole.is in
+    ≡ Ok c.in-Ok.field-0 = read _ c.in-Ok.is in
     rw (c.refused-then-is_twin.ensures, own_twin _ _ _ c.requires.1 c.requires.2 _ whole (sym c.is_twin.ensures ∙ c.if-is_twin.true))
 
 pub returns-then-limit_of-count : goal.returns-then-limit_of-count
@@ -31,7 +31,7 @@ returns-then-limit_of-count c =
     → read_of c.args.section (count_of c.args.buffer.now Groups) c.args.part.now ≡ w = λ w e. let a = c.args in
     ap (λ g. read_of a.section g a.part.now) (count_groups _ ∙ sym c.word_at.ensures.0) ∙ sym c.read_record.ensures ∙ e in
     let whole : read_of c.args.section (count_of c.args.buffer.now Groups) c.args.part.now
-    ≡ Ok c.in-Whole.field-0 = read _ c.in-Whole.is in
+    ≡ Ok c.in-Ok.field-0 = read _ c.in-Ok.is in
     let fresh : added_twin c.args.section (policy_of (image_in c.args.buffer.now)) c.args.part.now ≡ false = sym c.is_twin.ensures ∙ c.if-is_twin.false in
     let counted : c.word_at-count.result ≡ count_of c.args.buffer.now c.args.section = let a = c.args in
     c.word_at-count.ensures.0 ∙ ap (word_at a.buffer.now) c.count_place-field.ensures.0 ∙ sym (count_at _ _) in
@@ -51,7 +51,7 @@ returns-then-buffer-size c =
     → read_of c.args.section (count_of c.args.buffer.now Groups) c.args.part.now ≡ w = λ w e. let a = c.args in
     ap (λ g. read_of a.section g a.part.now) (count_groups _ ∙ sym c.word_at.ensures.0) ∙ sym c.read_record.ensures ∙ e in
     let whole : read_of c.args.section (count_of c.args.buffer.now Groups) c.args.part.now
-    ≡ Ok c.in-Whole.field-0 = read _ c.in-Whole.is in
+    ≡ Ok c.in-Ok.field-0 = read _ c.in-Ok.is in
     let fresh : added_twin c.args.section (policy_of (image_in c.args.buffer.now)) c.args.part.now ≡ false = sym c.is_twin.ensures ∙ c.if-is_twin.false in
     let counted : c.word_at-count.result ≡ count_of c.args.buffer.now c.args.section = let a = c.args in
     c.word_at-count.ensures.0 ∙ ap (word_at a.buffer.now) c.count_place-field.ensures.0 ∙ sym (count_at _ _) in
@@ -62,19 +62,19 @@ returns-then-buffer-size c =
           (omega (arith, front_fits _ c.requires.0, c.word_at-size.ensures.0, c.if-buffer-size.true)),
     )
 
-pub returns-in-Malformed : goal.returns-in-Malformed
-returns-in-Malformed c =
+pub returns-in-Err-Malformed : goal.returns-in-Err-Malformed
+returns-in-Err-Malformed c =
     let read : (w : Read) → c.read_record.result ≡ w
     → read_of c.args.section (count_of c.args.buffer.now Groups) c.args.part.now ≡ w = λ w e. let a = c.args in
     ap (λ g. read_of a.section g a.part.now) (count_groups _ ∙ sym c.word_at.ensures.0) ∙ sym c.read_record.ensures ∙ e in
-    rw (c.refused.ensures, own_malformed _ _ _ c.requires.1 c.requires.2 (read _ c.in-Malformed.is))
+    rw (c.refused.ensures, own_malformed _ _ _ c.requires.1 c.requires.2 (read _ c.in-Err-Malformed.is ∙ ap Err c.in-Err-Malformed.field-0-is))
 
-pub returns-in-BadField : goal.returns-in-BadField
-returns-in-BadField c =
+pub returns-in-Err-BadField : goal.returns-in-Err-BadField
+returns-in-Err-BadField c =
     let read : (w : Read) → c.read_record.result ≡ w
     → read_of c.args.section (count_of c.args.buffer.now Groups) c.args.part.now ≡ w = λ w e. let a = c.args in
     ap (λ g. read_of a.section g a.part.now) (count_groups _ ∙ sym c.word_at.ensures.0) ∙ sym c.read_record.ensures ∙ e in
-    rw (c.refused-in-BadField.ensures, own_field _ _ _ c.requires.1 c.requires.2 _ (read _ c.in-BadField.is))
+    rw (c.refused-in-Err-BadField.ensures, c.in-Err-BadField.field-0-is, own_field _ _ _ c.requires.1 c.requires.2 _ (read _ c.in-Err-BadField.is ∙ ap Err c.in-Err-BadField.field-0-is))
 
 pub returns-else-buffer-size : goal.returns-else-buffer-size
 returns-else-buffer-size c =
@@ -82,7 +82,7 @@ returns-else-buffer-size c =
     → read_of c.args.section (count_of c.args.buffer.now Groups) c.args.part.now ≡ w = λ w e. let a = c.args in
     ap (λ g. read_of a.section g a.part.now) (count_groups _ ∙ sym c.word_at.ensures.0) ∙ sym c.read_record.ensures ∙ e in
     let whole : read_of c.args.section (count_of c.args.buffer.now Groups) c.args.part.now
-    ≡ Ok c.in-Whole.field-0 = read _ c.in-Whole.is in
+    ≡ Ok c.in-Ok.field-0 = read _ c.in-Ok.is in
     let fresh : added_twin c.args.section (policy_of (image_in c.args.buffer.now)) c.args.part.now ≡ false = sym c.is_twin.ensures ∙ c.if-is_twin.false in
     let counted : c.word_at-count.result ≡ count_of c.args.buffer.now c.args.section = let a = c.args in
     c.word_at-count.ensures.0 ∙ ap (word_at a.buffer.now) c.count_place-field.ensures.0 ∙ sym (count_at _ _) in

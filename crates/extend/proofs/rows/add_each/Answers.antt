@@ -12,7 +12,7 @@ use Rattle.extend.proofs.rows.add_each.Goals as goal
 use Rattle.format.specs.Answers.{Outcome}
 
 -- the answer and the buffer, where the rows come to this
-adds : {text b after : List ℕ} {r : Built} {m : Made} → From text 0 b ≡ m → r ≡ m.answer → after ≡ m.buffer → AddsEach text b r after
+adds : {text b after : List ℕ} {r : Outcome ℕ} {m : Made} → From text 0 b ≡ m → r ≡ m.answer → after ≡ m.buffer → AddsEach text b r after
 adds e x y = record { answer = x ∙ ap (λ (k : Made). k.answer) (sym e); buffer = y ∙ ap (λ (k : Made). k.buffer) (sym e) }
 
 pub loop-at-init : goal.loop-at-init
@@ -26,22 +26,22 @@ pub returns-then-length-lt2 : goal.returns-then-length-lt2
 returns-then-length-lt2 c = let d = c.record_at-row in let l = c.loop-at in let a = c.args in
     adds (l.invariant.2 ∙ rows_outside a.text.now l.at l.buffer (omega arith) c.if-text-at-eq10.false d.result d.new.part d.ensures c.if-length-lt2.true) refl refl
 
-pub returns-in-Refused : goal.returns-in-Refused
-returns-in-Refused c = let g = c.grow in let d = c.record_at-row in let l = c.loop-at in let a = c.args in
-    adds (l.invariant.2 ∙ rows_refused a.text.now l.at l.buffer (omega arith) c.if-text-at-eq10.false d.result d.new.part d.ensures c.if-length-lt2.false c.in-Refused.is g.ensures) refl refl
+pub returns-in-Err : goal.returns-in-Err
+returns-in-Err c = let g = c.grow in let d = c.record_at-row in let l = c.loop-at in let a = c.args in
+    adds (l.invariant.2 ∙ rows_refused a.text.now l.at l.buffer (omega arith) c.if-text-at-eq10.false d.result d.new.part d.ensures c.if-length-lt2.false c.in-Err.is g.ensures) refl refl
 
 pub loop-at-smaller : goal.loop-at-smaller
 loop-at-smaller c = let g = c.grow in let d = c.record_at-row in let l = c.loop-at in let a = c.args in
-    let h = rows_ahead a.text.now l.at l.buffer (omega arith) c.if-text-at-eq10.false d.result d.new.part d.ensures c.if-length-lt2.false c.in-At.is g.ensures in
+    let h = rows_ahead a.text.now l.at l.buffer (omega arith) c.if-text-at-eq10.false d.result d.new.part d.ensures c.if-length-lt2.false c.in-Ok.is g.ensures in
     omega (arith, h.0, h.1)
 
 pub loop-at-preserved : goal.loop-at-preserved
 loop-at-preserved c = let g = c.grow in let d = c.record_at-row in let l = c.loop-at in let a = c.args in (
-  (rows_ahead a.text.now l.at l.buffer (omega arith) c.if-text-at-eq10.false d.result d.new.part d.ensures c.if-length-lt2.false c.in-At.is g.ensures).1,
+  (rows_ahead a.text.now l.at l.buffer (omega arith) c.if-text-at-eq10.false d.result d.new.part d.ensures c.if-length-lt2.false c.in-Ok.is g.ensures).1,
   g.auto.buffer ∙ l.invariant.1,
-  l.invariant.2 ∙ rows_added_lem a.text.now l.at l.buffer (omega arith) c.if-text-at-eq10.false d.result d.new.part d.ensures c.if-length-lt2.false c.in-At.is g.ensures,
+  l.invariant.2 ∙ rows_added_lem a.text.now l.at l.buffer (omega arith) c.if-text-at-eq10.false d.result d.new.part d.ensures c.if-length-lt2.false c.in-Ok.is g.ensures,
   g.ensures.accepted,
-  rows_starts a.text.now l.at l.buffer (omega arith) c.if-text-at-eq10.false d.result d.new.part d.ensures c.if-length-lt2.false c.in-At.is g.ensures,
+  rows_starts a.text.now l.at l.buffer (omega arith) c.if-text-at-eq10.false d.result d.new.part d.ensures c.if-length-lt2.false c.in-Ok.is g.ensures,
   omega (arith, d.auto.part, l.invariant.5),
 )
 
