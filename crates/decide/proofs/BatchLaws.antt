@@ -1,9 +1,8 @@
 -- Laws of a run's first steps. Assumes nothing.
 --     opened, opened_refused   what the sections say, from the case that they are
---     next_is      what a run comes to after a row, by cases
 --     step_is      a row's answer and what the run comes to after it
 use Prim.Native.Nat.{ℕ}
-use mathlib.Core.Path.{◌≡◌, sym, ap, ap₂, ◌∙◌}
+use mathlib.Core.Path.{◌≡◌, sym, ap, ◌∙◌}
 use mathlib.Core.Bool.{Bool}
 use Rattle.std.specs.Prelude.{Option, Some, Ok, Err, None}
 use mathlib.Core.List.{List}
@@ -21,16 +20,12 @@ use Rattle.decision.specs.declared.Decision.{Decision}
 
 -- an accepted image: what is left is the run's own refusal
 pub opened : (x : Outcome Starts) (s : _) (n : ℕ) (fits : Bool) (f : Option Refusal) → Ok s ≡ x → rows_fault n fits ≡ f
-    → run_said f ≡ run_said (open_fault (x) n fits)
-opened x s n fits f e h = ap run_said (sym h) ∙ ap (λ y. run_said (open_fault (y) n fits)) e
+    → run_said f ≡ run_said (open_fault x n fits)
+opened x s n fits f e h = ap run_said (sym h) ∙ ap (λ y. run_said (open_fault y n fits)) e
 
 pub opened_refused : (x : Outcome Starts) (f : Refusal) (n : ℕ) (fits : Bool) → x ≡ Err f
-    → run_said (Some f) ≡ run_said (open_fault (x) n fits)
-opened_refused x f n fits e = sym (ap (λ y. run_said (open_fault (y) n fits)) e)
-
--- the cases of the next answer
-pub next_is : (r r' : Run) (i : ℕ) (a a' : Outcome Decision) → r ≡ r' → a ≡ a' → next_run r' i a' ≡ next_run r i a
-next_is r r' i a a' e h = sym (ap₂ (λ x y. next_run x i y) e h)
+    → run_said (Some f) ≡ run_said (open_fault x n fits)
+opened_refused x f n fits e = sym (ap (λ y. run_said (open_fault y n fits)) e)
 
 pub step_is : (l : List ℕ) (q : Query) (r : Run) (i : ℕ) (a : Outcome Decision) (p : Progress) → a ≡ answer l q
     → p.run ≡ next_run r i a → Stepped l q r i (record { answer = a; progress = p })

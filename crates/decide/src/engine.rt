@@ -12,8 +12,8 @@ use crate::cover::{Found, first_rule};
 use crate::nearest::nearest_rule;
 use crate::sets::{mark_type, unmark_type};
 use crate::word::{wide_word, word_in};
-use decision::{Answer, Query};
-use format::{Refusal, Sections, Starts, header};
+use decision::{Answer, Decision, Query};
+use format::{Refusal, Starts, header};
 use image::{is_type, survey};
 
 // The decision of an accepted policy on a query whose source and destination are marked, with their sizes. Where no rule covers
@@ -28,12 +28,12 @@ fn judge_marked(
     dest: &[bool; 1024],
     dests: usize,
     verdicts: &mut [u8; 256],
-) -> Answer
+) -> Decision
     requires { Ready image.now groups.now s × deciding.Valid image.now q
         × Marked (set_in image.now q.source) source.now sources
         × Marked (set_in image.now q.dest) dest.now dests × KeptVerdicts image.now q.switches verdicts.old }
-    ensures { Leaves (Ok (deciding.decide (policy_of image.now) q))
-        (Written image.now q.switches verdicts.old verdicts.new) (result) }
+    ensures { Leaves (deciding.decide (policy_of image.now) q)
+        (Written image.now q.switches verdicts.old verdicts.new) result }
 {
     let mut ksource = [0u8; 256];
     let mut kdest = [0u8; 256];
@@ -49,7 +49,7 @@ fn judge_marked(
         &mut ksource,
         &mut kdest,
     ) {
-        Found::Nothing => Answer::NotPermitted(nearest_rule(
+        Found::Nothing => Decision::NotPermitted(nearest_rule(
             image,
             groups,
             s,
@@ -74,8 +74,8 @@ fn judge_marked(
             &mut kdest,
             verdicts,
         ) {
-            Found::Nothing => Answer::Permitted(r),
-            Found::At(c) => Answer::UnKnown(r, c),
+            Found::Nothing => Decision::Permitted(r),
+            Found::At(c) => Decision::UnKnown(r, c),
         },
     }
 }
@@ -90,12 +90,12 @@ fn judge(
     verdicts: &mut [u8; 256],
     source: &mut [bool; 1024],
     dest: &mut [bool; 1024],
-) -> Answer
+) -> Decision
     requires { Ready image.now groups.now s × deciding.Valid image.now q
         × Tables image.now q.switches verdicts.old source.old dest.old }
-    ensures { Leaves (Ok (deciding.decide (policy_of image.now) q))
+    ensures { Leaves (deciding.decide (policy_of image.now) q)
         (Left image.now q.switches verdicts.old verdicts.new source.new dest.new)
-        (result) }
+        result }
 {
     let from = wide_word(q.source);
     let to = wide_word(q.dest);
@@ -112,7 +112,7 @@ fn judge(
 pub(crate) fn decide_surveyed(
     image: &[u8],
     groups: &[u16; 256],
-    sections: Sections,
+    sections: Result<Starts, Refusal>,
     q: Query,
     verdicts: &mut [u8; 256],
     source: &mut [bool; 1024],
@@ -121,27 +121,23 @@ pub(crate) fn decide_surveyed(
     requires { Surveyed image.now groups.now sections × Tables image.now q.switches verdicts.old source.old dest.old }
     ensures { Leaves (deciding.answer image.now q)
         (Left image.now q.switches verdicts.old verdicts.new source.new dest.new)
-        (result) }
+        result }
 {
-    match sections {
-        Sections::Refused(f) => Answer::Refused(f),
-        Sections::At(s) => {
-            let count = word_in(image, header::GROUPS_AT);
-            if !is_type(count, wide_word(q.source)) {
-                return Answer::Refused(Refusal {
-                    number: 8,
-                    place: 0,
-                });
-            }
-            if !is_type(count, wide_word(q.dest)) {
-                return Answer::Refused(Refusal {
-                    number: 9,
-                    place: 0,
-                });
-            }
-            judge(image, groups, s, q, verdicts, source, dest)
-        }
+    let s = sections?;
+    let count = word_in(image, header::GROUPS_AT);
+    if !is_type(count, wide_word(q.source)) {
+        return Err(Refusal {
+            number: 8,
+            place: 0,
+        });
     }
+    if !is_type(count, wide_word(q.dest)) {
+        return Err(Refusal {
+            number: 9,
+            place: 0,
+        });
+    }
+    Ok(judge(image, groups, s, q, verdicts, source, dest))
 }
 
 // The engine's answer: the decision with its rule and its constraint, or refusals 1 to 9 with the place.

@@ -9,7 +9,7 @@ ghost use Rattle.decide.specs.Inner.Nearer.{Uncovered, AtNearest, Comes};
 use crate::passes::steps_at;
 use crate::rules::{is_allow, past};
 use crate::word::word_in;
-use decision::{Nearest, Query};
+use decision::{Near, Nearest, Query};
 use format::{Starts, header};
 
 // The nearest rule so far, and how many steps it passes.
@@ -85,7 +85,7 @@ pub(crate) fn nearest_rule(
 {
     let count = word_in(image, header::RULES_AT);
     if count == 0 {
-        return Nearest::NoRules;
+        return None;
     }
     let mut best = Best { steps: 0, rule: 0 };
     let mut at = s.rules;
@@ -95,10 +95,10 @@ pub(crate) fn nearest_rule(
             image, groups, q, source, sources, dest, dests, ksource, kdest, count, best, n, at,
         );
         if count <= next.n {
-            return Nearest::Near(best.steps, best.rule);
+            return Some(Near { steps: best.steps, rule: best.rule });
         }
         if next.steps == 4 {
-            return Nearest::Near(4, next.n);
+            return Some(Near { steps: 4, rule: next.n });
         }
         best = Best {
             steps: next.steps,
@@ -108,5 +108,5 @@ pub(crate) fn nearest_rule(
         at = past(image, next.at, false);
         n = next.n + 1;
     }
-    Nearest::Near(best.steps, best.rule)
+    Some(Near { steps: best.steps, rule: best.rule })
 }

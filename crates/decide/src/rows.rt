@@ -9,7 +9,7 @@ ghost use Rattle.decide.specs.Inner.Verdicts.{RowTables};
 use crate::engine::decide_surveyed;
 use crate::verdicts::{Held, recall};
 use decision::Query;
-use format::Sections;
+use format::{Refusal, Starts};
 use image::{survey, word_at};
 use numbers::number;
 
@@ -48,7 +48,7 @@ pub(crate) struct Told {
 fn row(
     image: &[u8],
     groups: &[u16; 256],
-    sections: Sections,
+    sections: Result<Starts, Refusal>,
     queries: &[u8],
     at: usize,
     verdicts: &mut [u8; 256],

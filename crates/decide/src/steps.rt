@@ -8,8 +8,8 @@ ghost use Rattle.decide.specs.Inner.Steps.{Begins, Stepped};
 
 use crate::engine::decide_surveyed;
 use crate::verdicts::{Held, recall};
-use decision::{Answer, Query};
-use format::{Refusal, Sections};
+use decision::{Answer, Decision, Query};
+use format::{Refusal, Starts};
 use image::survey;
 use runs::Run;
 
@@ -26,7 +26,7 @@ pub(crate) struct Progress {
 pub(crate) struct Begun {
     pub rows: usize,
     pub progress: Progress,
-    pub sections: Sections,
+    pub sections: Result<Starts, Refusal>,
     pub groups: [u16; 256],
 }
 
@@ -38,33 +38,29 @@ pub(crate) struct Step {
 }
 
 // What a run comes to before its first row. The refusals in their order: the image's, then 16, then 17.
-fn opening(sections: Sections, rows: usize, fits: bool) -> Run
+fn opening(sections: Result<Starts, Refusal>, rows: usize, fits: bool) -> Run
     ensures { result ≡ run_said (open_fault (sections) rows fits) }
 {
-    match sections {
-        Sections::Refused(f) => Run::Refused(f),
-        Sections::At(_) => {
-            if rows < 1 {
-                return Run::Refused(Refusal {
-                    number: 16,
-                    place: 0,
-                });
-            }
-            if 64 < rows {
-                return Run::Refused(Refusal {
-                    number: 16,
-                    place: 0,
-                });
-            }
-            if !fits {
-                return Run::Refused(Refusal {
-                    number: 17,
-                    place: 0,
-                });
-            }
-            Run::Fit
-        }
+    sections?;
+    if rows < 1 {
+        return Err(Refusal {
+            number: 16,
+            place: 0,
+        });
     }
+    if 64 < rows {
+        return Err(Refusal {
+            number: 16,
+            place: 0,
+        });
+    }
+    if !fits {
+        return Err(Refusal {
+            number: 17,
+            place: 0,
+        });
+    }
+    Ok(None)
 }
 
 // How many rows are decided: none where the run is refused.
@@ -72,9 +68,8 @@ fn decided(run: Run, rows: usize) -> usize
     ensures { result ≡ rows_for run rows }
 {
     match run {
-        Run::Fit => rows,
-        Run::Unfit(_) => rows,
-        Run::Refused(_) => 0,
+        Ok(_) => rows,
+        Err(_) => 0,
     }
 }
 
@@ -112,14 +107,11 @@ fn next(run: Run, i: usize, a: Answer) -> Run
     ensures { result ≡ next_run run i a }
 {
     match run {
-        Run::Fit => match a {
-            Answer::NotPermitted(_) => Run::Unfit(i),
-            Answer::Permitted(_) => Run::Fit,
-            Answer::UnKnown(_, _) => Run::Unfit(i),
-            Answer::Refused(_) => Run::Unfit(i),
+        Ok(None) => match a {
+            Ok(Decision::Permitted(_)) => Ok(None),
+            _ => Ok(Some(i)),
         },
-        Run::Unfit(n) => Run::Unfit(n),
-        Run::Refused(f) => Run::Refused(f),
+        _ => run,
     }
 }
 
@@ -127,7 +119,7 @@ fn next(run: Run, i: usize, a: Answer) -> Run
 pub(crate) fn decide_row(
     image: &[u8],
     groups: &[u16; 256],
-    sections: Sections,
+    sections: Result<Starts, Refusal>,
     q: Query,
     verdicts: &mut [u8; 256],
     source: &mut [bool; 1024],

@@ -10,7 +10,7 @@ ghost use Rattle.decide.specs.Inner.Verdicts.{names_switch, any_named, Knows, tu
 
 use crate::rules::{is_allow, past};
 use crate::word::word_in;
-use format::{Sections, Starts, header};
+use format::{Refusal, Starts, header};
 
 // The word that the verdicts in front are right for, and that of those behind; and what is known of the switches: 0 nothing yet,
 // and no verdict is kept; 1 no more than the words; 2 that the rules name no switch; 3 that they do.
@@ -148,7 +148,7 @@ fn recall_at(
 pub(crate) fn recall(
     image: &[u8],
     groups: &[u16; 256],
-    sections: Sections,
+    sections: Result<Starts, Refusal>,
     verdicts: &mut [u8; 256],
     held: Held,
     switches: u32,
@@ -157,11 +157,11 @@ pub(crate) fn recall(
     ensures { Recalled image.now switches result verdicts.new }
 {
     match sections {
-        Sections::Refused(_) => Held {
+        Err(_) => Held {
             word: switches,
             other: switches,
             known: 1,
         },
-        Sections::At(s) => recall_at(image, groups, s, verdicts, held, switches),
+        Ok(s) => recall_at(image, groups, s, verdicts, held, switches),
     }
 }

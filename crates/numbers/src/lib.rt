@@ -5,7 +5,7 @@ ghost use Rattle.std.specs.Prelude.{◌≡◌};
 ghost use Rattle.decision.specs.Numbers.{parts_of, refusal_code, nearest_code, decision_code};
 ghost use Rattle.runs.specs.Numbers.{run_code};
 
-use decision::{Answer, Nearest};
+use decision::{Answer, Decision, Nearest};
 use format::Refusal;
 use runs::Run;
 
@@ -27,29 +27,29 @@ fn denied(nearest: Nearest) -> u64
     ensures { result ≡ nearest_code nearest }
 {
     match nearest {
-        Nearest::NoRules => parts(0, 0, 65535),
-        Nearest::Near(steps, rule) => parts(0, steps, rule),
+        None => parts(0, 0, 65535),
+        Some(near) => parts(0, near.steps, near.rule),
     }
 }
 
 pub fn number(answer: Answer) -> u64
-    ensures { result ≡ decision_code (answer) }
+    ensures { result ≡ decision_code answer }
 {
     match answer {
-        Answer::NotPermitted(nearest) => denied(nearest),
-        Answer::Permitted(r) => parts(1, 0, r),
-        Answer::UnKnown(r, c) => parts(3, r, c),
-        Answer::Refused(f) => refused(f),
+        Ok(Decision::NotPermitted(nearest)) => denied(nearest),
+        Ok(Decision::Permitted(r)) => parts(1, 0, r),
+        Ok(Decision::UnKnown(r, c)) => parts(3, r, c),
+        Err(f) => refused(f),
     }
 }
 
 // Of a run: fit, the first row that is not Permitted, or the refusal.
 pub fn run_number(run: Run) -> u64
-    ensures { result ≡ run_code (run) }
+    ensures { result ≡ run_code run }
 {
     match run {
-        Run::Fit => parts(1, 0, 0),
-        Run::Unfit(n) => parts(0, 0, n),
-        Run::Refused(f) => refused(f),
+        Ok(None) => parts(1, 0, 0),
+        Ok(Some(n)) => parts(0, 0, n),
+        Err(f) => refused(f),
     }
 }

@@ -4,8 +4,8 @@ use mathlib.Core.Path.{sym, ap, ◌∙◌}
 use Rattle.decision.specs.Numbers.{nearest_code}
 use Rattle.numbers.proofs.denied.Goals as goal
 
-pub returns-in-NoRules : goal.returns-in-NoRules
-returns-in-NoRules c = c.parts.ensures ∙ ap nearest_code (sym c.in-NoRules.is)
+pub returns-in-None : goal.returns-in-None
+returns-in-None c = c.parts.ensures ∙ ap nearest_code (sym c.in-None.is)
 
-pub returns-in-Near : goal.returns-in-Near
-returns-in-Near c = c.parts-in-Near.ensures ∙ ap nearest_code (sym c.in-Near.is)
+pub returns-in-Some : goal.returns-in-Some
+returns-in-Some c = c.parts-in-Some.ensures ∙ ap nearest_code (sym c.in-Some.is)

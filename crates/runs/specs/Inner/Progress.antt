@@ -26,8 +26,7 @@ run_said None = Ok None
 run_said (Some f) = Err f
 
 abbrev pub rows_for : Run → ℕ → ℕ
-rows_for (Ok None) n = n
-rows_for (Ok (Some i)) n = n
+rows_for (Ok o) n = n
 rows_for (Err f) n = 0
 
 abbrev pub next_run : Run → ℕ → Outcome Decision → Run

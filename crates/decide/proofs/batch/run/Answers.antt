@@ -2,7 +2,7 @@
 use Rattle.std.proofs.Common.{ℕ, ◌+◌, ◌≡◌, ◌<◌, List, map, length, get_or, refl, sym, ap, subst, ◌∙◌, add-one, arith}
 use Rattle.std.proofs.Math.ListN.{set, length-map, get_or-map}
 use Rattle.decision.specs.declared.Query.{Query}
-use Rattle.runs.specs.Runs.{queries_fault, row_answer, run_outcome, Run}
+use Rattle.runs.specs.Runs.{queries_fault, row_answer, Run}
 use Rattle.runs.specs.Inner.Progress.{run_said, rows_for, next_run}
 use Rattle.runs.proofs.Faults.{same_lengths}
 use Rattle.runs.proofs.Fill.{fill, fill_next}
@@ -93,6 +93,6 @@ returns c =
     let f = queries_fault l (length qs) (length ys) in
     let few : L.i ≡ c.begin_queries-begun.result.rows = omega arith in
     let e = few ∙ c.begin_queries-begun.ensures.rows in (
-      ap run_outcome (L.invariant.ran ∙ ap (out_at l f qs) e) ∙ ran_queries l qs (length ys),
+      (L.invariant.ran ∙ ap (out_at l f qs) e) ∙ ran_queries l qs (length ys),
       L.invariant.are ∙ ap (fill (map (row_answer l) qs) ys) e ∙ wrote_queries l qs ys,
     )

@@ -2,7 +2,7 @@
 use native.Mathlib.Omega.{arith}
 use mathlib.Core.Path.{◌≡◌, refl, ap, subst, ◌∙◌}
 use lib.ListN.{length}
-use Rattle.runs.specs.Runs.{run_outcome, Run}
+use Rattle.runs.specs.Runs.{Run}
 use Rattle.runs.specs.Numbers.{rows_of}
 use Rattle.runs.proofs.Fill.{fill, length_fill}
 use Rattle.runs.proofs.Progress.{out_none, ran_numbers, wrote_numbers}
@@ -117,6 +117,6 @@ returns c =
     let L = c.loop-i in
     let e : L.i ≡ b.rows = omega (arith, L.invariant.few, c.loop-i-test.false) in
     let f = e ∙ begins.rows in (
-      ap run_outcome (L.invariant.ran ∙ ap (out l ns ys) f) ∙ ran_numbers l ns (length ys),
+      (L.invariant.ran ∙ ap (out l ns ys) f) ∙ ran_numbers l ns (length ys),
       L.invariant.are ∙ ap (fill (codes l ns ys) ys) f ∙ wrote_numbers l ns ys,
     )

@@ -12,19 +12,21 @@ use Rattle.decision.proofs.Answers.{image_refused}
 use Rattle.decide.specs.Inner.Parts.{Ready}
 use Rattle.decide.proofs.VerdictLaws.{left_same}
 use Rattle.decide.proofs.EngineLaws.{query_source, query_dest, query_valid, type_told, outcome_some, outcome_none, answer_accepted}
+use Rattle.std.specs.Prelude.{Ok, Err}
+use borrow.Author.Rules.{rules}
 use Rattle.decide.proofs.engine.decide_surveyed.Goals as goal
 
 pub word_in-count-requires : goal.word_in-count-requires
 word_in-count-requires c =
-    let ready : Ready c.args.image.now c.args.groups.now c.in-At.s = let p = c.requires.0 in
-    let k = outcome_gives _ _ (sym c.in-At.is ∙ p.sections) in
+    let ready : Ready c.args.image.now c.args.groups.now c.in_ok-s.s = let p = c.requires.0 in
+    let k = outcome_gives _ _ (sym c.in_ok-s.was ∙ p.sections) in
     record { known = record { accepted = k.0; placed = p.placed k.0 }; starting = k.1 } in
     omega (arith, (accepted_header _ ready.known.accepted).long)
 
 pub returns-then-not-is_type : goal.returns-then-not-is_type
 returns-then-not-is_type c =
-    let ready : Ready c.args.image.now c.args.groups.now c.in-At.s = let p = c.requires.0 in
-    let k = outcome_gives _ _ (sym c.in-At.is ∙ p.sections) in
+    let ready : Ready c.args.image.now c.args.groups.now c.in_ok-s.s = let p = c.requires.0 in
+    let k = outcome_gives _ _ (sym c.in_ok-s.was ∙ p.sections) in
     record { known = record { accepted = k.0; placed = p.placed k.0 }; starting = k.1 } in
     let counted : c.word_in-count.result ≡ count_of c.args.image.now Groups =
     c.word_in-count.ensures.0 ∙ sym (count_groups _) in
@@ -39,13 +41,13 @@ returns-then-not-is_type c =
 
 pub returns-then-not-is_type-2 : goal.returns-then-not-is_type-2
 returns-then-not-is_type-2 c =
-    let ready : Ready c.args.image.now c.args.groups.now c.in-At.s = let p = c.requires.0 in
-    let k = outcome_gives _ _ (sym c.in-At.is ∙ p.sections) in
+    let ready : Ready c.args.image.now c.args.groups.now c.in_ok-s.s = let p = c.requires.0 in
+    let k = outcome_gives _ _ (sym c.in_ok-s.was ∙ p.sections) in
     record { known = record { accepted = k.0; placed = p.placed k.0 }; starting = k.1 } in
     let counted : c.word_in-count.result ≡ count_of c.args.image.now Groups =
     c.word_in-count.ensures.0 ∙ sym (count_groups _) in
-    let dest_told : is_type (count_of c.args.image.now Groups) c.args.q.dest ≡ c.is_type-in-At.result =
-    type_told _ _ _ _ _ c.is_type-in-At.ensures counted c.wide_word-in-At.ensures in
+    let dest_told : is_type (count_of c.args.image.now Groups) c.args.q.dest ≡ c.is_type-2.result =
+    type_told _ _ _ _ _ c.is_type-2.ensures counted c.wide_word-2.ensures in
     let source_told : is_type (count_of c.args.image.now Groups) c.args.q.source ≡ c.is_type.result =
     type_told _ _ _ _ _ c.is_type.ensures counted c.wide_word.ensures in
     let source_yes : is_type (count_of c.args.image.now Groups) c.args.q.source ≡ true =
@@ -59,8 +61,8 @@ returns-then-not-is_type-2 c =
 
 pub judge-requires : goal.judge-requires
 judge-requires c =
-    let ready : Ready c.args.image.now c.args.groups.now c.in-At.s = let p = c.requires.0 in
-    let k = outcome_gives _ _ (sym c.in-At.is ∙ p.sections) in
+    let ready : Ready c.args.image.now c.args.groups.now c.in_ok-s.s = let p = c.requires.0 in
+    let k = outcome_gives _ _ (sym c.in_ok-s.was ∙ p.sections) in
     record { known = record { accepted = k.0; placed = p.placed k.0 }; starting = k.1 } in
     let counted : c.word_in-count.result ≡ count_of c.args.image.now Groups =
     c.word_in-count.ensures.0 ∙ sym (count_groups _) in
@@ -68,22 +70,23 @@ judge-requires c =
     type_told _ _ _ _ _ c.is_type.ensures counted c.wide_word.ensures in
     let source_yes : is_type (count_of c.args.image.now Groups) c.args.q.source ≡ true =
     source_told ∙ c.if-not-is_type.false in
-    let dest_told : is_type (count_of c.args.image.now Groups) c.args.q.dest ≡ c.is_type-in-At.result =
-    type_told _ _ _ _ _ c.is_type-in-At.ensures counted c.wide_word-in-At.ensures in
+    let dest_told : is_type (count_of c.args.image.now Groups) c.args.q.dest ≡ c.is_type-2.result =
+    type_told _ _ _ _ _ c.is_type-2.ensures counted c.wide_word-2.ensures in
     let dest_yes : is_type (count_of c.args.image.now Groups) c.args.q.dest ≡ true = dest_told ∙ c.if-not-is_type-2.false in
     (ready, (source_yes, dest_yes), c.requires.1)
 
-pub returns-in-Refused : goal.returns-in-Refused
-returns-in-Refused c = let p = c.requires in
+pub returns-in_err-s : goal.returns-in_err-s
+returns-in_err-s c = let p = c.requires in
+    let passed_on : c.from_residual.result ≡ Err c.in_err-s.field-0.0 = search rules in
     record {
-      is = sym (image_refused _ _ _ (outcome_refused _ _ (sym c.in-Refused.is ∙ p.0.sections)));
+      is = passed_on ∙ sym (image_refused _ _ _ (outcome_refused _ _ (sym c.in_err-s.was ∙ p.0.sections)));
       kept = left_same _ _ _ _ _ p.1;
     }
 
-pub returns-else-not-is_type-2 : goal.returns-else-not-is_type-2
-returns-else-not-is_type-2 c =
-    let ready : Ready c.args.image.now c.args.groups.now c.in-At.s = let p = c.requires.0 in
-    let k = outcome_gives _ _ (sym c.in-At.is ∙ p.sections) in
+pub returns : goal.returns
+returns c =
+    let ready : Ready c.args.image.now c.args.groups.now c.in_ok-s.s = let p = c.requires.0 in
+    let k = outcome_gives _ _ (sym c.in_ok-s.was ∙ p.sections) in
     record { known = record { accepted = k.0; placed = p.placed k.0 }; starting = k.1 } in
     let counted : c.word_in-count.result ≡ count_of c.args.image.now Groups =
     c.word_in-count.ensures.0 ∙ sym (count_groups _) in
@@ -91,11 +94,11 @@ returns-else-not-is_type-2 c =
     type_told _ _ _ _ _ c.is_type.ensures counted c.wide_word.ensures in
     let source_yes : is_type (count_of c.args.image.now Groups) c.args.q.source ≡ true =
     source_told ∙ c.if-not-is_type.false in
-    let dest_told : is_type (count_of c.args.image.now Groups) c.args.q.dest ≡ c.is_type-in-At.result =
-    type_told _ _ _ _ _ c.is_type-in-At.ensures counted c.wide_word-in-At.ensures in
+    let dest_told : is_type (count_of c.args.image.now Groups) c.args.q.dest ≡ c.is_type-2.result =
+    type_told _ _ _ _ _ c.is_type-2.ensures counted c.wide_word-2.ensures in
     let dest_yes : is_type (count_of c.args.image.now Groups) c.args.q.dest ≡ true = dest_told ∙ c.if-not-is_type-2.false in
     let r = c.judge.ensures in
     record {
-      is = r.is ∙ outcome_none _ _ (query_valid _ _ source_yes dest_yes) ∙ sym (answer_accepted _ _ ready.known.accepted);
+      is = ap Ok r.is ∙ outcome_none _ _ (query_valid _ _ source_yes dest_yes) ∙ sym (answer_accepted _ _ ready.known.accepted);
       kept = r.kept;
     }

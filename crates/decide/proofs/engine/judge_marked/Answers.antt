@@ -1,7 +1,6 @@
 -- `judge_marked` meets its contract: the lowest covering rule and the lowest failing constraint make the decision. Assumes
 -- nothing.
 use mathlib.Core.Path.{refl, sym, ap, ◌∙◌}
-use Rattle.std.specs.Prelude.{Ok}
 use Rattle.format.proofs.Fields.{type_is}
 use Rattle.decision.specs.declared.Decision.TheVariants.{NotPermitted}
 use Rattle.decision.specs.Decide.{decision_of}
@@ -34,8 +33,8 @@ unfolding decision_of
 returns-in-Nothing c =
     record {
       is =
-          ap (λ x. Ok (NotPermitted x)) c.nearest_rule.ensures
-          ∙ ap Ok (engine_is _ _ Nothing _ (sym c.in-Nothing.is ∙ c.first_rule.ensures.is) refl);
+          ap NotPermitted c.nearest_rule.ensures
+          ∙ engine_is _ _ Nothing _ (sym c.in-Nothing.is ∙ c.first_rule.ensures.is) refl;
       kept = written_same _ _ _ c.requires.4;
     }
 
@@ -45,7 +44,7 @@ returns-in-Nothing-first_constraint c =
     let r = c.first_rule.ensures in
     let k = c.first_constraint.ensures in
     record {
-      is = ap Ok (engine_is _ _ (At _) Nothing (sym c.in-At.is ∙ r.is) (sym c.in-Nothing-first_constraint.is ∙ k.is));
+      is = engine_is _ _ (At _) Nothing (sym c.in-At.is ∙ r.is) (sym c.in-Nothing-first_constraint.is ∙ k.is);
       kept = k.kept;
     }
 
@@ -55,6 +54,6 @@ returns-in-At-first_constraint c =
     let r = c.first_rule.ensures in
     let k = c.first_constraint.ensures in
     record {
-      is = ap Ok (engine_is _ _ (At _) (At _) (sym c.in-At.is ∙ r.is) (sym c.in-At-first_constraint.is ∙ k.is));
+      is = engine_is _ _ (At _) (At _) (sym c.in-At.is ∙ r.is) (sym c.in-At-first_constraint.is ∙ k.is);
       kept = k.kept;
     }

@@ -7,10 +7,10 @@ use Rattle.decide.proofs.verdicts.recall.Goals as goal
 pub recall_at-requires : goal.recall_at-requires
 recall_at-requires c =
     let p = c.requires in
-    let k = outcome_gives _ _ (sym c.in-At.is ∙ p.0.sections) in
+    let k = outcome_gives _ _ (sym c.in-Ok.is ∙ p.0.sections) in
     (record { known = record { accepted = k.0; placed = p.0.placed k.0 }; starting = k.1 }, p.1)
 
-pub returns-in-Refused : goal.returns-in-Refused
-returns-in-Refused c =
+pub returns-in-Err : goal.returns-in-Err
+returns-in-Err c =
     let p = c.requires in
-    recalled_refused _ _ _ (refused_not _ _ (outcome_refused _ _ (sym c.in-Refused.is ∙ p.0.sections)))
+    recalled_refused _ _ _ (refused_not _ _ (outcome_refused _ _ (sym c.in-Err.is ∙ p.0.sections)))
