@@ -43,7 +43,7 @@ use Rattle.claims.specs.Terms.{query, AtLeast, three_queries, two_and_part, Orde
 use Rattle.claims.proofs.Cases.{space_image, companion_bytes, companion_space, companion_no_rule, rule_bytes, rule_space, query_rows, twelve_bytes}
 use Rattle.claims.proofs.ReadingTerms.{companion_after}
 
-pub gives_one : {A : Type 0} {a b : A} → Ok a ≡ Ok b → a ≡ b
+pub gives_one : {A : Type 0} {a b : A} → ◌≡◌ {A = Outcome A} (Ok a) (Ok b) → a ≡ b
 gives_one e = cc
 
 rules_few : count_of (extended sample companion) Rules ≡ 4 → length (policy_of (extended sample companion)).rules + length (policy_of (extended sample companion)).rules ≤ 1024

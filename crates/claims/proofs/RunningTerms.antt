@@ -15,7 +15,7 @@ use Rattle.decision.specs.declared.Query.{Query}
 use Rattle.decision.specs.declared.Decision.{Decision}
 use Rattle.decision.specs.declared.Decision.TheVariants.{NotPermitted, Permitted, UnKnown}
 use Rattle.decision.proofs.Cases.{marked_answers}
-use Rattle.runs.specs.Runs.{queries_fault, run_of, answer_of}
+use Rattle.runs.specs.Runs.{queries_fault, run_of}
 use Rattle.runs.specs.Claims.{Permits, AllPermits}
 use Rattle.runs.specs.Cases.{member, group, transition, off_rule, no_source}
 use Rattle.claims.specs.Promises.{Promises}
@@ -34,7 +34,7 @@ not_refused e = (let z : ◌≡◌ {A = ℕ} 0 1 = cc in omega arith)
 
 -- what a slot may hold before
 blank : Outcome Decision
-blank = Permitted 0
+blank = Ok (Permitted 0)
 
 module _ (p : Promises) where
   rows : RowAnswers
@@ -132,8 +132,5 @@ module _ (p : Promises) where
         one_fit = (r.one_row sample transition blank).1 (2, rows.transition_is);
         one_unfit = (r.one_row sample off_rule blank).2 passes off;
         one_refused = λ q y. (let o = (r.one_row (take 79 sample) q y).3 (refusal 3 0) p.reading.refusal_cases.cut in (o.0, o.2));
-        said_alike = λ a b e. sym (r.answer_said.1 a) ∙ ap answer_of e ∙ r.answer_said.1 b;
-        answers_say = (λ x. refl, λ n. refl, λ n k. refl, λ f. refl);
-        runs_say = (refl, λ n. refl, λ f. refl);
         run_cases_all = (run_numbers.cases, run_numbers.number_cases_lem);
       }

@@ -46,17 +46,17 @@ no_live rs a e m l = false_not_true (sym (any_of_none live e m) ∙ l)
 given_refused : (d : Decision) (f : Refusal) → Ok d ≡ Err f → ⊥
 given_refused d f e = let z : ◌≡◌ {A = ℕ} 0 1 = cc in omega arith
 
-permitted_one : {r n : ℕ} → Ok (Permitted r) ≡ Ok (Permitted n) → r ≡ n
+permitted_one : {r n : ℕ} → ◌≡◌ {A = Outcome Decision} (Ok (Permitted r)) (Ok (Permitted n)) → r ≡ n
 permitted_one e = cc
 
-unknown_one : {r c n k : ℕ} → Ok (UnKnown r c) ≡ Ok (UnKnown n k) → (r ≡ n) × (c ≡ k)
+unknown_one : {r c n k : ℕ} → ◌≡◌ {A = Outcome Decision} (Ok (UnKnown r c)) (Ok (UnKnown n k)) → (r ≡ n) × (c ≡ k)
 unknown_one e = (cc, cc)
 
 -- decisions of other heights are not the same
-unlike : (r c : ℕ) (x : Nearest) → Ok (UnKnown r c) ≡ Ok (NotPermitted x) → ⊥
+unlike : (r c : ℕ) (x : Nearest) → ◌≡◌ {A = Outcome Decision} (Ok (UnKnown r c)) (Ok (NotPermitted x)) → ⊥
 unlike r c x e = let h : height (UnKnown r c) ≡ height (NotPermitted x) = ap height (gives_one e) in omega (arith, h, height_unknown r c, height_denied x)
 
-higher : (r c n : ℕ) → Ok (UnKnown r c) ≡ Ok (Permitted n) → ⊥
+higher : (r c n : ℕ) → ◌≡◌ {A = Outcome Decision} (Ok (UnKnown r c)) (Ok (Permitted n)) → ⊥
 higher r c n e = let h : height (UnKnown r c) ≡ height (Permitted n) = ap height (gives_one e) in omega (arith, h, height_unknown r c, height_permitted n)
 
 module _ (p : Promises) where

@@ -67,7 +67,7 @@ use Rattle.decision.specs.Growth.{reordered, DecidedAbove}
 use Rattle.decision.specs.Cases.{g0, allow, companion, one_member, with_space, extended, cases}
 use Rattle.decision.specs.Tepla.{Dcs, compare_decisions, permits, forget, eval_policy}
 use Rattle.io.specs.Digits.{IsDigitCount}
-use Rattle.runs.specs.Runs.{queries_fault, run_of, answers_after, run_outcome}
+use Rattle.runs.specs.Runs.{queries_fault, run_of, answers_after}
 use Rattle.runs.specs.Numbers.{rows_of, numbers_of, numbers_run, row_code, codes_after, run_code}
 use Rattle.runs.specs.Claims.{Permits}
 use Rattle.runs.specs.Cases.{member, group, transition, off_rule, no_source, run_cases, number_cases}
@@ -330,7 +330,7 @@ pub record RunningMet : Type 0 where
   pub last_permits : (qs : List Query) (ys : List (Outcome Decision)) → run_of sample (qs ++ (off_rule ∷ [])) (length ys) ≡ Ok None → ⊥
   pub last_said :
       (l : List ℕ) (qs : List Query) (q : Query) (ys : List (Outcome Decision)) (y : Outcome Decision) → Accepted l → length qs ≤ 63 → length ys ≡ suc (length qs)
-      → answer_outcome (get_or (answers_after l (qs ++ (q ∷ [])) ys) (length qs) y) ≡ answer l q
+      → get_or (answers_after l (qs ++ (q ∷ [])) ys) (length qs) y ≡ answer l q
   -- RunRefused, RunFaults: an image that is refused; none, 65 rows and more, a slot too few, one too many, any other; 64 rows; and nothing
   -- else
   pub image_first : (l : List ℕ) (qs : List Query) (slots : ℕ) (f : Refusal) → check l ≡ Some f → run_of l qs slots ≡ Err f
@@ -347,7 +347,7 @@ pub record RunningMet : Type 0 where
   -- EachAnswered: a refused row's slot; OwnRow: two rows that change places, and a row by itself
   pub refused_said :
       (l : List ℕ) (q q' : Query) (f : Refusal) (y y' : Outcome Decision) → Accepted l → answer l q' ≡ Err f
-      → answer_outcome (get_or (answers_after l (q ∷ q' ∷ []) (y ∷ y' ∷ [])) 1 y) ≡ Err f
+      → get_or (answers_after l (q ∷ q' ∷ []) (y ∷ y' ∷ [])) 1 y ≡ Err f
   pub places_changed :
       (l : List ℕ) (q q' : Query) (y y' : Outcome Decision) → Accepted l
       → get_or (answers_after l (q ∷ q' ∷ []) (y ∷ y ∷ [])) 0 y ≡ get_or (answers_after l (q' ∷ q ∷ []) (y' ∷ y' ∷ [])) 1 y
@@ -367,23 +367,12 @@ pub record RunningMet : Type 0 where
   pub not_permitted_unfit : (l : List ℕ) (q : Query) → Accepted l → (x : Nearest) → answer l q ≡ Ok (NotPermitted x) → run_of l (q ∷ []) 1 ≡ Ok (Some 0)
   pub unknown_unfit : (l : List ℕ) (q : Query) (r c : ℕ) → Accepted l → answer l q ≡ Ok (UnKnown r c) → run_of l (q ∷ []) 1 ≡ Ok (Some 0)
   pub refused_row_unfit : (l : List ℕ) (q : Query) (f : Refusal) → Accepted l → answer l q ≡ Err f → run_of l (q ∷ []) 1 ≡ Ok (Some 0)
-  pub one_said : (y : Outcome Decision) → map answer_outcome (answers_after sample (off_rule ∷ []) (y ∷ [])) ≡ Ok (NotPermitted (Some (near 1 0))) ∷ []
+  pub one_said : (y : Outcome Decision) → answers_after sample (off_rule ∷ []) (y ∷ []) ≡ Ok (NotPermitted (Some (near 1 0))) ∷ []
   pub one_fit : run_of sample (transition ∷ []) 1 ≡ Ok None
   pub one_unfit : run_of sample (off_rule ∷ []) 1 ≡ Ok (Some 0)
   pub one_refused :
       (q : Query) (y : Outcome Decision)
       → (run_of (take 79 sample) (q ∷ []) 1 ≡ Err (refusal 3 0)) × (answers_after (take 79 sample) (q ∷ []) (y ∷ []) ≡ y ∷ [])
-  -- AnswerSaid: a slot that says the answer is the answer's
-  pub said_alike : (a b : Outcome Decision) → a ≡ b → a ≡ b
-  -- and what each `Answer` and each `Run` says
-  pub answers_say :
-      ((x : Nearest) → (Ok (NotPermitted x)) ≡ Ok (NotPermitted x))
-      × ((r : ℕ) → (Ok (Permitted r)) ≡ Ok (Permitted r))
-      × ((r c : ℕ) → (Ok (UnKnown r c)) ≡ Ok (UnKnown r c))
-      × ((f : Refusal) → (Err f) ≡ Err f)
-  pub runs_say :
-      ((Ok None) ≡ Ok None) × ((n : ℕ) → (Ok (Some n)) ≡ Ok (Some n))
-      × ((f : Refusal) → (Err f) ≡ Err f)
   -- RunCases, NumberCases: all of them
   pub run_cases_all : (length run_cases ≡ 29) × (length number_cases ≡ 21)
 

@@ -16,7 +16,7 @@ use crate::run::run;
 
 fn main(rt: HostRuntime) {
     let mut image = io::large_buffer();
-    extend::build(b"", &mut image);
+    let _ = extend::build(b"", &mut image);
     run(
         &rt,
         &mut rt.stdin(),

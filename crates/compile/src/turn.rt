@@ -8,7 +8,6 @@ use crate::feeds::{count_feeds, rows_end};
 use format::Refusal;
 use lines::RowRefusal;
 use streams::keep_rest;
-use text::Built;
 
 // Where the program is in the text: the place and the number of the row that is being read, and how many of its bytes have
 // come.
@@ -78,8 +77,8 @@ pub(crate) fn take_turn(p: Place, input: &mut [u8], have: usize, image: &mut [u8
 {
     let end = rows_end(&input[..have]);
     match extend::add_rows(&input[..end], image) {
-        Built::Refused(f) => Step::Fault(row_refusal(f, &input[..have], p.at, p.row)),
-        Built::Length(_) => go_on(p, input, end, have),
+        Err(f) => Step::Fault(row_refusal(f, &input[..have], p.at, p.row)),
+        Ok(_) => go_on(p, input, end, have),
     }
 }
 
@@ -91,7 +90,7 @@ pub(crate) fn end_turns(p: Place, input: &[u8], image: &mut [u8]) -> Ending
 {
     let kept = p.kept;
     match extend::add_rows(&input[..kept], image) {
-        Built::Refused(f) => Ending::Fault(row_refusal(f, &input[..kept], p.at, p.row)),
-        Built::Length(n) => Ending::Image(n),
+        Err(f) => Ending::Fault(row_refusal(f, &input[..kept], p.at, p.row)),
+        Ok(n) => Ending::Image(n),
     }
 }

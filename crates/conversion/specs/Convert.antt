@@ -13,7 +13,6 @@ use Rattle.format.specs.declared.Refusal.{Refusal}
 use Rattle.format.specs.Refusals.{refusal, need, ◌or_else◌, unless_refused}
 use Rattle.format.specs.Policy.{Policy, image_of, policy_of}
 use Rattle.format.specs.Check.{layout_fault}
-use Rattle.std.specs.Prelude.{Ok, Err}
 use Rattle.format.specs.Answers.{Outcome, outcome}
 use Rattle.extension.specs.Add.{overwrite}
 use Rattle.conversion.specs.Groups.{distinct, moved}

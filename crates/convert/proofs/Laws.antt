@@ -67,7 +67,7 @@ took_whole r space n e k = subst (λ (x : Taken). Took x space) e k
 
 -- ---- what the conversion answered
 
-module _ {i b after : List ℕ} {r : Converted} (a : Converts i b r after) (h : (length i ≤ input_space) × (input_space ≡ length b)) where
+module _ {i b after : List ℕ} {r : Outcome ℕ} (a : Converts i b r after) (h : (length i ≤ input_space) × (input_space ≡ length b)) where
   pub due_line : (f : Refusal) → r ≡ Err f → Due (convert_output i) → DueErrors (line (Err f))
   due_line f e d =
       let x : convert_fault i (length b) ≡ _

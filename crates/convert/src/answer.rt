@@ -6,7 +6,6 @@ ghost use Rattle.convert.specs.Inner.Due.{Due, DueErrors};
 
 use crate::line::put_line;
 use crate::sink::{write_image, write_line};
-use conversion::Converted;
 use format::Refusal;
 use std::io::Write;
 use std::time::Clock;
@@ -33,10 +32,10 @@ where
 {
     let mut image = io::large_buffer();
     match rewrite::convert(input, &mut image) {
-        Converted::Refused(f) => {
+        Err(f) => {
             refuse(rt, stderr, f);
         }
-        Converted::Length(n) => {
+        Ok(n) => {
             write_image(rt, stdout, &image[..n]);
         }
     }

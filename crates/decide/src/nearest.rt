@@ -95,10 +95,16 @@ pub(crate) fn nearest_rule(
             image, groups, q, source, sources, dest, dests, ksource, kdest, count, best, n, at,
         );
         if count <= next.n {
-            return Some(Near { steps: best.steps, rule: best.rule });
+            return Some(Near {
+                steps: best.steps,
+                rule: best.rule,
+            });
         }
         if next.steps == 4 {
-            return Some(Near { steps: 4, rule: next.n });
+            return Some(Near {
+                steps: 4,
+                rule: next.n,
+            });
         }
         best = Best {
             steps: next.steps,
@@ -108,5 +114,8 @@ pub(crate) fn nearest_rule(
         at = past(image, next.at, false);
         n = next.n + 1;
     }
-    Some(Near { steps: best.steps, rule: best.rule })
+    Some(Near {
+        steps: best.steps,
+        rule: best.rule,
+    })
 }

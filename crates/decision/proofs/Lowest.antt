@@ -8,7 +8,7 @@ use mathlib.Core.List.{List}
 use native.Mathlib.Omega.{arith}
 use Rattle.decision.specs.Reading.{Rule, Constraint, Request}
 use Rattle.decision.specs.declared.Decision.TheVariants.{NotPermitted, Permitted, UnKnown}
-use Rattle.decision.specs.Decide.{covers, steps, fails, first_at, nearest_of, nearest_by, nearest, decision_of, judge, decide, near, Nearest}
+use Rattle.decision.specs.Decide.{covers, steps, fails, first_at, nearest_of, nearest_by, nearest, decision_of, judge, decide, Nearest}
 use Rattle.decision.specs.Lowest.{Lowest, Nears, Names, LowestNamed, NamedAlone, LowestAnswered}
 use Rattle.decision.proofs.Search.{first_at_none, first_at_none_intro, first_at_some, first_at_some_intro}
 use Rattle.decision.proofs.Nearness.{Says, nearest_says, most_nearest}

@@ -31,7 +31,6 @@ use Rattle.format.specs.Refusals.{refusal, need, ◌or_else◌}
 use Rattle.format.specs.Format.{is_type, count_of}
 use Rattle.format.specs.Policy.{Policy, policy_of}
 use Rattle.format.specs.Check.{check}
-use Rattle.std.specs.Prelude.{Ok, Err}
 use Rattle.format.specs.Answers.{Outcome, outcome}
 use Rattle.decision.specs.declared.Query.{Query}
 use Rattle.decision.specs.declared.Near.{Near}

@@ -16,7 +16,7 @@ use Rattle.decision.specs.Sets.{any_of}
 use Rattle.decision.specs.Reading.{Rule, Constraint, Request, request_of, rules_of, constraints_of}
 use Rattle.decision.specs.declared.Decision.{Decision}
 use Rattle.decision.specs.declared.Decision.TheVariants.{NotPermitted, Permitted, UnKnown}
-use Rattle.decision.specs.Decide.{covers, steps, fails, judge, answer, near, Nearest}
+use Rattle.decision.specs.Decide.{covers, steps, fails, judge, answer, Nearest}
 
 module _ {A : Type 0} where
   pub record Lowest (f : A → Bool) (xs : List A) (n : ℕ) : Type 0 where

@@ -14,7 +14,7 @@ use Rattle.format.specs.Format.{count_place}
 use Rattle.format.specs.Policy.{Policy, image_of, policy_of, start_of}
 use Rattle.format.specs.Check.{image_in, check_front}
 use Rattle.std.specs.Prelude.{Ok}
-use Rattle.format.specs.Answers.{starts, Outcome}
+use Rattle.format.specs.Answers.{starts}
 use Rattle.format.proofs.ByCase.{count_place_groups, count_place_rules, count_place_constraints}
 use Rattle.format.proofs.Chain.{or_else_split}
 use Rattle.format.proofs.Front.{front_accepted, front_bytes}

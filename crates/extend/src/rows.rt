@@ -34,12 +34,7 @@ fn moved(sections: Starts, field: usize, by: usize) -> Starts
 }
 
 // Adds the record of the row at a place, and answers the sections' places after it.
-fn grow(
-    buffer: &mut [u8],
-    part: &[u8],
-    at: usize,
-    sections: Starts,
-) -> Result<Starts, Refusal>
+fn grow(buffer: &mut [u8], part: &[u8], at: usize, sections: Starts) -> Result<Starts, Refusal>
     requires { (check_front buffer.old ≡ None) × (sections ≡ starts (image_in buffer.old)) }
     ensures { Grows at buffer.old part.now result buffer.new }
 {

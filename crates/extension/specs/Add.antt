@@ -21,7 +21,6 @@ use Rattle.format.specs.Format.{limit_of, count_of, shape_ok, bad_field}
 use Rattle.format.specs.Policy.{Policy, image_of, policy_of}
 use Rattle.format.specs.Twins.{listed}
 use Rattle.format.specs.Check.{image_in, check_front}
-use Rattle.std.specs.Prelude.{Ok, Err}
 use Rattle.format.specs.Answers.{Outcome, outcome}
 
 unfoldable pub section_of : ℕ → Section

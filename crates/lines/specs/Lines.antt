@@ -12,7 +12,7 @@ use Rattle.std.specs.Prelude.{Ok, Err}
 use Rattle.format.specs.Answers.{Outcome}
 use Rattle.decision.specs.declared.Decision.{Decision}
 use Rattle.decision.specs.declared.Decision.TheVariants.{NotPermitted, Permitted, UnKnown}
-use Rattle.decision.specs.Decide.{answer, near, Nearest}
+use Rattle.decision.specs.Decide.{answer, Nearest}
 use Rattle.decision.specs.Rows.{query_at}
 
 -- at most so many digits more than one

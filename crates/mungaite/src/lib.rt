@@ -13,24 +13,21 @@ ghost use Rattle.runs.specs.Numbers.{numbers_run, codes_after, run_code};
 ghost use Rattle.text.specs.Build.{built};
 ghost use Rattle.mungaite.specs.Code.{fault_code, record_in, record_code, add_code, convert_code, build_code};
 
-use conversion::Converted;
 use decide::{decide, run_numbers};
 use decision::Query;
 use extend::{add, build};
-use extension::Added;
-use format::{Checked, Found, Refusal, Section};
+use format::{Refusal, Section};
 use image::{check, find};
 use numbers::{number, parts, refused, run_number};
 use rewrite::convert;
-use text::Built;
 
 // 0 where the image is accepted, else the refusal.
 pub fn mungaite_check(image: &[u8]) -> u64
     ensures { result ≡ fault_code (reading.check image.now) }
 {
     match check(image) {
-        Checked::Accepted => 0,
-        Checked::Refused(f) => refused(f),
+        Ok(()) => 0,
+        Err(f) => refused(f),
     }
 }
 
@@ -69,8 +66,8 @@ fn record_in(image: &[u8], section: Section, n: u16) -> u64
     ensures { result ≡ record_in image.now section n }
 {
     match find(image, section, n as usize) {
-        Found::At(e) => parts(1, e.place, e.length),
-        Found::Refused(f) => refused(f),
+        Ok(e) => parts(1, e.place, e.length),
+        Err(f) => refused(f),
     }
 }
 
@@ -83,11 +80,11 @@ pub fn mungaite_record(section: u16, n: u16, image: &[u8]) -> u64
         1 => record_in(image, Section::Rules, n),
         2 => record_in(image, Section::Constraints, n),
         _ => match check(image) {
-            Checked::Accepted => refused(Refusal {
+            Ok(()) => refused(Refusal {
                 number: 14,
                 place: 0,
             }),
-            Checked::Refused(f) => refused(f),
+            Err(f) => refused(f),
         },
     }
 }
@@ -97,8 +94,8 @@ pub fn mungaite_add(buffer: &mut [u8], part: &[u8]) -> u64
     ensures { (result ≡ add_code buffer.old part.now) × (buffer.new ≡ buffer_after buffer.old part.now) }
 {
     match add(buffer, part) {
-        Added::Number(n) => parts(1, 0, n),
-        Added::Refused(f) => refused(f),
+        Ok(number) => parts(1, 0, number),
+        Err(f) => refused(f),
     }
 }
 
@@ -110,10 +107,8 @@ pub fn mungaite_build(text: &[u8], buffer: &mut [u8]) -> u64
         × (buffer.new ≡ (built text.now buffer.old).buffer) }
 {
     match build(text, buffer) {
-        Built::Length(n) => n as u64,
-        Built::Refused(f) => {
-            (f.number as usize * 281474976710656 + f.place % 281474976710656) as u64
-        }
+        Ok(n) => n as u64,
+        Err(f) => (f.number as usize * 281474976710656 + f.place % 281474976710656) as u64,
     }
 }
 
@@ -124,7 +119,7 @@ pub fn mungaite_convert(image: &[u8], buffer: &mut [u8]) -> u64
         × (buffer.new ≡ buffer_converted image.now buffer.old) }
 {
     match convert(image, buffer) {
-        Converted::Length(n) => parts(1, 0, n),
-        Converted::Refused(f) => refused(f),
+        Ok(length) => parts(1, 0, length),
+        Err(f) => refused(f),
     }
 }

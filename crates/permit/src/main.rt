@@ -13,7 +13,6 @@ mod serve; // serve.rt: one turn after the other
 
 use crate::serve::{refuse, serve};
 use crate::source::{Stop, read_image};
-use format::Checked;
 
 fn main(rt: HostRuntime) {
     let mut stdin = rt.stdin();
@@ -27,10 +26,10 @@ fn main(rt: HostRuntime) {
     let have = taken.have;
     let image = image::leading(&space[..have]);
     match image::check(image) {
-        Checked::Refused(f) => {
+        Err(f) => {
             refuse(&rt, &mut stdout, f);
         }
-        Checked::Accepted => {
+        Ok(()) => {
             serve(&rt, &mut stdin, &mut stdout, image);
         }
     }

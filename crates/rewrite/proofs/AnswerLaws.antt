@@ -25,7 +25,7 @@ use Rattle.format.specs.Policy.{policy_of}
 use Rattle.format.specs.Twins.{NoTwins}
 use Rattle.format.specs.Check.{layout_fault, LaidOut}
 use Rattle.std.specs.Prelude.{Ok}
-use Rattle.format.specs.Answers.{starts, Outcome}
+use Rattle.format.specs.Answers.{starts}
 use Rattle.format.proofs.ByCase.{count_groups}
 use Rattle.format.proofs.Accepted.{laid_accepted}
 use Rattle.format.proofs.Images.{laid_is_well_formed, group_count}

@@ -14,19 +14,16 @@ mod new_image; // new_image.rt: the image without twins
 
 ghost use Rattle.conversion.specs.Convert.{Converts};
 
-use conversion::Converted;
-use format::{Sections, header};
+use format::{Refusal, header};
 use new_image::put_converted;
 
 // The lowest of each set of twins stays, the others go, later groups move down and references follow: the answer is the new
 // image's length. Bytes past the new image stay, and a refused call changes no byte.
-pub fn convert(image: &[u8], buffer: &mut [u8]) -> Converted
+pub fn convert(image: &[u8], buffer: &mut [u8]) -> Result<usize, Refusal>
     ensures { Converts image.now buffer.old result buffer.new }
 {
     let mut places = [0u16; header::MOST_GROUPS];
     let mut alike = [0u16; header::MOST_GROUPS];
-    match image::survey_old(image, &mut places, &mut alike) {
-        Sections::Refused(f) => Converted::Refused(f),
-        Sections::At(sections) => put_converted(image, sections, &alike, buffer),
-    }
+    let sections = image::survey_old(image, &mut places, &mut alike)?;
+    put_converted(image, sections, &alike, buffer)
 }

@@ -12,7 +12,6 @@ use crate::put::{copy, put_header};
 use crate::retype::retype_records;
 use crate::section::{kept_length, put_kept};
 use crate::twins::settle;
-use conversion::Converted;
 use format::{Refusal, Starts, header};
 use image::word_at;
 
@@ -54,7 +53,7 @@ pub(crate) fn put_converted(
     sections: Starts,
     alike: &[u16; 256],
     buffer: &mut [u8],
-) -> Converted
+) -> Result<usize, Refusal>
     requires { LaidOut image.now × (sections ≡ starts image.now)
         × Alike (policy_of image.now).groups (length (policy_of image.now).groups) alike.now }
     ensures { Converts image.now buffer.old result buffer.new }
@@ -67,14 +66,14 @@ pub(crate) fn put_converted(
         + kept_length(image, header::SIZE, groups, &keep)
         + (image.len() - sections.rules);
     if buffer.len() < size {
-        return Converted::Refused(Refusal {
+        return Err(Refusal {
             number: 13,
             place: 0,
         });
     }
     if kept == groups {
-        return Converted::Length(bytes::copy(image, buffer));
+        return Ok(bytes::copy(image, buffer));
     }
     put_image(image, sections, &to, &keep, kept, size, buffer);
-    Converted::Length(size)
+    Ok(size)
 }

@@ -10,7 +10,7 @@
 --     row_answer l q         a row's answer: what the single query would get, a refusal included
 --     answers_after l qs ys  the slots afterwards: each row's answer, and where the call is refused as they were
 use Rattle.std.specs.Prelude.{ℕ, Bool, true, false, not, ◌&&◌, List, map, length, leb, eqb}
-use Rattle.std.specs.Prelude.{Option, None, Some}
+use Rattle.std.specs.Prelude.{Option}
 use Rattle.format.specs.declared.Refusal.{Refusal}
 use Rattle.format.specs.Refusals.{refusal, need, ◌or_else◌, unless_refused}
 use Rattle.format.specs.Check.{check}

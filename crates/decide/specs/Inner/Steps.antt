@@ -1,7 +1,7 @@
 -- What the steps of a run answer.
 --     Begins l n f b   what a run of n rows begins with, where f is its refusal
 --     Stepped l q r i s   what row i comes to, where the run was r before
-use Rattle.std.specs.Prelude.{ℕ, ◌≡◌, List, Ok, Err, Some, None}
+use Rattle.std.specs.Prelude.{ℕ, ◌≡◌, List}
 use Rattle.std.specs.Prelude.{Option}
 use Rattle.format.specs.declared.Refusal.{Refusal}
 use Rattle.decision.specs.declared.Query.{Query}

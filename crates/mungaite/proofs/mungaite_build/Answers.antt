@@ -3,12 +3,12 @@ use mathlib.Core.Path.{sym, ap, ◌∙◌}
 use Rattle.mungaite.specs.Code.{build_code}
 use Rattle.mungaite.proofs.mungaite_build.Goals as goal
 
-pub returns-in-Length : goal.returns-in-Length
+pub returns-in-Ok : goal.returns-in-Ok
 unfolding build_code
-returns-in-Length c = let d = c.build in
-    (ap build_code (sym c.in-Length.is ∙ d.ensures.answer), d.ensures.buffer)
+returns-in-Ok c = let d = c.build in
+    (ap build_code (sym c.in-Ok.is ∙ d.ensures.answer), d.ensures.buffer)
 
-pub returns-in-Refused : goal.returns-in-Refused
+pub returns-in-Err : goal.returns-in-Err
 unfolding build_code
-returns-in-Refused c = let d = c.build in
-    (ap build_code (sym c.in-Refused.is ∙ d.ensures.answer), d.ensures.buffer)
+returns-in-Err c = let d = c.build in
+    (ap build_code (sym c.in-Err.is ∙ d.ensures.answer), d.ensures.buffer)

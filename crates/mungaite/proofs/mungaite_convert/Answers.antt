@@ -4,14 +4,14 @@ use Rattle.decision.specs.Numbers.{code_of, parts_of}
 use Rattle.mungaite.specs.Code.{convert_code}
 use Rattle.mungaite.proofs.mungaite_convert.Goals as goal
 
-pub returns-in-Length : goal.returns-in-Length
+pub returns-in-Ok : goal.returns-in-Ok
 unfolding convert_code
-returns-in-Length c =
+returns-in-Ok c =
     let w = c.convert.ensures in
-    (c.parts.ensures ∙ ap (code_of (parts_of 1 0)) (sym c.in-Length.is ∙ w.answer), w.buffer)
+    (c.parts.ensures ∙ ap (code_of (parts_of 1 0)) (sym c.in-Ok.is ∙ w.answer), w.buffer)
 
-pub returns-in-Refused : goal.returns-in-Refused
+pub returns-in-Err : goal.returns-in-Err
 unfolding convert_code
-returns-in-Refused c =
+returns-in-Err c =
     let w = c.convert.ensures in
-    (c.refused.ensures ∙ ap (code_of (parts_of 1 0)) (sym c.in-Refused.is ∙ w.answer), w.buffer)
+    (c.refused.ensures ∙ ap (code_of (parts_of 1 0)) (sym c.in-Err.is ∙ w.answer), w.buffer)

@@ -4,10 +4,10 @@ use Rattle.decision.specs.Numbers.{code_of}
 use Rattle.mungaite.specs.Code.{extent_code, record_in}
 use Rattle.mungaite.proofs.record_in.Goals as goal
 
-pub returns-in-At : goal.returns-in-At
+pub returns-in-Ok : goal.returns-in-Ok
 unfolding record_in
-returns-in-At c = c.parts.ensures ∙ ap (code_of extent_code) (sym c.in-At.is ∙ c.find.ensures)
+returns-in-Ok c = c.parts.ensures ∙ ap (code_of extent_code) (sym c.in-Ok.is ∙ c.find.ensures)
 
-pub returns-in-Refused : goal.returns-in-Refused
+pub returns-in-Err : goal.returns-in-Err
 unfolding record_in
-returns-in-Refused c = c.refused.ensures ∙ ap (code_of extent_code) (sym c.in-Refused.is ∙ c.find.ensures)
+returns-in-Err c = c.refused.ensures ∙ ap (code_of extent_code) (sym c.in-Err.is ∙ c.find.ensures)

@@ -1,5 +1,4 @@
 -- `denied` meets its contract: a case for each of the nearest. Assumes nothing.
-use borrow.Author.Rules.{rules}
 use mathlib.Core.Path.{sym, ap, ◌∙◌}
 use Rattle.decision.specs.Numbers.{nearest_code}
 use Rattle.numbers.proofs.denied.Goals as goal

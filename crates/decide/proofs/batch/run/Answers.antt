@@ -13,7 +13,6 @@ use Rattle.decide.proofs.VerdictLaws.{kept_fresh}
 use Rattle.decide.proofs.batch.run.Goals as goal
 use Rattle.format.specs.Answers.{Outcome}
 use Rattle.decision.specs.declared.Decision.{Decision}
-use Rattle.std.specs.Prelude.{Ok, Err, Some, None}
 
 -- a row that is decided has a query and a slot
 row_slot :

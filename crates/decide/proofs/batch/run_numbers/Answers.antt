@@ -10,7 +10,6 @@ use Rattle.decide.specs.Inner.Steps.{Begins, Stepped}
 use Rattle.decide.proofs.VerdictLaws.{kept_fresh}
 use Rattle.decide.proofs.NumberLaws.{fault, codes, out, begun_numbers, row_slot, row_few, row_numbers, row_run, row_code_lem}
 use Rattle.decide.proofs.batch.run_numbers.Goals as goal
-use Rattle.std.specs.Prelude.{Ok, Err, Some, None}
 
 pub loop-i-init : goal.loop-i-init
 loop-i-init c =

@@ -1,5 +1,5 @@
 -- `recall` meets its contract: a refused image has no verdicts. Assumes nothing.
-use mathlib.Core.Path.{sym, ap, ◌∙◌}
+use mathlib.Core.Path.{sym, ◌∙◌}
 use Rattle.format.proofs.Chain.{outcome_gives, outcome_refused}
 use Rattle.decide.proofs.VerdictLaws.{recalled_refused, refused_not}
 use Rattle.decide.proofs.verdicts.recall.Goals as goal

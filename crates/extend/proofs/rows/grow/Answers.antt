@@ -1,6 +1,6 @@
 -- `grow` meets its contract: where nothing is refused, the places move by the record. Assumes nothing.
 use native.Mathlib.Omega.{arith}
-use mathlib.Core.Path.{◌≡◌, sym, ap, ◌∙◌}
+use mathlib.Core.Path.{◌≡◌, sym, ◌∙◌}
 use Rattle.std.specs.Prelude.{None}
 use Rattle.format.proofs.Chain.{outcome_gives, outcome_refused}
 use Rattle.extension.specs.Add.{add_fault}
