@@ -4,7 +4,7 @@
 use format::Refusal;
 
 // A source type, a destination type, a class, an action, and a word of 32 switches.
-#[derive(Clone, Copy)]
+#[derive(Clone, Copy, Debug, PartialEq, Eq)]
 pub struct Query {
     pub source: u16,
     pub dest: u16,
@@ -14,7 +14,7 @@ pub struct Query {
 }
 
 // How near a rule came to a query that none covers: the steps that it passes, and its number.
-#[derive(Clone, Copy)]
+#[derive(Clone, Copy, Debug, PartialEq, Eq)]
 pub struct Near {
     pub steps: usize,
     pub rule: usize,
@@ -24,7 +24,7 @@ pub struct Near {
 pub type Nearest = Option<Near>;
 
 // What an accepted policy decides: how near a rule came; the covering rule; that rule and the constraint that fails.
-#[derive(Clone, Copy)]
+#[derive(Clone, Copy, Debug, PartialEq, Eq)]
 pub enum Decision {
     NotPermitted(Nearest),
     Permitted(usize),

@@ -1,5 +1,6 @@
 pub mod Bytes
 pub mod Refusals
+pub mod Causes
 pub mod Format
 pub mod Policy
 pub mod Twins

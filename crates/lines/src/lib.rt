@@ -3,7 +3,7 @@
 
 // The refusal of a row: its number in the table, the place of the row's first byte in the text, and the row's number,
 // counted from 1.
-#[derive(Clone, Copy)]
+#[derive(Clone, Copy, Debug, PartialEq, Eq)]
 pub struct RowRefusal {
     pub number: u8,
     pub place: usize,
