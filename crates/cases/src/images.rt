@@ -1,5 +1,4 @@
 // Images that are longer than a line.
-ghost use Rattle.std.specs.Prelude.{◌≡◌, length};
 
 // A group of 65 members, 0 to 64.
 pub(crate) const SIXTY_FIVE: [u8; 141] = *b"\
@@ -16,15 +15,11 @@ pub(crate) const SIXTY_FIVE: [u8; 141] = *b"\
     \x00\x40";
 
 // 1,025 transitions from 0 to 0, with zeros where their header is to stand.
-pub(crate) fn many_rules() -> [u8; 65536]
-    ensures { 65536 ≡ length result }
-{
+pub(crate) fn many_rules() -> [u8; 65536] {
     let mut image = io::large_buffer();
-    let mut at = 9;
-    while at < 8209 {
-        image[at] = 8;
-        image[at + 1] = 3;
-        at += 8;
+    for rule in image[9..8209].chunks_exact_mut(8) {
+        rule[0] = 8;
+        rule[1] = 3;
     }
     image
 }

@@ -38,18 +38,18 @@ fn main(rt: HostRuntime) -> io::Result<()> {
 }
 
 fn queries(rt: &impl Print) -> io::Result<()> {
-    ask(rt, "10 21 5 1", &SAMPLE, 10, 21, 5, 1)?;
-    ask(rt, "10 g0 5 1", &SAMPLE, 10, 32768, 5, 1)?;
-    ask(rt, "13 21 5 1", &SAMPLE, 13, 21, 5, 1)?;
-    ask(rt, "12 20 9 9", &SAMPLE, 12, 20, 9, 9)?;
-    ask(rt, "20 30 5 2", &SAMPLE, 20, 30, 5, 2)?;
-    ask(rt, "empty policy, 0 0 0 0", &EMPTY, 0, 0, 0, 0)?;
-    ask(rt, "source 1024", &SAMPLE, 1024, 21, 5, 1)?;
-    ask(rt, "source 32769", &SAMPLE, 32769, 21, 5, 1)?;
-    ask(rt, "source 1023", &SAMPLE, 1023, 21, 5, 1)?;
-    ask(rt, "10 21 5 2", &SAMPLE, 10, 21, 5, 2)?;
-    ask(rt, "20 30 6 2", &SAMPLE, 20, 30, 6, 2)?;
-    ask(rt, "12 30 5 1", &SAMPLE, 12, 30, 5, 1)
+    ask(rt, "10 21 5 1", &SAMPLE, [10, 21, 5, 1])?;
+    ask(rt, "10 g0 5 1", &SAMPLE, [10, 32768, 5, 1])?;
+    ask(rt, "13 21 5 1", &SAMPLE, [13, 21, 5, 1])?;
+    ask(rt, "12 20 9 9", &SAMPLE, [12, 20, 9, 9])?;
+    ask(rt, "20 30 5 2", &SAMPLE, [20, 30, 5, 2])?;
+    ask(rt, "empty policy, 0 0 0 0", &EMPTY, [0, 0, 0, 0])?;
+    ask(rt, "source 1024", &SAMPLE, [1024, 21, 5, 1])?;
+    ask(rt, "source 32769", &SAMPLE, [32769, 21, 5, 1])?;
+    ask(rt, "source 1023", &SAMPLE, [1023, 21, 5, 1])?;
+    ask(rt, "10 21 5 2", &SAMPLE, [10, 21, 5, 2])?;
+    ask(rt, "20 30 6 2", &SAMPLE, [20, 30, 6, 2])?;
+    ask(rt, "12 30 5 1", &SAMPLE, [12, 30, 5, 1])
 }
 
 // The sample, with space for two records.
@@ -59,47 +59,76 @@ pub(crate) fn roomy() -> [u8; 102] {
     buffer
 }
 
-fn rule_to_30(rt: &impl Print) -> io::Result<()> {
+// The same, with a record added.
+pub(crate) fn with(record: &[u8]) -> [u8; 102] {
     let mut buffer = roomy();
-    mungaite::mungaite_add(&mut buffer, b"\x0B\x02\x00\x0A\x00\x1E\x00\x05\x00\x03\x01");
-    ask(rt, "with allow 10 30 5 3: 20 30 5 2", &buffer, 20, 30, 5, 2)
+    mungaite::mungaite_add(&mut buffer, record);
+    buffer
+}
+
+fn rule_to_30(rt: &impl Print) -> io::Result<()> {
+    let buffer = with(b"\x0B\x02\x00\x0A\x00\x1E\x00\x05\x00\x03\x01");
+    ask(
+        rt,
+        "with allow 10 30 5 3: 20 30 5 2",
+        &buffer,
+        [20, 30, 5, 2],
+    )
 }
 
 fn rule_to_group(rt: &impl Print) -> io::Result<()> {
-    let mut buffer = roomy();
-    mungaite::mungaite_add(&mut buffer, b"\x0B\x02\x00\x0E\x80\x00\x00\x07\x00\x07\x01");
-    ask(rt, "with allow 14 g0 7 7: 10 21 5 1", &buffer, 10, 21, 5, 1)?;
+    let buffer = with(b"\x0B\x02\x00\x0E\x80\x00\x00\x07\x00\x07\x01");
+    ask(
+        rt,
+        "with allow 14 g0 7 7: 10 21 5 1",
+        &buffer,
+        [10, 21, 5, 1],
+    )?;
     ask(
         rt,
         "with allow 14 g0 7 7: 10 g0 5 1",
         &buffer,
-        10,
-        32768,
-        5,
-        1,
+        [10, 32768, 5, 1],
     )
 }
 
 fn companion(rt: &impl Print) -> io::Result<()> {
-    let mut buffer = roomy();
-    mungaite::mungaite_add(&mut buffer, b"\x0B\x04\x00\x05\x00\x01\x00\x0A\x00\x15\x03");
-    ask(rt, "with companion 10 21: 10 21 5 1", &buffer, 10, 21, 5, 1)?;
+    let mut buffer = with(b"\x0B\x04\x00\x05\x00\x01\x00\x0A\x00\x15\x03");
+    ask(
+        rt,
+        "with companion 10 21: 10 21 5 1",
+        &buffer,
+        [10, 21, 5, 1],
+    )?;
     mungaite::mungaite_add(&mut buffer, b"\x0B\x02\x00\x15\x00\x0A\x00\x05\x00\x09\x01");
-    ask(rt, "and allow 21 10 5 9: 10 21 5 1", &buffer, 10, 21, 5, 1)
+    ask(
+        rt,
+        "and allow 21 10 5 9: 10 21 5 1",
+        &buffer,
+        [10, 21, 5, 1],
+    )
 }
 
 // Request [5]: the group of 20 and 21 at 20, and 20 alone at 30 (rule 1).
 fn shared(rt: &impl Print) -> io::Result<()> {
-    let mut buffer = roomy();
-    mungaite::mungaite_add(&mut buffer, b"\x0B\x02\x80\x00\x00\x14\x00\x05\x00\x03\x01");
-    ask(rt, "with allow g0 20 5 3: 20 30 5 2", &buffer, 20, 30, 5, 2)
+    let buffer = with(b"\x0B\x02\x80\x00\x00\x14\x00\x05\x00\x03\x01");
+    ask(
+        rt,
+        "with allow g0 20 5 3: 20 30 5 2",
+        &buffer,
+        [20, 30, 5, 2],
+    )
 }
 
 // 21 at 20, and 20 at 30.
 fn not_shared(rt: &impl Print) -> io::Result<()> {
-    let mut buffer = roomy();
-    mungaite::mungaite_add(&mut buffer, b"\x0B\x02\x00\x15\x00\x14\x00\x05\x00\x03\x01");
-    ask(rt, "with allow 21 20 5 3: 20 30 5 2", &buffer, 20, 30, 5, 2)
+    let buffer = with(b"\x0B\x02\x00\x15\x00\x14\x00\x05\x00\x03\x01");
+    ask(
+        rt,
+        "with allow 21 20 5 3: 20 30 5 2",
+        &buffer,
+        [20, 30, 5, 2],
+    )
 }
 
 fn cuts(rt: &impl Print) -> io::Result<()> {

@@ -4,17 +4,9 @@ use format::Section;
 use samples::SAMPLE;
 use std::io;
 
-// The query on the image that a buffer starts with, without a switch on.
-pub(crate) fn ask(
-    rt: &impl Print,
-    label: &str,
-    buffer: &[u8],
-    source: u16,
-    destination: u16,
-    class: u16,
-    action: u16,
-) -> io::Result<()> {
-    ask_on(rt, label, buffer, source, destination, class, action, 0)
+// The query on the image that a buffer starts with, without a switch on: its source, destination, class and action.
+pub(crate) fn ask(rt: &impl Print, label: &str, buffer: &[u8], query: [u16; 4]) -> io::Result<()> {
+    ask_on(rt, label, buffer, query, 0)
 }
 
 // The same under a switch word.
@@ -22,12 +14,10 @@ pub(crate) fn ask_on(
     rt: &impl Print,
     label: &str,
     buffer: &[u8],
-    source: u16,
-    destination: u16,
-    class: u16,
-    action: u16,
+    query: [u16; 4],
     switches: u32,
 ) -> io::Result<()> {
+    let [source, destination, class, action] = query;
     let image = image::leading(buffer);
     line(
         rt,
@@ -57,7 +47,7 @@ pub(crate) fn give(
     println!(rt; "{label}: {} bytes", same_or_other(record == bytes))
 }
 
-// An answer of the C interface.
+// An answer of the C interface, whose numbers these are.
 fn line(rt: &impl Print, label: &str, answer: u64) -> io::Result<()> {
     if answer == 0xFFFF {
         return println!(rt; "{label}: N -");
@@ -72,7 +62,7 @@ fn line(rt: &impl Print, label: &str, answer: u64) -> io::Result<()> {
     }
 }
 
-// What a run comes to.
+// What a run comes to, by the C interface.
 pub(crate) fn comes(rt: &impl Print, label: &str, answer: u64) -> io::Result<()> {
     let third = number(answer >> 16);
     let fourth = number(answer);
@@ -93,7 +83,8 @@ pub(crate) fn converted(rt: &impl Print, label: &str, answer: u64, same: bool) -
     said(rt, label, number(answer >> 16), answer, same)
 }
 
-// A refusal's number, where there is one, the lowest 16 bits of an answer, and whether bytes are the same.
+// A refusal's number, which is 0 in the C interface's answers where there is none, the lowest 16 bits of an answer, and whether
+// bytes are the same.
 fn said(rt: &impl Print, label: &str, refusal: u64, answer: u64, same: bool) -> io::Result<()> {
     let fourth = number(answer);
     let which = same_or_other(same);

@@ -1,51 +1,40 @@
 -- What a call answers and leaves, by its cases. Assumes nothing.
 --     alike_all            the check's table has the first alike of every group
---     ready                what is settled, at the code's count
 --     groups_few           there are at most 256 groups
---     all_kept             where all groups stay, the new image is the old one
---     zeros_bytes          a table of zeros is of bytes
+--     ready_for            what is settled, with the part of the table that is handed
 --     converts_refused, converts_short, converts_whole, converts_same   the four ways out of a call
-use Prim.Native.Nat.{ℕ, zero, suc, ◌+◌, ◌≤◌, ◌<◌}
+use Prim.Native.Nat.{ℕ, ◌+◌, ◌≤◌, ◌<◌}
 use native.Mathlib.Omega.{arith}
-use mathlib.Core.Path.{◌≡◌, refl, sym, subst, ap, ◌∙◌}
-use mathlib.Core.Bool.{Bool}
+use mathlib.Core.Path.{◌≡◌, refl, sym, ap, ◌∙◌}
 use Rattle.std.specs.Prelude.{Some, Err}
 use mathlib.Core.List.{List, ◌++◌}
-use lib.ListN.{length, get_or, take, drop, replicate}
+use lib.ListN.{length, get_or, take, drop}
 use Rattle.format.specs.declared.Section.TheVariants.{Groups}
 use Rattle.format.specs.Format.{count_of}
-use Rattle.format.proofs.Bytes.{bytes_nil, bytes_cons}
 use Rattle.image.specs.Survey.{alike_slot}
-use lib.Seq.{take-length}
+use lib.Seq.{length-take-le}
+use Rattle.std.proofs.lemmas.List.{get_or-take}
 use Rattle.format.specs.declared.Starts.{Starts}
 use Rattle.format.specs.declared.Refusal.{Refusal}
 use Rattle.format.specs.Bytes.{Bytes, word_at}
 use Rattle.format.specs.Refusals.{refusal}
 use Rattle.format.specs.Policy.{policy_of}
-use Rattle.format.specs.Twins.{NoTwins}
 use Rattle.format.specs.Check.{layout_fault, LaidOut}
 use Rattle.std.specs.Prelude.{Ok}
 use Rattle.format.specs.Answers.{starts}
 use Rattle.format.proofs.ByCase.{count_groups}
-use Rattle.format.proofs.Accepted.{laid_accepted}
 use Rattle.format.proofs.Images.{laid_is_well_formed, group_count}
 use Rattle.image.proofs.SurveyLaws.{alike_slot_lem}
-use Rattle.conversion.specs.Groups.{distinct}
 use Rattle.conversion.specs.Convert.{converted_image, Converts}
-use Rattle.conversion.proofs.Groups.{distinct_apart}
-use Rattle.conversion.proofs.Convert.{converted_bytes}
 use Rattle.conversion.proofs.Buffers.{convert_numbers, buffer_written, buffer_refused}
+use Rattle.rewrite.specs.declared.twins.Renumbering.{Renumbering}
 use Rattle.rewrite.specs.Inner.Put.{put_at, Wrote}
-use Rattle.rewrite.specs.Inner.Kept.{pick}
-use Rattle.rewrite.specs.Inner.Settle.{Alike, Settled, Ready}
-use Rattle.rewrite.proofs.PutLaws.{front_put}
-use Rattle.rewrite.proofs.TwinLaws.{pick_all}
+use Rattle.rewrite.specs.Inner.Settle.{Alike, Settled}
+use Rattle.rewrite.specs.Inner.Ready.{Ready}
+use Rattle.rewrite.proofs.NewLaws.{ready}
 
-count_is : (l : List ℕ) (n : ℕ) → n ≡ word_at l 3 → n ≡ length (policy_of l).groups
-count_is l n e = e ∙ sym (count_groups l) ∙ sym (group_count l)
-
-pub groups_few : (l : List ℕ) (n : ℕ) → n ≡ word_at l 3 → Bytes l → LaidOut l → n ≤ 256
-groups_few l n e by laid = omega (arith, count_is l n e, (laid_is_well_formed l by laid).0.few_groups)
+pub groups_few : (l : List ℕ) → LaidOut l → Bytes l → word_at l 3 ≤ 256
+groups_few l laid by = omega (arith, sym (count_groups l), sym (group_count l), (laid_is_well_formed l by laid).0.few_groups)
 
 -- the table that the check leaves
 pub alike_all :
@@ -59,25 +48,23 @@ alike_all l before after e f =
           f i ∙ alike_slot_lem l i (get_or before i 0) e k;
     }
 
-pub ready :
-    (l : List ℕ) (s : Starts) (to : List ℕ) (keep : List Bool) (kept n : ℕ) (alike : List ℕ) → LaidOut l → s ≡ starts l
-    → Alike (policy_of l).groups (length (policy_of l).groups) alike → n ≡ word_at l 3
-    → ((gs : List (List ℕ)) → Alike gs n alike → Settled gs n to keep kept) → Ready l s to keep kept
-ready l s to keep kept n alike laid places same e settles =
-    let k = count_is l n e in
-    record { laid = laid; places = places; settled = rw k at (settles (policy_of l).groups (rw k same)) }
-
-pub all_kept :
-    (l : List ℕ) (s : Starts) (to : List ℕ) (keep : List Bool) (kept n : ℕ) → Ready l s to keep kept → Bytes l → n ≡ word_at l 3
-    → kept ≡ n → converted_image l ≡ l
-all_kept l s to keep kept n w by e q =
-    let t : take (length (policy_of l).groups) (policy_of l).groups ≡ (policy_of l).groups = take-length (policy_of l).groups in
-    let p : pick keep 0 (policy_of l).groups ≡ distinct (policy_of l).groups
-    = ap (pick keep 0) (sym t) ∙ w.settled.kept ∙ ap distinct t in
-    let n : length (pick keep 0 (policy_of l).groups) ≡ length (policy_of l).groups
-    = ap length p ∙ ap (λ (x : List (List ℕ)). length (distinct x)) (sym t) ∙ sym w.settled.count ∙ q ∙ count_is l n e in
-    let d : distinct (policy_of l).groups ≡ (policy_of l).groups = sym p ∙ pick_all keep 0 (policy_of l).groups n in
-    converted_bytes l by (laid_accepted l w.laid (subst NoTwins d (distinct_apart (policy_of l).groups)))
+-- what is settled of the groups of an image, with the part of the table that is handed
+pub ready_for :
+    (l : List ℕ) (s : Starts) (new : Renumbering) (n : ℕ) (alike : List ℕ) → LaidOut l → s ≡ starts l
+    → Alike (policy_of l).groups (length (policy_of l).groups) alike → Bytes l → n ≡ word_at l 3 → length alike ≡ 256
+    → length new.keep ≡ 256 → new.groups ≡ length (take n alike)
+    → ((gs : List (List ℕ)) → Alike gs (length (take n alike)) (take n alike) → Settled gs (length (take n alike)) new.to new.keep new.kept)
+    → Ready l s new
+ready_for l s new n alike laid places same by e long long_keep eg settles =
+    let k : n ≡ length (policy_of l).groups = e ∙ sym (count_groups l) ∙ sym (group_count l) in
+    let few : n ≤ 256 = omega (arith, k, (laid_is_well_formed l by laid).0.few_groups) in
+    let m : length (take n alike) ≡ n = length-take-le n alike (omega arith) in
+    let front : Alike (policy_of l).groups (length (take n alike)) (take n alike) =
+    record {
+      count = sym k ∙ sym m;
+      first = λ i h. get_or-take n alike i 0 (omega arith) ∙ same.first i (omega arith);
+    } in
+    ready l s new laid places by (eg ∙ m ∙ e) long_keep (rw (m ∙ k) at (settles (policy_of l).groups front))
 
 pub converts_refused : (l b : List ℕ) (f : Refusal) → layout_fault l ≡ Some f → Converts l b (Err f) b
 converts_refused l b f e =
@@ -102,12 +89,6 @@ converts_whole l b after n e h w =
     }
 
 pub converts_same :
-    (l b after : List ℕ) (n : ℕ) → LaidOut l → converted_image l ≡ l → length l ≤ length b → n ≡ length l
-    → after ≡ take (length l) l ++ drop (length l) b → Converts l b (Ok n) after
-converts_same l b after n e same h k is =
-    converts_whole l b after n e (rw same h) (rw same (front_put b l after n k h is))
-
--- a table of zeros
-pub zeros_bytes : (n : ℕ) → Bytes (replicate n 0)
-zeros_bytes zero = bytes_nil
-zeros_bytes (suc n) = bytes_cons 0 (replicate n 0) (omega arith) (zeros_bytes n)
+    (l b after : List ℕ) (n : ℕ) → LaidOut l → converted_image l ≡ l → length l ≤ length b → Wrote b after 0 n l
+    → Converts l b (Ok n) after
+converts_same l b after n e same h w = converts_whole l b after n e (rw same h) (rw same w)

@@ -1,90 +1,102 @@
--- Laws of the records of a section, by the turns of a walk over them. Assumes nothing.
---     rows_here, rows_next              the first of the records that stand from a place on, and the others
---     row_part                          its bytes are a part of the image
---     pick_bytes, pick_room, pick_size, pick_end   what is still to come of those whose mark is set
-use Prim.Native.Nat.{ℕ, suc, ◌+◌, ◌-◌, ◌≤◌}
+-- Laws of records one after the other. Assumes nothing.
+--     lie_here, lie_first, lie_next   the first of the records at the front of some bytes, and the others
+--     head_length, head_taken, head_dropped   a record with others behind it
+--     lie_put                records written one after the other lie so
+--     mark_stays, mark_goes, marks_end   what is kept from a mark on, by the mark, and behind the last
+--     kept_put               what is kept of records written one after the other
+--     marks                  what the check is handed at the functions of section.rt
+use Prim.Native.Nat.{ℕ, suc, ◌+◌, ◌-◌, ◌≤◌, ◌<◌}
 use mathlib.Core.Path.{◌≡◌, refl, sym, ap, ◌∙◌}
 use mathlib.Core.Bool.{Bool, true, false, cond}
-use mathlib.Core.List.{List, [], ◌∷◌, ◌++◌, flatten}
+use mathlib.Core.List.{List, [], ◌∷◌, ◌++◌, append_assoc, flatten, Memᴰ}
 use native.Mathlib.Omega.{arith}
-use native.Mathlib.Numerals.{add-one}
 use lib.ListN.{length, get_or, take, drop, length-append}
-use Rattle.format.specs.Policy.{record_at, records_at}
-use Rattle.format.specs.Inner.Places.{Stands}
-use Rattle.format.proofs.Shapes.{record_part}
-use Rattle.format.proofs.Records.{records_none, records_next}
-use Rattle.rewrite.specs.Inner.Kept.{Rows, keep_if, pick}
+use lib.Seq.{take_at, drop_at, drop-cons}
+use Rattle.std.proofs.lemmas.List.{drop_more, drop_all, get_or_append_left}
+use Rattle.rewrite.specs.Inner.Kept.{Lie, kept_of, keep_if, pick}
 
-module _ (l : List ℕ) (from n j : ℕ) (q : n ≡ suc j) (w : Rows l from n) where
-  rows_parts : Stands l from (record_at l from) × Rows l (from + get_or l from 0) j
-  unfolding Rows
-  rows_parts = rw q at w
+module _ (k : ℕ) (b : List ℕ) (n j : ℕ) (q : n ≡ suc j) (w : Lie k b n) where
+  parts : (k ≤ get_or b 0 0) × (get_or b 0 0 ≤ length b) × Lie k (drop (get_or b 0 0) b) j
+  unfolding Lie
+  parts = rw q at w
 
-  pub rows_here : Stands l from (record_at l from)
-  rows_here = rows_parts.0
+  pub lie_here : (k ≤ get_or b 0 0) × (get_or b 0 0 ≤ length b)
+  lie_here = (parts.0, parts.1)
 
-  pub rows_next : (m : ℕ) → m ≡ get_or l from 0 → Rows l (from + m) j
-  rows_next m e = rw e rows_parts.1
+  pub lie_next : (m : ℕ) (others : List ℕ) → m ≡ get_or b 0 0 → others ≡ drop m b → Lie k others j
+  lie_next m others e d = rw (d, e) parts.2
 
-pub row_part : (l : List ℕ) (from m : ℕ) → Stands l from (record_at l from) → m ≡ get_or l from 0
-    → take (from + m - from) (drop from l) ≡ record_at l from
-row_part l from m s e =
-    let k : from + m - from ≡ length (record_at l from) = omega (arith, s.size) in
-    ap (λ (n : ℕ). take n (drop from l)) k ∙ sym (record_part l from s)
+pub lie_first : (k : ℕ) (b : List ℕ) (n : ℕ) → Lie k b n → 0 < n → (k ≤ get_or b 0 0) × (get_or b 0 0 ≤ length b)
+lie_first k b n w h = lie_here k b n (n - 1) (omega arith) w
 
--- ---- one record more, by its mark
+-- ---- records that are written
+
+module _ (r rest : List ℕ) (e : get_or r 0 0 ≡ length r) (h : 0 < length r) where
+  pub head_length : get_or (r ++ rest) 0 0 ≡ length r
+  head_length = get_or_append_left r rest 0 0 h ∙ e
+
+  pub head_taken : take (get_or (r ++ rest) 0 0) (r ++ rest) ≡ r
+  head_taken = rw head_length (take_at r rest (length r) refl)
+
+  pub head_dropped : drop (get_or (r ++ rest) 0 0) (r ++ rest) ≡ rest
+  head_dropped = rw head_length (drop_at r rest (length r) refl)
+
+-- each has its length in its first byte, and is long enough
+abbrev pub Long : ℕ → List (List ℕ) → Type 0
+Long k rs = (r : List ℕ) → Memᴰ r rs → (get_or r 0 0 ≡ length r) × (k ≤ length r)
+
+pub lie_put : (k : ℕ) (rs : List (List ℕ)) (post : List ℕ) → 0 < k → Long k rs → Lie k (flatten rs ++ post) (length rs)
+unfolding Lie flatten
+lie_put k [] post p f = tt
+lie_put k (r ∷ rs) post p f =
+    let rest : List ℕ = flatten rs ++ post in
+    let a = f r (Memᴰ.head refl) in
+    let e : (r ++ flatten rs) ++ post ≡ r ++ rest = append_assoc r (flatten rs) post in
+    let m = head_length r rest a.0 (omega (arith, a.1)) in
+    let d = head_dropped r rest a.0 (omega (arith, a.1)) in
+    rw e (omega (arith, m, a.1), omega (arith, m, length-append r rest), rw d (lie_put k rs post p (λ x i. f x (Memᴰ.tail i))))
 
 kept_bytes : (b : Bool) (r : List ℕ) (rs : List (List ℕ)) → flatten (keep_if b r rs) ≡ cond b r [] ++ flatten rs
 unfolding keep_if flatten
 kept_bytes true r rs = refl
 kept_bytes false r rs = refl
 
-kept_size : (b : Bool) (r : List ℕ) → length (cond b r []) ≡ cond b (length r) 0
-kept_size true r = refl
-kept_size false r = refl
+pub kept_put :
+    (ms : List Bool) (k : ℕ) (rs : List (List ℕ)) (post : List ℕ) → Long 1 rs → k + length rs ≤ length ms
+    → kept_of (flatten rs ++ post) (take (length rs) (drop k ms)) ≡ flatten (pick ms k rs)
+unfolding kept_of pick flatten
+kept_put ms k [] post f h = refl
+kept_put ms k (r ∷ rs) post f h =
+    let rest : List ℕ = flatten rs ++ post in
+    let a = f r (Memᴰ.head refl) in
+    let e : (r ++ flatten rs) ++ post ≡ r ++ rest = append_assoc r (flatten rs) post in
+    let s : drop k ms ≡ get_or ms k false ∷ drop (suc k) ms = drop-cons ms k false (omega arith) in
+    let t : take (get_or (r ++ rest) 0 0) (r ++ rest) ≡ r = head_taken r rest a.0 (omega (arith, a.1)) in
+    let d : drop (get_or (r ++ rest) 0 0) (r ++ rest) ≡ rest = head_dropped r rest a.0 (omega (arith, a.1)) in
+    let w : kept_of rest (take (length rs) (drop (suc k) ms)) ≡ flatten (pick ms (suc k) rs) =
+    kept_put ms (suc k) rs post (λ x i. f x (Memᴰ.tail i)) (omega arith) in
+    rw (e, s, t, d, w) (sym (kept_bytes (get_or ms k false) r (pick ms (suc k) rs)))
 
-pick_first : (ms : List Bool) (k : ℕ) (r : List ℕ) (rs : List (List ℕ))
-    → pick ms k (r ∷ rs) ≡ keep_if (get_or ms k false) r (pick ms (k + 1) rs)
-unfolding pick
-pick_first ms k r rs = rw add-one refl
+-- ---- one mark on
 
-module _ (ms : List Bool) (k : ℕ) (l : List ℕ) (from n j : ℕ) (q : n ≡ suc j) (s : Stands l from (record_at l from)) (m : ℕ)
-    (e : m ≡ get_or l from 0) where
-  rest : List (List ℕ)
-  rest = pick ms (k + 1) (records_at l (from + m) j)
+module _ (b : List ℕ) (ms : List Bool) (i : ℕ) where
+  -- m is the record's length
+  module _ (h : i < length ms) (m : ℕ) (others : List ℕ) (e : m ≡ get_or b 0 0) (d : others ≡ drop m b) where
+    step :
+        kept_of b (drop i ms)
+        ≡ cond (get_or ms i false) (take (get_or b 0 0) b) [] ++ kept_of (drop (get_or b 0 0) b) (drop (i + 1) ms)
+    unfolding kept_of
+    step = ap (kept_of b) (drop_more ms i false h)
 
-  pick_flat : flatten (pick ms k (records_at l from n)) ≡ cond (get_or ms k false) (record_at l from) [] ++ flatten rest
-  unfolding rest
-  pick_flat =
-      ap (λ (rs : List (List ℕ)). flatten (pick ms k rs)) (records_next l from n j q)
-      ∙ ap flatten (pick_first ms k (record_at l from) (records_at l (from + get_or l from 0) j))
-      ∙ rw e (kept_bytes (get_or ms k false) (record_at l from) (pick ms (k + 1) (records_at l (from + get_or l from 0) j)))
+    pub mark_stays :
+        (r : List ℕ) → r ≡ take m b → get_or ms i false ≡ true → kept_of b (drop i ms) ≡ r ++ kept_of others (drop (i + 1) ms)
+    mark_stays r t s = step ∙ rw (d, t, s, e) refl
 
-  pub pick_bytes :
-      flatten (pick ms k (records_at l from n))
-      ≡ cond (get_or ms k false) (take (from + m - from) (drop from l)) [] ++ flatten (pick ms (k + 1) (records_at l (from + m) j))
-  unfolding rest
-  pick_bytes = rw (row_part l from m s e) pick_flat
+    pub mark_goes : get_or ms i false ≡ false → kept_of b (drop i ms) ≡ kept_of others (drop (i + 1) ms)
+    mark_goes s = step ∙ rw (d, s, e) refl
 
-  pub pick_room :
-      length (cond (get_or ms k false) (take (from + m - from) (drop from l)) []) ≤ length (flatten (pick ms k (records_at l from n)))
-  pick_room =
-      let part : List ℕ = cond (get_or ms k false) (take (from + m - from) (drop from l)) [] in
-      let z : length (flatten (pick ms k (records_at l from n)))
-      ≡ length part + length (flatten (pick ms (k + 1) (records_at l (from + m) j))) =
-      ap length pick_bytes ∙ length-append part (flatten (pick ms (k + 1) (records_at l (from + m) j))) in
-      omega arith
+  pub marks_end : length ms ≤ i → kept_of b (drop i ms) ≡ []
+  unfolding kept_of
+  marks_end h = ap (kept_of b) (drop_all i ms h)
 
-  pub pick_size :
-      length (flatten (pick ms k (records_at l from n)))
-      ≡ cond (get_or ms k false) m 0 + length (flatten (pick ms (k + 1) (records_at l (from + m) j)))
-  unfolding rest
-  pick_size =
-      ap length pick_flat
-      ∙ length-append (cond (get_or ms k false) (record_at l from) []) (flatten rest)
-      ∙ ap (λ (x : ℕ). x + length (flatten rest))
-      (kept_size (get_or ms k false) (record_at l from) ∙ ap (λ (x : ℕ). cond (get_or ms k false) x 0) (s.size ∙ sym e))
-
-pub pick_end : (ms : List Bool) (k : ℕ) (l : List ℕ) (from n : ℕ) → n ≡ 0 → flatten (pick ms k (records_at l from n)) ≡ []
-unfolding pick flatten
-pick_end ms k l from n e = ap (λ (rs : List (List ℕ)). flatten (pick ms k rs)) (records_none l from n e)
+pub ruleset marks = (lie_first, marks_end)

@@ -3,29 +3,31 @@
 --     rules_as, constraints_as   so the records with their fields changed are the new policy's
 --     each_rule, each_constraint   each record becomes the new one where it stands
 --     nine, image_split   an image: the nine bytes of its header, and its records
---     Planned, planned    what the code relies on before it writes, at its counts and places
---     rules_step, constraints_step, whole_step   the buffer after the copy, and after each of the two loops over records
+--     ready               what the code relies on before it writes
+--     rules_lie, constraints_lie, whole   the buffer after the copy, and after each of the two loops over records
 use Prim.Native.Nat.{ℕ, ◌+◌, ◌-◌, ◌*◌, ◌/◌, ◌%◌, ◌≤◌, ◌<◌}
 use native.Mathlib.Omega.{arith}
-use mathlib.Core.Path.{◌≡◌, refl, sym, ap, ap₂, ◌∙◌}
+use mathlib.Core.Path.{◌≡◌, refl, sym, subst, ap, ap₂, ◌∙◌}
 use mathlib.Core.Logic.{inl, inr, ⊎_elim}
 use mathlib.Core.Bool.{Bool}
-use mathlib.Core.List.{List, [], ◌∷◌, ◌++◌, append_assoc, map, flatten, Memᴰ}
+use mathlib.Core.List.{List, [], ◌∷◌, ◌++◌, append_assoc, append-nil, map, flatten, Memᴰ}
 use lib.ListN.{length, get_or, take, drop, length-append, length-map}
-use lib.Seq.{take_all, take-length, drop_at}
+use lib.Seq.{take_all, take-length, length-take-le, take_at, drop_at}
+use Rattle.std.proofs.lemmas.List.{drop_all}
+use borrow.Rule.Slice.PartMut.{put_mid}
 use Rattle.format.specs.declared.Section.TheVariants.{Groups, Rules, Constraints}
 use Rattle.format.specs.declared.Starts.{Starts}
 use Rattle.format.specs.Bytes.{Bytes, word_at, words, put_word}
-use Rattle.format.specs.Policy.{Policy, image_of, body_of, policy_of, records_at, start_of}
+use Rattle.format.specs.Policy.{Policy, image_of, body_of, policy_of, start_of}
 use Rattle.format.specs.Check.{LaidOut}
 use Rattle.format.specs.Claims.{IsType, WellFormed}
-use Rattle.format.specs.Twins.{number_of}
+use Rattle.format.specs.Twins.{number_of, NoTwins}
+use Rattle.format.specs.Answers.{starts}
 use Rattle.format.proofs.ByCase.{records_of_groups, records_of_rules, records_of_constraints}
 use Rattle.format.proofs.ByCase.{count_groups, count_rules, count_constraints}
-use Rattle.format.proofs.Shapes.{stands}
-use Rattle.format.proofs.Records.{Runs, done, next, runs_records, Shaped, runs_flatten}
+use Rattle.format.proofs.Shapes.{length_least, shape_length, shape_kind}
 use Rattle.format.proofs.Fields.{record_rule, record_constraint}
-use Rattle.format.proofs.Accepted.{laid_header, records_count}
+use Rattle.format.proofs.Accepted.{laid_header, laid_accepted, records_count}
 use Rattle.format.proofs.Images.{Regular, laid_regular, laid_is_well_formed, image_length}
 use Rattle.format.proofs.Images.{image_version, start_rules, start_constraints, group_count}
 use Rattle.format.proofs.Written.{body_parts, image_nine}
@@ -37,19 +39,18 @@ use Rattle.conversion.specs.Convert.{follow, converted, converted_image}
 use Rattle.conversion.proofs.Moved.{rule_record_at, constraint_record_at, rule_bytes_at}
 use Rattle.conversion.proofs.Moved.{constraint_bytes_at, rule_at, constraint_at}
 use Rattle.conversion.proofs.Records.{version_is, groups_are, rules_are, constraints_are, follow_basic, follow_group}
-use Rattle.conversion.proofs.Convert.{few_groups, image_is, rules_as_long, length_converted, converted_accepted}
+use Rattle.conversion.proofs.Groups.{distinct_apart}
+use Rattle.conversion.proofs.Convert.{few_groups, image_is, rules_as_long, length_converted, converted_accepted, converted_bytes}
+use Rattle.rewrite.specs.declared.twins.Renumbering.{Renumbering}
 use Rattle.rewrite.specs.Inner.Put.{put_at, Wrote}
-use Rattle.rewrite.specs.Inner.Retype.{renumbered, records_from, Lie}
-use Rattle.rewrite.specs.Inner.Kept.{Rows, pick}
-use Rattle.rewrite.specs.Inner.Settle.{Ready}
-use Rattle.rewrite.proofs.PutLaws.{header_bytes, header_length_lem, put_length}
+use Rattle.rewrite.specs.Inner.Retype.{renumbered, records_in}
+use Rattle.rewrite.specs.Inner.Kept.{Lie, pick, kept_of}
+use Rattle.rewrite.specs.Inner.Settle.{Settled}
+use Rattle.rewrite.specs.Inner.Ready.{Ready}
+use Rattle.rewrite.proofs.PutLaws.{header_bytes, header_length_lem, put_length, wrote_then}
 use Rattle.rewrite.proofs.RetypeLaws.{renumbered_basic, renumbered_group, Put, rule_put, constraint_put, records_put}
-
-rows_run : {l : List ℕ} {at e : ℕ} {rs : List (List ℕ)} → Runs l at rs e → Shaped rs → Rows l at (length rs)
-unfolding Rows
-rows_run done f = tt
-rows_run {l} (next {at} h q) f =
-    (stands l at (rw h (f _ (Memᴰ.head refl))), rows_run q (λ r m. f r (Memᴰ.tail m)))
+use Rattle.rewrite.proofs.KeptLaws.{Long, lie_put, kept_put}
+use Rattle.rewrite.proofs.TwinLaws.{pick_all}
 
 -- ---- type fields
 
@@ -95,22 +96,18 @@ module _ (p : Policy) (w : WellFormed p) (to : List ℕ) (small : Bytes to)
         ∙ sym (constraints_are p)
 
 module _ (p : Policy) (w : WellFormed p) (to : List ℕ) (small : Bytes to) where
-  each_rule :
-      (r : List ℕ) → Memᴰ r p.rules → (x y : List ℕ) (i : ℕ) → length x ≡ i
-      → Put 2 to x r (retype_rule (renumbered to) r) y i
-  each_rule r m x y i q =
+  each_rule : (r : List ℕ) → Memᴰ r p.rules → Put 2 to r (retype_rule (renumbered to) r)
+  each_rule r m =
       let b = rule_bytes_at p w r m in
       ⊎_elim
-      (λ a. rule_put to small x r y i q a.size.0 (omega (arith, a.size.1)) (omega (arith, a.size.1)) b)
-      (λ a. rule_put to small x r y i q a.size.0 (omega (arith, a.size.1)) (omega (arith, a.size.1)) b)
+      (λ a. rule_put to small r a.size.0 (omega (arith, a.size.1)) (omega (arith, a.size.1)) b)
+      (λ a. rule_put to small r a.size.0 (omega (arith, a.size.1)) (omega (arith, a.size.1)) b)
       (record_rule (length p.groups) r (rule_record_at p w r m))
 
-  each_constraint :
-      (r : List ℕ) → Memᴰ r p.constraints → (x y : List ℕ) (i : ℕ) → length x ≡ i
-      → Put 6 to x r (retype_constraint (renumbered to) r) y i
-  each_constraint r m x y i q =
+  each_constraint : (r : List ℕ) → Memᴰ r p.constraints → Put 6 to r (retype_constraint (renumbered to) r)
+  each_constraint r m =
       let a = record_constraint (length p.groups) r (constraint_record_at p w r m) in
-      constraint_put to small x r y i a.0 q a.1.size.0 a.1.size.1 (constraint_bytes_at p w r m)
+      constraint_put to small r a.0 a.1.size.0 a.1.size.1 (constraint_bytes_at p w r m)
 
 -- ---- an old image, by its parts
 
@@ -170,12 +167,14 @@ module _ (l : List ℕ) (by : Bytes l) (e : LaidOut l) where
   unfolding G
   constraints_from = ap (λ (x : List ℕ). start_of x Constraints) (sym is) ∙ start_constraints (policy_of l) regular
 
-  shaped : Shaped (policy_of l).groups
-  shaped r m = (regular.formed Groups r (rw records_of_groups m)).shape
+  long_groups : Long 1 (policy_of l).groups
+  long_groups r m =
+      let e = (regular.formed Groups r (rw records_of_groups m)).shape in
+      (sym (shape_length r e), omega (arith, length_least (get_or r 1 0) (length r) (shape_kind r e)))
 
-  runs : Runs l 9 (policy_of l).groups (9 + length (flatten (policy_of l).groups))
+  old_groups : drop 9 l ≡ flatten (policy_of l).groups ++ T
   unfolding G
-  runs = runs_flatten l (nine (policy_of l)) 9 (policy_of l).groups T parts (nine_length (policy_of l)) shaped
+  old_groups = ap (drop 9) parts ∙ drop_at (nine (policy_of l)) (G ++ T) 9 (nine_length (policy_of l))
 
   old_tail : take (length l - start_of l Rules) (drop (start_of l Rules) l) ≡ T
   old_tail =
@@ -201,187 +200,221 @@ module _ (l : List ℕ) (by : Bytes l) (e : LaidOut l) where
 
 -- ---- what the code relies on
 
-pub record Planned (l : List ℕ) (s : Starts) (keep : List Bool) (kept n : ℕ) : Type 0 where
-  pub long : 9 ≤ length l
-  pub rows : Rows l 9 n
-  pub few : n ≤ 256
-  pub fewer : kept ≤ 256
-  pub inside : s.rules ≤ length l
-  pub order : s.rules ≤ s.constraints
-  pub tail : take (length l - s.rules) (drop s.rules l) ≡ flatten (policy_of l).rules ++ flatten (policy_of l).constraints
-  pub rest : length l - s.rules ≡ length (flatten (policy_of l).rules ++ flatten (policy_of l).constraints)
-  pub between : s.constraints - s.rules ≡ length (flatten (policy_of l).rules)
-  pub groups : pick keep 0 (records_at l 9 n) ≡ (converted (policy_of l)).groups
-  pub count : kept ≡ length (converted (policy_of l)).groups
-  pub size : 9 + length (flatten (pick keep 0 (records_at l 9 n))) + (length l - s.rules) ≡ length (converted_image l)
-  pub small : length (converted_image l) < 65536
+module _ (l : List ℕ) (s : Starts) (new : Renumbering) (laid : LaidOut l) (places : s ≡ starts l) (by : Bytes l)
+    (en : new.groups ≡ word_at l 3) (long : length new.keep ≡ 256)
+    (settled : Settled (policy_of l).groups (length (policy_of l).groups) new.to new.keep new.kept)
+  where
+    count_is : new.groups ≡ length (policy_of l).groups
+    count_is = en ∙ sym (count_groups l) ∙ sym (group_count l)
 
-module _ (l : List ℕ) (s : Starts) (to : List ℕ) (keep : List Bool) (kept n : ℕ) (w : Ready l s to keep kept) (by : Bytes l)
-    (en : n ≡ word_at l 3) where
-  count_is : n ≡ length (policy_of l).groups
-  count_is = en ∙ sym (count_groups l) ∙ sym (group_count l)
+    stays : pick new.keep 0 (policy_of l).groups ≡ distinct (policy_of l).groups
+    stays =
+        let t : take (length (policy_of l).groups) (policy_of l).groups ≡ (policy_of l).groups = take-length (policy_of l).groups in
+        ap (pick new.keep 0) (sym t) ∙ settled.kept ∙ ap distinct t
 
-  records_are : records_at l 9 n ≡ (policy_of l).groups
-  records_are = ap (records_at l 9) count_is ∙ runs_records (runs l by w.laid)
+    all_kept : new.kept ≡ new.groups → converted_image l ≡ l
+    all_kept q =
+        let n : length (pick new.keep 0 (policy_of l).groups) ≡ length (policy_of l).groups
+        = ap length stays ∙ ap (λ (x : List (List ℕ)). length (distinct x)) (sym (take-length (policy_of l).groups))
+        ∙ sym settled.count ∙ q ∙ count_is in
+        let d : distinct (policy_of l).groups ≡ (policy_of l).groups
+        = sym stays ∙ pick_all new.keep 0 (policy_of l).groups n in
+        converted_bytes l by (laid_accepted l laid (subst NoTwins d (distinct_apart (policy_of l).groups)))
 
-  stays : pick keep 0 (policy_of l).groups ≡ distinct (policy_of l).groups
-  stays =
-      let t : take (length (policy_of l).groups) (policy_of l).groups ≡ (policy_of l).groups = take-length (policy_of l).groups in
-      ap (pick keep 0) (sym t) ∙ w.settled.kept ∙ ap distinct t
-
-  pub planned : Planned l s keep kept n
-  unfolding T G
-  planned =
-      let e = w.laid in
-      let r : s.rules ≡ start_of l Rules = ap (λ (x : Starts). x.rules) w.places in
-      let c : s.constraints ≡ start_of l Constraints = ap (λ (x : Starts). x.constraints) w.places in
-      let g : pick keep 0 (records_at l 9 n) ≡ (converted (policy_of l)).groups
-      = ap (pick keep 0) records_are ∙ stays ∙ sym (groups_are (policy_of l)) in
-      let k : kept ≡ length (converted (policy_of l)).groups
-      = w.settled.count ∙ ap (λ (x : List (List ℕ)). length (distinct x)) (take-length (policy_of l).groups)
-      ∙ ap length (sym (groups_are (policy_of l))) in
-      let t : length l
-      ≡ 9 + (length (flatten (policy_of l).groups) + length (flatten (policy_of l).rules ++ flatten (policy_of l).constraints))
-      = total l by e in
-      let a = rules_from l by e in
-      let d : length l - s.rules ≡ length (flatten (policy_of l).rules ++ flatten (policy_of l).constraints) = omega arith in
-      let size : length (flatten (pick keep 0 (records_at l 9 n))) ≡ length (flatten (distinct (policy_of l).groups))
-      = ap (λ (x : List (List ℕ)). length (flatten x)) (ap (pick keep 0) records_are ∙ stays) in
-      record {
-        long = (laid_header l e).long;
-        rows = rw count_is (rows_run (runs l by e) (shaped l by e));
-        few = omega (arith, count_is, (formed l by e).few_groups);
-        fewer = omega (arith, few_groups (policy_of l) (formed l by e));
-        inside = omega arith;
-        order = omega (arith, constraints_from l by e);
-        tail = rw r (old_tail l by e);
-        rest = d;
-        between = rw (r, c) (old_between l by e);
-        groups = g;
-        count = k;
-        size = omega (arith, new_length l by e);
-        small = new_small l by e;
-      }
+    pub ready : Ready l s new
+    unfolding T G
+    ready =
+        let r : s.rules ≡ start_of l Rules = ap (λ (x : Starts). x.rules) places in
+        let c : s.constraints ≡ start_of l Constraints = ap (λ (x : Starts). x.constraints) places in
+        let few : new.groups ≤ 256 = omega (arith, count_is, (formed l by laid).few_groups) in
+        let k : new.kept ≡ length (converted (policy_of l)).groups
+        = settled.count ∙ ap (λ (x : List (List ℕ)). length (distinct x)) (take-length (policy_of l).groups)
+        ∙ ap length (sym (groups_are (policy_of l))) in
+        let t : length l
+        ≡ 9 + (length (flatten (policy_of l).groups) + length (flatten (policy_of l).rules ++ flatten (policy_of l).constraints))
+        = total l by laid in
+        let a = rules_from l by laid in
+        let g : kept_of (drop 9 l) (take new.groups new.keep) ≡ flatten (distinct (policy_of l).groups)
+        = ap₂ (λ (b : List ℕ) (n : ℕ). kept_of b (take n new.keep)) (old_groups l by laid) count_is
+        ∙ kept_put new.keep 0 (policy_of l).groups (T l by laid) (long_groups l by laid) (omega (arith, count_is))
+        ∙ ap flatten stays in
+        let n : length (take new.groups new.keep) ≡ new.groups = length-take-le new.groups new.keep (omega arith) in
+        record {
+          laid = laid;
+          numbers = settled.numbers;
+          bytes = settled.small;
+          few = few;
+          fewer = omega (arith, few_groups (policy_of l) (formed l by laid));
+          rows = rw (n, count_is, old_groups l by laid) (lie_put 1 (policy_of l).groups (T l by laid) (omega arith) (long_groups l by laid));
+          groups = g ∙ ap flatten (sym (groups_are (policy_of l)));
+          count = k;
+          all = all_kept;
+          inside = omega arith;
+          order = omega (arith, constraints_from l by laid);
+          tail = rw r (old_tail l by laid);
+          rest = omega (arith, length-append (flatten (policy_of l).rules) (flatten (policy_of l).constraints));
+          between = rw (r, c) (old_between l by laid);
+          long = (laid_header l laid).long;
+          size = omega (arith, ap length g, new_length l by laid);
+          short = new_small l by laid;
+        }
 
 -- ---- the buffer after each step
 
+-- what stands in the buffer b before the rules, before the constraints, and past the new image
 module _ (l : List ℕ) where
-  pub rules_count : word_at l 5 ≡ length (policy_of l).rules
-  rules_count = sym (ap length (sym (records_of_rules (policy_of l))) ∙ records_count l Rules ∙ count_rules l)
-
-  pub constraints_count : word_at l 7 ≡ length (policy_of l).constraints
-  constraints_count = sym (ap length (sym (records_of_constraints (policy_of l))) ∙ records_count l Constraints
-      ∙ count_constraints l)
-
-module _ (l : List ℕ) (s : Starts) (to : List ℕ) (keep : List Bool) (kept : ℕ) (w : Ready l s to keep kept) (by : Bytes l) where
-  -- the header that is written is the new image's
-  header_as :
-      (v n m k : ℕ) → v ≡ get_or l 0 0 → n ≡ length (converted_image l) → m ≡ word_at l 5 → k ≡ word_at l 7
-      → v ∷ put_word n (put_word kept (put_word m (put_word k []))) ≡ nine (converted (policy_of l))
-  unfolding nine
-  header_as v n m k ev en em ek =
-      let p : Policy = policy_of l in
-      let one : v ≡ (converted p).version
-      = ev ∙ ap (λ (x : List ℕ). get_or x 0 0) (sym (is l by w.laid)) ∙ image_version p ∙ sym (version_is p) in
-      let two : n ≡ 9 + length (body_of (converted p)) = en ∙ ap length (image_is l) ∙ image_length (converted p) in
-      let three : m ≡ length (converted p).rules
-      = em ∙ rules_count l ∙ sym (ap length (rules_are p) ∙ length-map p.rules (retype_rule (follow p))) in
-      let four : k ≡ length (converted p).constraints
-      = ek ∙ constraints_count l ∙ sym (ap length (constraints_are p)
-      ∙ length-map p.constraints (retype_constraint (follow p))) in
-      rw (one, two, (planned l s to keep kept (word_at l 3) w by refl).count, three, four) refl
-
-  -- what stands in the buffer before the rules, and past the new image
   pub front : List ℕ
   front = nine (converted (policy_of l)) ++ flatten (converted (policy_of l)).groups
+
+  pub more : List ℕ
+  more = front ++ flatten (converted (policy_of l)).rules
 
   pub past : List ℕ → List ℕ
   past b = drop (length (converted_image l)) b
 
-  module _ (b b₃ : List ℕ) (n m k at end : ℕ) (g t : List ℕ)
-      (en : n ≡ length (converted_image l)) (em : m ≡ word_at l 5) (ek : k ≡ word_at l 7)
-      (wrote : Wrote b b₃ 0 end ((get_or l 0 0 ∷ put_word n (put_word kept (put_word m (put_word k [])))) ++ g ++ t))
-      (eg : g ≡ flatten (converted (policy_of l)).groups)
-      (et : t ≡ flatten (policy_of l).rules ++ flatten (policy_of l).constraints)
-      (ea : at ≡ 9 + length g)
-    where
-      -- as the records were copied
-      copied : b₃ ≡ front ++ (flatten (policy_of l).rules ++ (flatten (policy_of l).constraints ++ past b))
-      unfolding put_at front past T
-      copied =
-          let p : Policy = policy_of l in
-          let h : List ℕ = get_or l 0 0 ∷ put_word n (put_word kept (put_word m (put_word k []))) in
-          let eh : h ≡ nine (converted p) = header_as (get_or l 0 0) n m k refl en em ek in
-          let hl : length h ≡ 9 = ap length eh ∙ nine_length (converted p) in
-          let gl : length g ≡ length (flatten (distinct p.groups))
-          = ap length eg ∙ ap (λ (x : List (List ℕ)). length (flatten x)) (groups_are p) in
-          let z : 0 + length (h ++ g ++ t) ≡ length (converted_image l)
-          = omega (arith, length-append (h ++ g) t, length-append h g, ap length et, new_length l by w.laid) in
-          let x : h ++ g ++ t ≡ front ++ (flatten p.rules ++ flatten p.constraints) = ap₂ ◌++◌ (ap₂ ◌++◌ eh eg) et in
-          wrote.bytes ∙ ap (λ (i : ℕ). (h ++ g ++ t) ++ drop i b) z
-          ∙ ap (λ (y : List ℕ). y ++ drop (length (converted_image l)) b) x
-          ∙ append_assoc front (flatten p.rules ++ flatten p.constraints) (drop (length (converted_image l)) b)
-          ∙ ap (λ (y : List ℕ). front ++ y)
-          (append_assoc (flatten p.rules) (flatten p.constraints) (drop (length (converted_image l)) b))
+-- a buffer's end, from a place on, and what becomes of the buffer where the end becomes x
+tail_put : (pre t x b : List ℕ) (at n : ℕ) → b ≡ pre ++ t → length pre ≡ at → n ≡ length b - at
+    → (take n (drop at b) ≡ t) × (put_mid at n b x ≡ pre ++ x)
+tail_put pre t x b at n e ea en =
+    let d : drop at b ≡ t = ap (drop at) e ∙ drop_at pre t at ea in
+    let p : take at b ≡ pre = ap (take at) e ∙ take_at pre t at ea in
+    let m : length t ≤ n = omega (arith, ap length e, length-append pre t) in
+    (rw d (take_all n t m), rw (d, p, drop_all n t m, append-nil) refl)
 
-      front_length : length front ≡ at
-      unfolding front
-      front_length =
-          length-append (nine (converted (policy_of l))) (flatten (converted (policy_of l)).groups)
-          ∙ ap₂ ◌+◌ (nine_length (converted (policy_of l))) (ap length (sym eg)) ∙ sym ea
+-- b is the lent buffer, b₁ has the header, b₂ the groups behind it, and b₃ the other records, as they were
+module _ {l : List ℕ} {s : Starts} {new : Renumbering} (w : Ready l s new) (by : Bytes l) {b b₁ b₂ b₃ : List ℕ}
+    {size m k at end : ℕ} {records : List ℕ} {marks : List Bool} (en : size ≡ length (converted_image l)) (em : m ≡ word_at l 5) (ek : k ≡ word_at l 7)
+    (is_records : records ≡ drop 9 l) (is_marks : marks ≡ take new.groups new.keep)
+    (w₁ : Wrote b b₁ 0 9 (get_or l 0 0 ∷ put_word size (put_word new.kept (put_word m (put_word k [])))))
+    (w₂ : Wrote b₁ b₂ 9 at (kept_of records marks))
+    (w₃ : Wrote b₂ b₃ at end (take (length l - s.rules) (drop s.rules l)))
+  where
+    rules_count : m ≡ length (policy_of l).rules
+    rules_count = em ∙ sym (ap length (sym (records_of_rules (policy_of l))) ∙ records_count l Rules ∙ count_rules l)
 
-      pub rules_step :
-          Lie 2 to b₃ at m
-          × (records_from 2 to b₃ at m
-          ≡ front ++ (flatten (converted (policy_of l)).rules ++ (flatten (policy_of l).constraints ++ past b)))
-      rules_step =
+    constraints_count : k ≡ length (policy_of l).constraints
+    constraints_count =
+        ek ∙ sym (ap length (sym (records_of_constraints (policy_of l))) ∙ records_count l Constraints ∙ count_constraints l)
+
+    -- the header that is written is the new image's
+    header_as : get_or l 0 0 ∷ put_word size (put_word new.kept (put_word m (put_word k []))) ≡ nine (converted (policy_of l))
+    unfolding nine
+    header_as =
+        let p : Policy = policy_of l in
+        let one : get_or l 0 0 ≡ (converted p).version
+        = ap (λ (x : List ℕ). get_or x 0 0) (sym (is l by w.laid)) ∙ image_version p ∙ sym (version_is p) in
+        let two : size ≡ 9 + length (body_of (converted p)) = en ∙ ap length (image_is l) ∙ image_length (converted p) in
+        let three : m ≡ length (converted p).rules
+        = rules_count ∙ sym (ap length (rules_are p) ∙ length-map p.rules (retype_rule (follow p))) in
+        let four : k ≡ length (converted p).constraints
+        = constraints_count ∙ sym (ap length (constraints_are p) ∙ length-map p.constraints (retype_constraint (follow p))) in
+        rw (one, two, w.count, three, four) refl
+
+    groups_as : kept_of records marks ≡ flatten (converted (policy_of l)).groups
+    groups_as = ap₂ kept_of is_records is_marks ∙ w.groups
+
+    front_length : length (front l) ≡ at
+    unfolding front
+    front_length =
+        length-append (nine (converted (policy_of l))) (flatten (converted (policy_of l)).groups)
+        ∙ ap₂ ◌+◌ (nine_length (converted (policy_of l))) (ap length (sym groups_as)) ∙ sym w₂.next
+
+    -- as the records were copied
+    copied : b₃ ≡ front l ++ (flatten (policy_of l).rules ++ (flatten (policy_of l).constraints ++ past l b))
+    unfolding put_at front past
+    copied =
+        let p : Policy = policy_of l in
+        let h : List ℕ = get_or l 0 0 ∷ put_word size (put_word new.kept (put_word m (put_word k []))) in
+        let g : List ℕ = kept_of records marks in
+        let t : List ℕ = take (length l - s.rules) (drop s.rules l) in
+        let wrote : Wrote b b₃ 0 end ((h ++ g) ++ t)
+        = wrote_then (wrote_then w₁ w₂ (omega arith)) w₃ (omega arith) in
+        let z : 0 + length ((h ++ g) ++ t) ≡ length (converted_image l)
+        = omega (
+          arith,
+          length-append (h ++ g) t,
+          length-append h g,
+          w₁.next,
+          w.size,
+          ap₂ (λ (rs : List ℕ) (ms : List Bool). length (kept_of rs ms)) is_records is_marks,
+          ap length w.tail,
+          length-append (flatten p.rules) (flatten p.constraints),
+          w.rest,
+        ) in
+        let x : (h ++ g) ++ t ≡ front l ++ (flatten p.rules ++ flatten p.constraints) = ap₂ ◌++◌ (ap₂ ◌++◌ header_as groups_as) w.tail in
+        wrote.bytes ∙ ap (λ (i : ℕ). ((h ++ g) ++ t) ++ drop i b) z
+        ∙ ap (λ (y : List ℕ). y ++ drop (length (converted_image l)) b) x
+        ∙ append_assoc (front l) (flatten p.rules ++ flatten p.constraints) (drop (length (converted_image l)) b)
+        ∙ ap (λ (y : List ℕ). front l ++ y)
+        (append_assoc (flatten p.rules) (flatten p.constraints) (drop (length (converted_image l)) b))
+
+    -- x is what the rules become, and b₄ the buffer with them
+    module _ {n : ℕ} (q : n ≡ length b₃ - at) where
+      rules_tail : (x : List ℕ) → (take n (drop at b₃) ≡ flatten (policy_of l).rules ++ (flatten (policy_of l).constraints ++ past l b))
+          × (put_mid at n b₃ x ≡ front l ++ x)
+      rules_tail x = tail_put (front l) _ x b₃ at n copied front_length q
+
+      rules_put :
+          Lie 6 (take n (drop at b₃)) m
+          × (records_in 2 new.to (take n (drop at b₃)) m
+          ≡ flatten (converted (policy_of l)).rules ++ (flatten (policy_of l).constraints ++ past l b))
+      rules_put =
           let f = formed l by w.laid in
-          let q = records_put 2 to (retype_rule (renumbered to)) (policy_of l).rules front
-          (flatten (policy_of l).constraints ++ past b) at front_length (each_rule (policy_of l) f to w.settled.small) in
-          rw (copied, em ∙ rules_count l, ← rules_as (policy_of l) f to w.settled.small w.settled.numbers) q
+          rw ((rules_tail []).0, rules_count, ← rules_as (policy_of l) f new.to w.bytes w.numbers)
+          (records_put 2 new.to (retype_rule (renumbered new.to)) (flatten (policy_of l).constraints ++ past l b) (policy_of l).rules
+          (each_rule (policy_of l) f new.to w.bytes))
 
-      module _ (b₄ : List ℕ) (at₂ : ℕ) (e₄ : b₄ ≡ records_from 2 to b₃ at m) (e₂ : at₂ ≡ at + (s.constraints - s.rules)) where
-        pub more : List ℕ
-        more = front ++ flatten (converted (policy_of l)).rules
+      pub rules_lie : Lie 6 (take n (drop at b₃)) m
+      rules_lie = rules_put.0
 
-        more_length : length more ≡ at₂
-        unfolding more
-        more_length =
-            let p : Policy = policy_of l in
-            let d : length (flatten (converted p).rules) ≡ length (flatten p.rules)
-            = ap (λ (x : List (List ℕ)). length (flatten x)) (rules_are p) ∙ rules_as_long p (formed l by w.laid) (follow p) in
-            let q = (planned l s to keep kept (word_at l 3) w by refl).between in
-            omega (arith, length-append front (flatten (converted p).rules), front_length)
+      module _ {x b₄ : List ℕ} (ex : x ≡ records_in 2 new.to (take n (drop at b₃)) m) (e₄ : b₄ ≡ put_mid at n b₃ x) {behind n₂ : ℕ}
+          (eb : behind ≡ at + (s.constraints - s.rules)) (q₂ : n₂ ≡ length b₄ - behind)
+        where
+          ruled : b₄ ≡ more l ++ (flatten (policy_of l).constraints ++ past l b)
+          unfolding more
+          ruled =
+              e₄ ∙ (rules_tail x).1 ∙ ap (λ (y : List ℕ). front l ++ y) (ex ∙ rules_put.1)
+              ∙ sym (append_assoc (front l) (flatten (converted (policy_of l)).rules) (flatten (policy_of l).constraints ++ past l b))
 
-        pub constraints_step :
-            Lie 6 to b₄ at₂ k
-            × (records_from 6 to b₄ at₂ k ≡ more ++ (flatten (converted (policy_of l)).constraints ++ past b))
-        unfolding more
-        constraints_step =
-            let f = formed l by w.laid in
-            let p : Policy = policy_of l in
-            let small : Bytes to = w.settled.small in
-            let e : b₄ ≡ more ++ (flatten p.constraints ++ past b)
-            = e₄ ∙ rules_step.1 ∙ sym (append_assoc front (flatten (converted p).rules) (flatten p.constraints ++ past b)) in
-            let q = records_put 6 to (retype_constraint (renumbered to)) p.constraints more (past b) at₂ more_length
-            (each_constraint p f to small) in
-            rw (e, ek ∙ constraints_count l, ← constraints_as p f to small w.settled.numbers) q
+          more_length : length (more l) ≡ behind
+          unfolding more
+          more_length =
+              let p : Policy = policy_of l in
+              let d : length (flatten (converted p).rules) ≡ length (flatten p.rules)
+              = ap (λ (x : List (List ℕ)). length (flatten x)) (rules_are p) ∙ rules_as_long p (formed l by w.laid) (follow p) in
+              omega (arith, length-append (front l) (flatten (converted p).rules), front_length, w.between)
 
-        pub whole_step :
-            (b₅ : List ℕ) → b₅ ≡ records_from 6 to b₄ at₂ k → length (converted_image l) ≤ length b
-            → Wrote b b₅ 0 n (converted_image l)
-        unfolding more front past put_at
-        whole_step b₅ e₅ room =
-            let p : Policy = policy_of l in
-            let R : List ℕ = flatten (converted p).rules in
-            let C : List ℕ = flatten (converted p).constraints in
-            let G : List ℕ = flatten (converted p).groups in
-            let N : List ℕ = nine (converted p) in
-            let D : List ℕ = drop (length (converted_image l)) b in
-            let i : converted_image l ≡ N ++ (G ++ (R ++ C)) = image_is l ∙ image_split (converted p) in
-            let z : 0 + length (converted_image l) ≡ length (converted_image l) = omega arith in
-            let x : ((N ++ G) ++ R) ++ (C ++ D) ≡ (N ++ (G ++ (R ++ C))) ++ D = simp append_assoc in
-            let y : b₅ ≡ put_at b 0 (converted_image l)
-            = e₅ ∙ constraints_step.1 ∙ x ∙ ap (λ (u : List ℕ). u ++ D) (sym i)
-            ∙ sym (ap (λ (j : ℕ). converted_image l ++ drop j b) z) in
-            record { bytes = y; next = omega arith; size = ap length y ∙ put_length b 0 (converted_image l) (omega arith) }
+          constraints_tail : (y : List ℕ) → (take n₂ (drop behind b₄) ≡ flatten (policy_of l).constraints ++ past l b)
+              × (put_mid behind n₂ b₄ y ≡ more l ++ y)
+          constraints_tail y = tail_put (more l) _ y b₄ behind n₂ ruled more_length q₂
+
+          constraints_put :
+              Lie 10 (take n₂ (drop behind b₄)) k
+              × (records_in 6 new.to (take n₂ (drop behind b₄)) k ≡ flatten (converted (policy_of l)).constraints ++ past l b)
+          constraints_put =
+              let f = formed l by w.laid in
+              rw ((constraints_tail []).0, constraints_count, ← constraints_as (policy_of l) f new.to w.bytes w.numbers)
+              (records_put 6 new.to (retype_constraint (renumbered new.to)) (past l b) (policy_of l).constraints
+              (each_constraint (policy_of l) f new.to w.bytes))
+
+          pub constraints_lie : Lie 10 (take n₂ (drop behind b₄)) k
+          constraints_lie = constraints_put.0
+
+          pub whole :
+              {y b₅ : List ℕ} → y ≡ records_in 6 new.to (take n₂ (drop behind b₄)) k → b₅ ≡ put_mid behind n₂ b₄ y → size ≤ length b
+              → Wrote b b₅ 0 size (converted_image l)
+          unfolding more front past put_at
+          whole {y} {b₅} ey e₅ room =
+              let p : Policy = policy_of l in
+              let R : List ℕ = flatten (converted p).rules in
+              let C : List ℕ = flatten (converted p).constraints in
+              let G : List ℕ = flatten (converted p).groups in
+              let N : List ℕ = nine (converted p) in
+              let D : List ℕ = drop (length (converted_image l)) b in
+              let i : converted_image l ≡ N ++ (G ++ (R ++ C)) = image_is l ∙ image_split (converted p) in
+              let z : 0 + length (converted_image l) ≡ length (converted_image l) = omega arith in
+              let x : ((N ++ G) ++ R) ++ (C ++ D) ≡ (N ++ (G ++ (R ++ C))) ++ D = simp append_assoc in
+              let y : b₅ ≡ put_at b 0 (converted_image l)
+              = e₅ ∙ (constraints_tail y).1 ∙ ap (λ (u : List ℕ). more l ++ u) (ey ∙ constraints_put.1) ∙ x
+              ∙ ap (λ (u : List ℕ). u ++ D) (sym i) ∙ sym (ap (λ (j : ℕ). converted_image l ++ drop j b) z) in
+              record { bytes = y; next = omega arith; size = ap length y ∙ put_length b 0 (converted_image l) (omega arith) }

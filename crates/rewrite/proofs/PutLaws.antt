@@ -2,15 +2,16 @@
 --     put_nothing, put_append   nothing put, and two parts put one behind the other
 --     put_length                a buffer keeps its length
 --     put_copied                a part copied over what stands from a place on
---     front_put, header_bytes, header_length_lem   a part copied to the front, and the header, byte by byte
+--     header_bytes, header_length_lem   the header, byte by byte
 --     wrote_then, wrote_as      two writers, one after the other; and what is written, by another name
---     writing_start, writing_put, writing_end   a loop of writers, by its turns
-use Prim.Native.Nat.{ℕ, ◌+◌, ◌-◌, ◌/◌, ◌%◌, ◌≤◌}
+--     writing_start, writing_room, writing_put, writing_end   a loop of writers, by its turns
+use Prim.Native.Nat.{ℕ, ◌+◌, ◌/◌, ◌%◌, ◌≤◌}
 use mathlib.Core.Path.{◌≡◌, refl, sym, ap, ◌∙◌}
 use mathlib.Core.List.{List, [], ◌∷◌, ◌++◌, append_assoc}
 use native.Mathlib.Omega.{arith}
 use lib.ListN.{length, take, drop, take-append-drop, length-append, length-drop}
-use lib.Seq.{take_at, drop_at, drop-drop, drop-append-le, length-take-le, take-length}
+use lib.Seq.{take_at, drop_at, drop-drop, length-take-le}
+use borrow.Rule.Slice.PartMut.{put_mid}
 use Rattle.format.specs.Bytes.{put_word}
 use Rattle.format.proofs.Bytes.{put_word_lem}
 use Rattle.rewrite.specs.Inner.Put.{put_at, Wrote, Writing}
@@ -48,29 +49,9 @@ put_append b at r s h =
     (append_assoc (take at b) r (s ++ drop (at + length (r ++ s)) b)
     ∙ ap (λ (l : List ℕ). take at b ++ l) (sym (append_assoc r s (drop (at + length (r ++ s)) b))))
 
-pub part_room : (b : List ℕ) (at n : ℕ) → at + n ≤ length b → n ≤ length (take (length b - at) (drop at b))
-part_room b at n h = omega (arith, length-take-le (length b - at) (drop at b) (omega (arith, length-drop at b)))
-
-pub put_copied :
-    (b r d : List ℕ) (at n : ℕ) → n ≡ length r → at + n ≤ length b → d ≡ take n r ++ drop n (take (length b - at) (drop at b))
-    → take at b ++ (d ++ drop (length b - at) (drop at b)) ≡ put_at b at r
+pub put_copied : (b r d : List ℕ) (at n : ℕ) → n ≡ length r → d ≡ r → put_mid at n b d ≡ put_at b at r
 unfolding put_at
-put_copied b r d at n e h is =
-    let k : ℕ = length b - at in
-    let x : List ℕ = drop at b in
-    let t : drop n (take k x) ++ drop k x ≡ drop (at + n) b =
-    sym (drop-append-le n (take k x) (drop k x) (part_room b at n h)) ∙ ap (drop n) (take-append-drop k x) ∙ drop-drop n at b in
-    rw (is, append_assoc, t, e, take-length)
-
--- a part copied to the front
-pub front_put :
-    (b r after : List ℕ) (n : ℕ) → n ≡ length r → length r ≤ length b → after ≡ take (length r) r ++ drop (length r) b
-    → Wrote b after 0 n r
-unfolding put_at
-front_put b r after n e h is =
-    let z : 0 + length r ≡ length r = omega arith in
-    let p : after ≡ put_at b 0 r = is ∙ rw (z, take-length) refl in
-    record { bytes = p; next = omega arith; size = ap length p ∙ put_length b 0 r (omega arith) }
+put_copied b r d at n e is = rw (is, e, drop-drop) refl
 
 pub header_bytes :
     (v n g r c n₁ n₂ g₁ g₂ r₁ r₂ c₁ c₂ : ℕ) → n₁ ≡ n / 256 → n₂ ≡ n % 256 → g₁ ≡ g / 256 → g₂ ≡ g % 256 → r₁ ≡ r / 256
@@ -95,11 +76,15 @@ wrote_then {b} {c} {d} {r} {s} {at} {next} {past} w v h =
       size = v.size ∙ w.size;
     }
 
-pub wrote_as : {b c r s : List ℕ} {at next : ℕ} → Wrote b c at next r → r ≡ s → Wrote b c at next s
-wrote_as w e = rw e at w
+pub wrote_as : {b c r s : List ℕ} {at next past : ℕ} → Wrote b c at next r → next ≡ past → r ≡ s → Wrote b c at past s
+wrote_as w n e = rw (n, e) at w
 
 pub writing_start : (b : List ℕ) (from : ℕ) (all : List ℕ) → from + length all ≤ length b → Writing b b from from all all
 writing_start b from all h = record { same = refl; end = refl; room = h; size = refl }
+
+pub writing_room : {b c all left : List ℕ} {from at : ℕ} (r rest : List ℕ) → Writing b c from at all left → left ≡ r ++ rest
+    → at + length r ≤ length c
+writing_room r rest w e = omega (arith, w.room, ap length e ∙ length-append r rest)
 
 pub writing_put :
     {b c d all left r : List ℕ} {from at next : ℕ} (rest : List ℕ) → Writing b c from at all left → left ≡ r ++ rest

@@ -1,19 +1,21 @@
 -- Laws of the groups that stay and of their new numbers, by the turns of the walk that settles them. Assumes nothing.
 --     pick_all        where as many are kept as there are, all are
 --     settled_none    nothing is settled yet
---     settled_more    one group more
-use Prim.Native.Nat.{ℕ, suc, ◌+◌, ◌≤◌, ◌<◌}
+--     twin_goes, first_stays   one group more: a twin of an earlier one, or a first one
+use Prim.Native.Nat.{ℕ, zero, suc, ◌+◌, ◌≤◌, ◌<◌}
 use native.Mathlib.Omega.{arith}
 use native.Mathlib.Numerals.{add-one}
 use mathlib.Core.Path.{◌≡◌, refl, sym, ap, ap₂, ◌∙◌}
 use mathlib.Core.Logic.{⊎_elim}
 use mathlib.Core.Bool.{Bool, true, false, cond}
 use mathlib.Core.List.{List, [], ◌∷◌, ◌++◌, append-nil}
-use lib.ListN.{length, get_or, take, set, length-append}
+use lib.ListN.{length, get_or, take, set, replicate, length-append, length-replicate}
 use lib.Seq.{take-suc, length-take-le, get_or-set_same, get_or-set_other}
-use lib.Dec.{leb, ltb, eqb}
-use borrow.Author.Tests.{lt-ltb, le-ltb, le-leb, lt-leb, eqb-true, eqb-false}
+use lib.Dec.{ltb, eqb}
+use borrow.Author.Tests.{ltb-true, ltb-false, eqb-true, eqb-false}
+use Rattle.std.proofs.lemmas.List.{get_or-replicate, get_or_past, set-get_or}
 use Rattle.format.specs.Bytes.{Bytes}
+use Rattle.format.proofs.Bytes.{bytes_nil, bytes_cons}
 use Rattle.format.specs.Twins.{number_of}
 use Rattle.decision.proofs.Search.{by_test}
 use Rattle.conversion.specs.Groups.{distinct}
@@ -77,11 +79,28 @@ bytes_set to g v h k b i =
     (λ t. let e = eqb-true i g t in rw (e, get_or-set_same to g v 0 h) k)
     (λ t. rw (get_or-set_other to g i v 0 (eqb-false i g t)) (b i))
 
-pub settled_none : (gs : List (List ℕ)) (to : List ℕ) (keep : List Bool) → Bytes to → Settled gs 0 to keep 0
+-- a table of zeros
+zeros_bytes : (n : ℕ) → Bytes (replicate n 0)
+zeros_bytes zero = bytes_nil
+zeros_bytes (suc n) = bytes_cons 0 (replicate n 0) (omega arith) (zeros_bytes n)
+
+none_marked : (n i : ℕ) → get_or (replicate n false) i false ≡ false
+none_marked n i =
+    by_test (ltb i n)
+    (λ t. get_or-replicate n i false false (ltb-true i n t))
+    (λ t. get_or_past (replicate n false) i false (omega (arith, length-replicate {A = Bool}, ltb-false i n t)))
+
+pub settled_none : (gs : List (List ℕ)) (n m : ℕ) → Settled gs 0 (replicate n 0) (replicate m false) 0
 unfolding pick
-settled_none gs to keep b =
+settled_none gs n m =
     let e = distinct_start gs in
-    record { numbers = λ i h. absurd (omega arith); kept = sym e; count = sym (ap length e); small = b }
+    record {
+      numbers = λ i h. absurd (omega arith);
+      kept = sym e;
+      later = λ i h. none_marked m i;
+      count = sym (ap length e);
+      small = zeros_bytes n;
+    }
 
 lower : {g : ℕ} (i : ℕ) → (i ≡ g → ⊥) → i < g + 1 → i < g
 lower {g} i d k = omega (arith, d)
@@ -129,36 +148,30 @@ module _ (gs : List (List ℕ)) (g : ℕ) (less : g < length gs) where
       settled_as = record {
         numbers = number_at;
         kept = kept_more;
+        later = λ i k. get_or-set_other keep g i b false (λ e. absurd (omega arith)) ∙ w.later i (omega arith);
         count = count_more;
         small
             = bytes_set to g v wide low w.small;
       }
 
   module _ (h : ℕ) (first : h ≡ number_of (get_or gs g []) gs) (to : List ℕ) (keep : List Bool) (next : ℕ)
-      (w : Settled gs g to keep next) (wide : g < length to) (long : g < length keep) (few : next < 256)
+      (w : Settled gs g to keep next) (wide : g < length to) (long : g < length keep)
     where
-      result : Bool → ℕ → Type 0
-      result b v = Settled gs (g + 1) (set to g v) (set keep g b) (next + cond b 1 0)
-
-      twin : h < g → result false (get_or to h 0)
-      unfolding result keep_if
-      twin l =
-          settled_as to keep next w wide long false (get_or to h 0) (w.small h)
+      pub twin_goes : h < g → Settled gs (g + 1) (set to g (get_or to h 0)) keep next
+      unfolding keep_if
+      twin_goes l =
+          let e : set keep g false ≡ keep = ap (set keep g) (sym (w.later g (omega arith))) ∙ set-get_or keep g false in
+          let z : next + 0 ≡ next = omega arith in
+          rw (e, z) at
+          (settled_as to keep next w wide long false (get_or to h 0) (w.small h)
           (w.numbers h l ∙ ap (λ (i : ℕ). number_of (get_or gs i []) (distinct gs)) first ∙ sym (number_twin gs g less))
-          (distinct_twin gs g less (omega arith) ∙ sym (append-nil (distinct (take g gs))))
+          (distinct_twin gs g less (omega arith) ∙ sym (append-nil (distinct (take g gs)))))
 
-      stays : h ≡ g → result true next
-      unfolding result keep_if
-      stays e =
-          settled_as to keep next w wide long true next few
-          (w.count ∙ sym (number_first gs g less (sym first ∙ e)))
-          (distinct_first gs g less (sym first ∙ e))
-
-      pub settled_more :
-          Settled gs (g + 1) (set to g (cond (ltb h g) (get_or to h 0) next)) (set keep g (leb g h)) (next + cond (leb g h) 1 0)
-      unfolding result
-      settled_more =
+      pub first_stays : g ≤ h → next < 256 → Settled gs (g + 1) (set to g next) (set keep g true) (next + 1)
+      unfolding keep_if
+      first_stays l few =
           ⊎_elim
-          (λ e. let k : h ≡ g = first ∙ e in rw (le-ltb h g (omega arith), le-leb g h (omega arith)) (stays k))
-          (λ l. let k : h < g = omega arith in rw (lt-ltb h g k, lt-leb g h k) (twin k))
+          (λ e.
+          settled_as to keep next w wide long true next few (w.count ∙ sym (number_first gs g less e)) (distinct_first gs g less e))
+          (λ k. absurd (omega arith))
           (first_or_twin gs g less)

@@ -3,3 +3,4 @@ pub mod Put
 pub mod Retype
 pub mod Kept
 pub mod Settle
+pub mod Ready

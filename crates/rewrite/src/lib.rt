@@ -4,8 +4,6 @@
 // retype.rt changes the groups that records in a buffer name, by a table.
 #![tactic(auto)]
 
-mod bytes; // bytes.rt: bytes copied
-mod word; // word.rt: numbers in bytes
 mod put; // put.rt: bytes and the header
 mod retype; // retype.rt: type fields changed in place
 mod section; // section.rt: the marked records of a section

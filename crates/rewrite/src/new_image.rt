@@ -5,49 +5,62 @@ ghost use Rattle.format.specs.Check.{LaidOut};
 ghost use Rattle.format.specs.Answers.{starts};
 ghost use Rattle.conversion.specs.Convert.{converted_image, Converts};
 ghost use Rattle.rewrite.specs.Inner.Put.{Wrote};
-ghost use Rattle.rewrite.specs.Inner.Settle.{Alike, Ready};
+ghost use Rattle.rewrite.specs.Inner.Settle.{Alike};
+ghost use Rattle.rewrite.specs.Inner.Ready.{Ready};
 
-use crate::bytes;
 use crate::put::{copy, put_header};
-use crate::retype::retype_records;
+use crate::retype::{IN_CONSTRAINT, IN_RULE, retype_records};
 use crate::section::{kept_length, put_kept};
-use crate::twins::settle;
+use crate::twins::{Renumbering, settle};
 use format::{Refusal, Starts, header};
 use image::word_at;
 
-// The header, the groups that stay, and all rules and constraints, whose references then follow; `kept` groups stay, and the
-// new image has `size` bytes.
-fn put_image(
-    image: &[u8],
-    sections: Starts,
-    to: &[u8; 256],
-    keep: &[bool; 1024],
-    kept: usize,
-    size: usize,
-    buffer: &mut [u8],
-)
-    requires { Ready image.now sections to.now keep.now kept
-        × (size ≡ length (converted_image image.now)) × (size ≤ length buffer.old) }
+// The header, the groups that stay, and all rules and constraints, whose references then follow. The new image has `size` bytes.
+fn put_image(image: &[u8], sections: Starts, new: &Renumbering, size: usize, buffer: &mut [u8])
+    requires ready { Ready image.now sections new.now }
+    requires size { size ≡ length (converted_image image.now) }
+    requires room { size ≤ length buffer.old }
     ensures { Wrote buffer.old buffer.new 0 size (converted_image image.now) }
 {
-    let groups = word_at(image, header::GROUPS_AT);
     let rules = word_at(image, header::RULES_AT);
     let constraints = word_at(image, header::CONSTRAINTS_AT);
-    let first = put_header(buffer, image[0], size, kept, rules, constraints);
-    let at = put_kept(buffer, first, image, header::SIZE, groups, keep);
+    put_header(buffer, image[0], size, new.kept, rules, constraints);
+    let at = put_kept(buffer, header::SIZE, &image[header::SIZE..], new.marks());
     let from = sections.rules;
     copy(buffer, at, &image[from..]);
-    retype_records(buffer, at, rules, 2, to);
-    retype_records(
-        buffer,
-        at + (sections.constraints - from),
-        constraints,
-        6,
-        to,
-    );
+    retype_records(&mut buffer[at..], rules, IN_RULE, &new.to);
+    let behind = at + (sections.constraints - from);
+    retype_records(&mut buffer[behind..], constraints, IN_CONSTRAINT, &new.to);
+}
+
+// The new image, where it fits. Where all groups stay, it is the old one.
+fn put_new(
+    image: &[u8],
+    sections: Starts,
+    new: &Renumbering,
+    buffer: &mut [u8],
+) -> Result<usize, Refusal>
+    requires { Ready image.now sections new.now }
+    ensures { Converts image.now buffer.old result buffer.new }
+{
+    let size = header::SIZE
+        + kept_length(&image[header::SIZE..], new.marks())
+        + (image.len() - sections.rules);
+    if buffer.len() < size {
+        return Err(Refusal {
+            number: 13,
+            place: 0,
+        });
+    }
+    if new.kept == new.groups {
+        return Ok(copy(buffer, 0, image));
+    }
+    put_image(image, sections, new, size, buffer);
+    Ok(size)
 }
 
 // An image that passes 1 to 7, whose sections start at given places and whose groups are first alike to given ones.
+#[tactic(auto, using(crate::proofs::AnswerLaws::groups_few))]
 pub(crate) fn put_converted(
     image: &[u8],
     sections: Starts,
@@ -59,21 +72,6 @@ pub(crate) fn put_converted(
     ensures { Converts image.now buffer.old result buffer.new }
 {
     let groups = word_at(image, header::GROUPS_AT);
-    let mut to = [0u8; 256];
-    let mut keep = [false; 1024];
-    let kept = settle(alike, groups, &mut to, &mut keep);
-    let size = header::SIZE
-        + kept_length(image, header::SIZE, groups, &keep)
-        + (image.len() - sections.rules);
-    if buffer.len() < size {
-        return Err(Refusal {
-            number: 13,
-            place: 0,
-        });
-    }
-    if kept == groups {
-        return Ok(bytes::copy(image, buffer));
-    }
-    put_image(image, sections, &to, &keep, kept, size, buffer);
-    Ok(size)
+    let alike = &alike[..groups];
+    put_new(image, sections, &settle(alike), buffer)
 }

@@ -3,16 +3,15 @@ ghost use Rattle.std.specs.Prelude.{[], ◌∷◌, ◌+◌, ◌≤◌, ◌<◌, 
 ghost use Rattle.format.specs.Bytes.{put_word};
 ghost use Rattle.rewrite.specs.Inner.Put.{Wrote};
 
-use crate::bytes;
-use crate::word::low;
-
 // The bytes of a part go to a place; the answer is the place past them.
+#[tactic(auto, using(crate::proofs::PutLaws::put_copied))]
 pub(crate) fn copy(buffer: &mut [u8], at: usize, part: &[u8]) -> usize
     requires { at + length part.now ≤ length buffer.old }
     ensures { Wrote buffer.old buffer.new at result part.now }
 {
-    let size = bytes::copy(part, &mut buffer[at..]);
-    at + size
+    let past = at + part.len();
+    buffer[at..past].copy_from_slice(part);
+    past
 }
 
 // The version, the length of the whole image, and the three counts.
@@ -23,21 +22,18 @@ pub(crate) fn put_header(
     groups: usize,
     rules: usize,
     constraints: usize,
-) -> usize
+)
     requires { (9 ≤ length buffer.old) × (size < 65536) × (groups < 65536) × (rules < 65536) × (constraints < 65536) }
-    ensures { Wrote buffer.old buffer.new 0 result
+    ensures { Wrote buffer.old buffer.new 0 9
         (version ∷ put_word size (put_word groups (put_word rules (put_word constraints [])))) }
 {
-    let part = [
-        version,
-        low(size / 256),
-        low(size),
-        low(groups / 256),
-        low(groups),
-        low(rules / 256),
-        low(rules),
-        low(constraints / 256),
-        low(constraints),
-    ];
-    bytes::copy(&part, buffer)
+    let [s, s_low] = (size as u16).to_be_bytes();
+    let [g, g_low] = (groups as u16).to_be_bytes();
+    let [r, r_low] = (rules as u16).to_be_bytes();
+    let [c, c_low] = (constraints as u16).to_be_bytes();
+    copy(
+        buffer,
+        0,
+        &[version, s, s_low, g, g_low, r, r_low, c, c_low],
+    );
 }

@@ -1,71 +1,78 @@
 // Type fields changed in place: the number of a group is looked up in a table, and all else stays. A group's number is below
 // 256, so it is the field's second byte.
-ghost use Rattle.std.specs.Prelude.{◌≡◌, ◌+◌, ◌-◌, ◌/◌, ◌≤◌, ◌<◌, length};
-ghost use Rattle.rewrite.specs.Inner.Retype.{new_low, field_at, fields_at, record_from, records_from, Lie};
+ghost use Rattle.std.specs.Prelude.{◌≡◌, ◌+◌, ◌≤◌, ◌<◌, length};
+ghost use Rattle.rewrite.specs.Inner.Retype.{new_low, field_at, changed, record_in, records_in};
+ghost use Rattle.rewrite.specs.Inner.Kept.{Lie};
 
-use crate::word::wide;
+use format::header;
+
+// The first two type fields of a record stand side by side: from this place on in a rule,
+pub(crate) const IN_RULE: usize = 2;
+
+// and from this one on in a constraint.
+pub(crate) const IN_CONSTRAINT: usize = 6;
 
 // The second byte of a type field, changed.
-fn renumbered(to: &[u8; 256], high: u8, low: u8) -> u8
+#[tactic(auto, unfolding(crate::specs::Inner::Retype::new_low))]
+fn renumbered(to: &[u8; header::MOST_GROUPS], high: u8, low: u8) -> u8
     ensures { result ≡ new_low to.now high low }
 {
-    let number = to[wide(low)];
     if high < 128 {
-        return low;
+        low
+    } else {
+        to[usize::from(low)]
     }
-    number
 }
 
 // The type field at a place.
-fn retype_field(buffer: &mut [u8], at: usize, to: &[u8; 256])
-    requires { at + 1 < length buffer.old }
-    ensures { buffer.new ≡ field_at to.now buffer.old at }
+#[tactic(auto, unfolding(crate::specs::Inner::Retype::field_at))]
+fn retype_field(part: &mut [u8], at: usize, to: &[u8; header::MOST_GROUPS])
+    requires { at + 1 < length part.old }
+    ensures { part.new ≡ field_at to.now part.old at }
 {
-    buffer[at + 1] = renumbered(to, buffer[at], buffer[at + 1]);
+    part[at + 1] = renumbered(to, part[at], part[at + 1]);
 }
 
-// The type fields from a place up to another.
-fn retype_list(buffer: &mut [u8], from: usize, end: usize, to: &[u8; 256])
-    requires { (from ≤ end) × (end ≤ length buffer.old) }
-    ensures { buffer.new ≡ fields_at to.now buffer.old from ((end - from) / 2) }
+// A list of type fields.
+#[tactic(auto, using(crate::proofs::FieldLaws::list_turns))]
+fn retype_list(list: &mut [u8], to: &[u8; header::MOST_GROUPS])
+    ensures { list.new ≡ changed to.now list.old }
 {
-    let mut at = from;
-    while 1 < end - at {
-        retype_field(buffer, at, to);
-        at += 2;
+    // By place: of what is written through `chunks_exact_mut` a proof knows the length alone.
+    for second in (1..list.len()).step_by(2) {
+        retype_field(list, second - 1, to);
     }
 }
 
-// The type fields of the record at a place, which ends at another: two from its byte `first` on, and those behind its eleventh
-// byte. A rule has none there.
-fn retype_record(buffer: &mut [u8], at: usize, end: usize, first: usize, to: &[u8; 256])
-    requires { (at + first + 4 ≤ end) × (end ≤ length buffer.old) }
-    ensures { buffer.new ≡ record_from first to.now buffer.old at end }
+// The type fields of a record: two from the place `first` on, and those behind its eleventh byte. A rule has none there.
+#[tactic(auto, using(crate::proofs::FieldLaws::record_ends))]
+fn retype_record(part: &mut [u8], first: usize, to: &[u8; header::MOST_GROUPS])
+    requires { first + 4 ≤ length part.old }
+    ensures { part.new ≡ record_in first to.now part.old }
 {
-    retype_field(buffer, at + first, to);
-    retype_field(buffer, at + first + 2, to);
-    if at + 11 < end {
-        retype_list(buffer, at + 11, end, to);
+    retype_field(part, first, to);
+    retype_field(part, first + 2, to);
+    if 11 < part.len() {
+        retype_list(&mut part[11..], to);
     }
 }
 
-// The type fields of so many records from a place on.
+// The type fields of so many records, one after the other. What stands behind them stays.
+#[tactic(auto, using(crate::proofs::FieldLaws::records))]
 pub(crate) fn retype_records(
-    buffer: &mut [u8],
-    from: usize,
+    records: &mut [u8],
     count: usize,
     first: usize,
-    to: &[u8; 256],
+    to: &[u8; header::MOST_GROUPS],
 )
-    requires { Lie first to.now buffer.old from count }
-    ensures { buffer.new ≡ records_from first to.now buffer.old from count }
+    requires { Lie (first + 4) records.old count }
+    ensures { records.new ≡ records_in first to.now records.old count }
 {
-    let mut at = from;
-    let mut left = count;
-    while 0 < left {
-        let end = at + wide(buffer[at]);
-        retype_record(buffer, at, end, first, to);
+    // By place: with the rest cut off by `split_at_mut` an invariant has no name for what stands before it.
+    let mut at = 0;
+    for _ in 0..count {
+        let end = at + usize::from(records[at]);
+        retype_record(&mut records[at..end], first, to);
         at = end;
-        left -= 1;
     }
 }

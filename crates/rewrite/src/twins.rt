@@ -1,42 +1,53 @@
 // Which groups stay, and the new number of each group.
-ghost use Rattle.std.specs.Prelude.{◌≡◌, cond, List, ℕ, ◌≤◌, ◌<◌, length, get_or, ltb};
-ghost use Rattle.format.specs.Bytes.{Bytes};
+ghost use Rattle.std.specs.Prelude.{◌≡◌, List, ℕ, ◌≤◌, length, take};
 ghost use Rattle.rewrite.specs.Inner.Settle.{Alike, Settled};
 
-use crate::section::where_set;
-use crate::word::{low, wide_word};
+use format::header;
 
-// The number of group g, which is alike to group h first: that of h, where it is an earlier one, else the next.
-fn number_for(to: &[u8; 256], g: usize, h: usize, next: usize) -> u8
-    requires { (g < 256) × (next < 256) }
-    ensures { result ≡ cond (ltb h g) (get_or to.now h 0) next }
-{
-    if h < g {
-        return to[h];
-    }
-    low(next)
+// The groups of an old image, by their old numbers: the new number of each, and whether it stays. Nothing is on a heap, so the
+// tables have room for the most groups, and only as many entries count as there are groups.
+#[derive(Drop)]
+pub(crate) struct Renumbering {
+    pub groups: usize,
+    pub to: [u8; header::MOST_GROUPS],
+    pub keep: [bool; header::MOST_GROUPS],
+    pub kept: usize,
 }
 
-// Of so many groups, the first of those that are alike stays. The answer is how many do.
-pub(crate) fn settle(
-    alike: &[u16; 256],
-    count: usize,
-    to: &mut [u8; 256],
-    keep: &mut [bool; 1024],
-) -> usize
-    requires { (count ≤ 256) × (length to.old ≡ 256) × Bytes to.old × (length keep.old ≡ 1024) }
-    ensures { (gs : List (List ℕ)) → Alike gs count alike.now
-        → Settled gs count to.new keep.new result }
-{
-    let mut next: usize = 0;
-    let mut g: usize = 0;
-    while g < count {
-        let h = wide_word(alike[g]);
-        let first = g <= h;
-        to[g] = number_for(to, g, h, next);
-        keep[g] = first;
-        next += where_set(first, 1);
-        g += 1;
+impl Renumbering {
+    // A mark for each group.
+    pub(crate) fn marks(&self) -> &[bool]
+        requires { self.now.groups ≤ 256 }
+        ensures { result.now ≡ take self.now.groups self.now.keep }
+    {
+        &self.keep[..self.groups]
     }
-    next
+}
+
+// Of the groups, each with the first that it is alike to, the first of those that are alike stays.
+pub(crate) fn settle(alike: &[u16]) -> Renumbering
+    requires { length alike.now ≤ 256 }
+    ensures groups { result.groups ≡ length alike.now }
+    ensures settled { (gs : List (List ℕ)) → Alike gs (length alike.now) alike.now
+        → Settled gs (length alike.now) result.to result.keep result.kept }
+{
+    let mut to = [0u8; header::MOST_GROUPS];
+    let mut keep = [false; header::MOST_GROUPS];
+    let mut kept: usize = 0;
+    for (g, first) in alike.iter().enumerate() {
+        let first = usize::from(*first);
+        if first < g {
+            to[g] = to[first];
+        } else {
+            to[g] = kept as u8;
+            keep[g] = true;
+            kept += 1;
+        }
+    }
+    Renumbering {
+        groups: alike.len(),
+        to,
+        keep,
+        kept,
+    }
 }

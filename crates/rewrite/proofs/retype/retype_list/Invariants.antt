@@ -1,14 +1,14 @@
--- `retype_list` meets its contract: the fields from `at` on are still to come. Assumes nothing.
-use Prim.Native.Nat.{◌-◌, ◌/◌, ◌≤◌}
+-- `retype_list` meets its contract: the fields from that of `second` on are still to come. Assumes nothing.
+use Prim.Native.Nat.{◌+◌, ◌-◌}
 use mathlib.Core.Path.{◌≡◌}
-use lib.ListN.{length}
-use Rattle.rewrite.specs.Inner.Retype.{fields_at}
+use mathlib.Core.List.{◌++◌}
+use lib.ListN.{length, take, drop}
+use Rattle.rewrite.specs.Inner.Retype.{changed}
 use Rattle.rewrite.proofs.retype.retype_list.Given as goal
 
-abbrev pub invariant-loop-at : goal.invariant-loop-at
-invariant-loop-at l =
-    (l.at ≤ l.end) × (length l.buffer ≡ length l.initial.buffer)
-    × (fields_at l.to l.initial.buffer l.from ((l.end - l.from) / 2) ≡ fields_at l.to l.buffer l.at ((l.end - l.at) / 2))
+abbrev pub invariant-loop-second : goal.invariant-loop-second
+invariant-loop-second l =
+    changed l.to l.initial.list ≡ take (l.second - 1) l.list ++ changed l.to (drop (l.second - 1) l.list)
 
-abbrev pub decreases-loop-at : goal.decreases-loop-at
-decreases-loop-at l = l.end - l.at
+abbrev pub decreases-loop-second : goal.decreases-loop-second
+decreases-loop-second l = length l.initial.list + 1 - l.second

@@ -1,34 +1,35 @@
 -- `settle` meets its contract: the groups before g are settled. Assumes nothing.
 use native.Mathlib.Omega.{arith}
-use mathlib.Core.Path.{◌≡◌, ◌∙◌}
+use mathlib.Core.Path.{refl, ◌∙◌}
 use lib.ListN.{length-set}
-use Rattle.rewrite.proofs.TwinLaws.{settled_none, settled_more}
+use Rattle.rewrite.proofs.TwinLaws.{settled_none, twin_goes, first_stays}
+use Rattle.rewrite.proofs.twins.settle.Goals.{then-first-g, else-first-g}
 use Rattle.rewrite.proofs.twins.settle.Goals as goal
 
 pub loop-g-init : goal.loop-g-init
-loop-g-init c = (omega arith, omega arith, c.requires.1, c.requires.3, λ gs w. settled_none gs _ _ c.requires.2)
+loop-g-init c = (omega arith, refl, refl, λ gs w. settled_none gs 256 256)
 
 pub loop-g-preserved : goal.loop-g-preserved
 loop-g-preserved c = let L = c.loop-g in
-    let a = c.args in
-    let h = c.wide_word-h in (
-      omega arith,
-      omega arith,
-      simp length-set L.invariant.2,
-      simp length-set L.invariant.3,
-      λ gs w.
-          let m = w.count in
-          let first = h.ensures.0 ∙ w.first L.g (omega arith) in
-          rw (c.number_for.ensures, c.where_set-next.ensures.0)
-          (settled_more gs L.g (omega arith) h.result first L.to L.keep L.next (L.invariant.4 gs w) (omega arith)
-          (omega arith) (omega arith)),
-    )
-
-pub returns : goal.returns
-returns c gs w = let L = c.loop-g in
-    let e : L.g ≡ c.args.count = omega arith in
-    rw e at (L.invariant.4 gs w)
-
-pub number_for-requires : goal.number_for-requires
-number_for-requires c =
-    (omega arith, omega arith)
+    elim c.if-first-g.branch [
+      | then-first-g w ↦ (
+        omega arith,
+        rw w.to-is (simp length-set L.invariant.1),
+        rw w.keep-is L.invariant.2,
+        λ gs a.
+            let n = a.count in
+            rw (w.to-is, w.keep-is, w.kept-is)
+            (twin_goes gs L.g (omega arith) _ (c.from-first.ensures ∙ a.first L.g (omega arith)) L.to L.keep L.kept (L.invariant.3 gs a)
+            (omega arith) (omega arith) w.if-first-g.true),
+      )
+      | else-first-g w ↦ (
+        omega arith,
+        rw w.to-is (simp length-set L.invariant.1),
+        rw w.keep-is (simp length-set L.invariant.2),
+        λ gs a.
+            let n = a.count in
+            rw (w.to-is, w.keep-is, w.kept-is)
+            (first_stays gs L.g (omega arith) _ (c.from-first.ensures ∙ a.first L.g (omega arith)) L.to L.keep L.kept (L.invariant.3 gs a)
+            (omega arith) (omega arith) w.if-first-g.false (omega arith)),
+      )
+    ]

@@ -1,5 +1,5 @@
 -- `settle` meets its contract: the groups before g are settled. Assumes nothing.
-use Prim.Native.Nat.{ℕ, ◌-◌, ◌≤◌}
+use Prim.Native.Nat.{ℕ, ◌≤◌}
 use mathlib.Core.Path.{◌≡◌}
 use mathlib.Core.List.{List}
 use lib.ListN.{length}
@@ -8,8 +8,5 @@ use Rattle.rewrite.proofs.twins.settle.Given as goal
 
 abbrev pub invariant-loop-g : goal.invariant-loop-g
 invariant-loop-g l =
-    (l.g ≤ l.count) × (l.next ≤ l.g) × (length l.to ≡ 256) × (length l.keep ≡ 1024)
-    × ((gs : List (List ℕ)) → Alike gs l.count l.alike → Settled gs l.g l.to l.keep l.next)
-
-abbrev pub decreases-loop-g : goal.decreases-loop-g
-decreases-loop-g l = l.count - l.g
+    (l.kept ≤ l.g) × (length l.to ≡ 256) × (length l.keep ≡ 256)
+    × ((gs : List (List ℕ)) → Alike gs (length l.alike) l.alike → Settled gs l.g l.to l.keep l.kept)
