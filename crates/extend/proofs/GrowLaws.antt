@@ -15,7 +15,6 @@ use Rattle.format.specs.Policy.{Policy, image_of, policy_of, start_of}
 use Rattle.format.specs.Check.{image_in, check_front}
 use Rattle.std.specs.Prelude.{Ok}
 use Rattle.format.specs.Answers.{starts}
-use Rattle.format.proofs.ByCase.{count_place_groups, count_place_rules, count_place_constraints}
 use Rattle.format.proofs.Chain.{or_else_split}
 use Rattle.format.proofs.Front.{front_accepted, front_bytes}
 use Rattle.format.proofs.Reach.{longest_image}
@@ -40,23 +39,20 @@ places a b = record { rules = a; constraints = b }
 
 starts_with :
     (s : Section) (p : Policy) (r : List ℕ) → Sound p → Sound (with_record s p r)
-    → moved_starts (starts (image_of p)) (count_place s) (length r) ≡ starts (image_of (with_record s p r))
+    → moved_starts (starts (image_of p)) s (length r) ≡ starts (image_of (with_record s p r))
 unfolding moved_starts with_record
 starts_with Groups p r w v =
     let n = flatten_more p.groups r in
-    rw count_place_groups
-    (ap₂ places (omega (arith, start_rules p w.regular, start_rules _ v.regular, n)) (omega (arith, start_constraints p w.regular, start_constraints _ v.regular, n)))
+    ap₂ places (omega (arith, start_rules p w.regular, start_rules _ v.regular, n)) (omega (arith, start_constraints p w.regular, start_constraints _ v.regular, n))
 starts_with Rules p r w v =
     let n = flatten_more p.rules r in
-    rw count_place_rules
-    (ap₂ places (omega (arith, start_rules p w.regular, start_rules _ v.regular)) (omega (arith, start_constraints p w.regular, start_constraints _ v.regular, n)))
+    ap₂ places (omega (arith, start_rules p w.regular, start_rules _ v.regular)) (omega (arith, start_constraints p w.regular, start_constraints _ v.regular, n))
 starts_with Constraints p r w v =
-    rw count_place_constraints
-    (ap₂ places (omega (arith, start_rules p w.regular, start_rules _ v.regular)) (omega (arith, start_constraints p w.regular, start_constraints _ v.regular)))
+    ap₂ places (omega (arith, start_rules p w.regular, start_rules _ v.regular)) (omega (arith, start_constraints p w.regular, start_constraints _ v.regular))
 
 pub starts_moved :
     (b r : List ℕ) → Bytes b → Bytes r → add_fault b r ≡ None
-    → moved_starts (starts (image_in b)) (count_place (section_of (get_or r 1 0))) (length r) ≡ starts (image_in (buffer_after b r))
+    → moved_starts (starts (image_in b)) (section_of (get_or r 1 0)) (length r) ≡ starts (image_in (buffer_after b r))
 unfolding add_fault
 starts_moved b r by bytes e =
     let s : Section = section_of (get_or r 1 0) in
@@ -67,7 +63,7 @@ starts_moved b r by bytes e =
     let lb : Bytes l = front_bytes (buffer_after b r) q.0 q.2 in
     let la = front_accepted (buffer_after b r) q.0 in
     let j : image_of (with_record s (policy_of (image_in b)) r) ≡ l = ap image_of (sym q.1) ∙ image_of_policy l lb la in
-    ap (λ (x : List ℕ). moved_starts (starts x) (count_place s) (length r)) (sym i)
+    ap (λ (x : List ℕ). moved_starts (starts x) s (length r)) (sym i)
     ∙ starts_with s (policy_of (image_in b)) r (policy_sound (image_in b) (front_bytes b f by) (front_accepted b f)) (rw q.1 at (policy_sound l lb la))
     ∙ ap starts j
 
@@ -89,13 +85,13 @@ starts_small b r e y is =
 
 pub grown :
     (at : ℕ) (b r : List ℕ) → Bytes b → Bytes r → add_fault b r ≡ None → (y : Starts) (slot : Slot) {z : Starts} {after : List ℕ}
-    → y ≡ starts (image_in b) → slot ≡ slot_of b r → z ≡ moved_starts y slot.field (length r)
-    → after ≡ inserted b r slot.at slot.size slot.field slot.count → Grows at b r (Ok z) after
+    → y ≡ starts (image_in b) → slot ≡ slot_of b r → z ≡ moved_starts y slot.section (length r)
+    → after ≡ inserted b r slot.at slot.size (count_place slot.section) slot.count → Grows at b r (Ok z) after
 unfolding slot_of moved_to
 grown at b r by bytes e y slot {z} {after} is where_to moved put =
-    let k : after ≡ buffer_after b r = put ∙ ap (λ (x : Slot). inserted b r x.at x.size x.field x.count) where_to ∙ buffer_inserted b r by e in
+    let k : after ≡ buffer_after b r = put ∙ ap (λ (x : Slot). inserted b r x.at x.size (count_place x.section) x.count) where_to ∙ buffer_inserted b r by e in
     let m : z ≡ starts (image_in after) =
-    moved ∙ ap₂ (λ (x : Starts) (q : Slot). moved_starts x q.field (length r)) is where_to ∙ starts_moved b r by bytes e
+    moved ∙ ap₂ (λ (x : Starts) (q : Slot). moved_starts x q.section (length r)) is where_to ∙ starts_moved b r by bytes e
     ∙ ap (λ (x : List ℕ). starts (image_in x)) (sym k) in
     record { answer = rw e (ap Ok m); buffer = k; accepted = rw k (added_accepted b r by bytes e).0 }
 

@@ -1,7 +1,6 @@
 pub mod MoveLaws
 pub mod PlanLaws
 pub mod WordLaws
-pub mod FormLaws
 pub mod RowLaws
 pub mod GrowLaws
 pub mod RowsLaws

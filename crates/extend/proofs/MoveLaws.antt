@@ -1,71 +1,61 @@
--- Laws of bytes moved up and written, by the turns of the loops. Assumes nothing.
---     up_none, up_turn     a move, from the back: nothing is moved yet, and one byte more
---     part_room            a part fits into what stands from a place on
---     steps_insert         the four steps of an insertion, one after the other
-use Prim.Native.Nat.{ℕ, suc, ◌+◌, ◌-◌, ◌<◌, ◌≤◌}
-use mathlib.Core.Path.{◌≡◌, sym, subst, ap, ◌∙◌}
+-- Laws of bytes moved up and written. Assumes nothing.
+--     word_put       the two bytes of a number, written at a place
+--     put_is         a record written over what was moved up is the record spliced in
+use Prim.Native.Nat.{ℕ, zero, suc, ◌+◌, ◌-◌, ◌/◌, ◌%◌, ◌<◌, ◌≤◌}
+use mathlib.Core.Path.{◌≡◌, refl, sym, ap, ◌∙◌}
 use mathlib.Core.List.{List, [], ◌∷◌, ◌++◌, append_assoc}
 use native.Mathlib.Omega.{arith}
-use native.Mathlib.Numerals.{add-one}
-use lib.ListN.{length, get_or, take, drop, set, take-append-drop, length-drop, get_or-append}
-use lib.Seq.{slice, slice_empty, slice-cons, take-suc, append_snoc, set_at, drop_at, get_or-take, length-take-le, take-append-le, drop-append-le, take-take, drop-drop, take-length}
-use Rattle.extension.specs.Inner.Splice.{put_word_at, spliced, inserted}
-use Rattle.extend.specs.Inner.Moves.{moved_up}
+use native.Mathlib.Nat.{sub-zero}
+use lib.ListN.{length, take, drop, set}
+use lib.Seq.{slice, paste, drop_at, length-take-le, take-append-le, take-take, drop-drop}
+use borrow.Rule.Slice.PartMut.{put_mid}
+use Rattle.std.specs.Int.{w16, to_be_bytes}
+use Rattle.extension.specs.Inner.Splice.{put_word_at, spliced}
 
-pub up_none : (l : List ℕ) (to by : ℕ) → l ≡ moved_up l to to by
-unfolding moved_up
-up_none l to by = rw slice_empty (sym (take-append-drop (to + by) l))
+-- ---- a number of two bytes
 
--- what lies below the bytes moved is as it was
-up_low : (l : List ℕ) (i to by : ℕ) → i ≤ to → to + by ≤ length l → (j : ℕ) → j < i + by → get_or (moved_up l i to by) j 0 ≡ get_or l j 0
-unfolding moved_up
-up_low l i to by h room j k =
-    get_or-append (take (i + by) l) _ 0 j (omega (arith, length-take-le (i + by) l (omega arith))) ∙ get_or-take (i + by) l j 0 k
+two_put : (at : ℕ) (l : List ℕ) (a b : ℕ) → at + 1 < length l → put_mid at 2 l (a ∷ b ∷ []) ≡ set (set l at a) (at + 1) b
+two_put at [] a b h = absurd (omega arith)
+two_put zero (x ∷ []) a b h = absurd (omega arith)
+two_put zero (x ∷ y ∷ l) a b h = refl
+two_put (suc at) (x ∷ l) a b h =
+    let n : suc at + 1 ≡ suc (at + 1) = omega arith in
+    ap (λ (t : List ℕ). x ∷ t) (two_put at l a b (omega arith)) ∙ ap (λ (i : ℕ). set (set (x ∷ l) (suc at) a) i b) (sym n)
 
-up_more : (l : List ℕ) (i to by : ℕ) → i < to → to + by ≤ length l → set (moved_up l (i + 1) to by) (i + by) (get_or l i 0) ≡ moved_up l i to by
-unfolding moved_up
-up_more l i to by h room =
-    let e : i + 1 + by ≡ suc (i + by) = omega arith in
-    let t : take (i + 1 + by) l ≡ take (i + by) l ++ (get_or l (i + by) 0 ∷ []) = ap (λ (n : ℕ). take n l) e ∙ take-suc l (i + by) 0 (omega arith) in
-    let s : slice i to l ≡ get_or l i 0 ∷ slice (i + 1) to l = slice-cons i to l 0 h (omega arith) ∙ rw add-one in
-    rw (t, s, append_snoc (take (i + by) l) (get_or l (i + by) 0) (slice (i + 1) to l ++ drop (to + by) l))
-    (set_at (take (i + by) l) (get_or l (i + by) 0) _ (get_or l i 0) (i + by) (length-take-le (i + by) l (omega arith)))
+pub word_put : (at n : ℕ) (l b : List ℕ) → n < 65536 → at + 1 < length l → b ≡ to_be_bytes w16 n → put_mid at (at + 2 - at) l b ≡ put_word_at l at n
+unfolding put_word_at
+word_put at n l b small room is =
+    let two : at + 2 - at ≡ 2 = omega arith in
+    let high : n / 256 % 256 ≡ n / 256 = omega arith in
+    rw (two, is) (two_put at l (n / 256 % 256) (n % 256) room ∙ ap (λ (h : ℕ). set (set l at h) (at + 1) (n % 256)) high)
 
-pub up_turn :
-    (l b : List ℕ) (i to by : ℕ) → b ≡ moved_up l i to by → 0 < i → i ≤ to → to + by ≤ length l
-    → set b (i - 1 + by) (get_or b (i - 1) 0) ≡ moved_up l (i - 1) to by
-up_turn l b i to by e p h room =
-    let q : b ≡ moved_up l (i - 1 + 1) to by = e ∙ ap (λ (n : ℕ). moved_up l n to by) (omega arith) in
-    rw (q, up_low l (i - 1 + 1) to by (omega arith) room (i - 1) (omega arith)) (up_more l (i - 1) to by (omega arith) room)
+-- ---- a record spliced in
 
-pub part_room : (l : List ℕ) (at n : ℕ) → at + n ≤ length l → n ≤ length (take (length l - at) (drop at l))
-part_room l at n h = omega (arith, length-take-le (length l - at) (drop at l) (omega (arith, length-drop at l)))
+slice_is : (at size : ℕ) (l : List ℕ) → at ≤ size → take (size - at) (drop at l) ≡ slice at size l
+slice_is zero size l h = rw (sub-zero size)
+slice_is (suc at) zero l h = absurd (omega arith)
+slice_is (suc at) (suc size) [] h = go (suc size - suc at) where
+  go : (n : ℕ) → ◌≡◌ {A = List ℕ} (take n []) []
+  go zero = refl
+  go (suc n) = refl
+slice_is (suc at) (suc size) (x ∷ l) h =
+    let n : suc size - suc at ≡ size - at = omega arith in
+    ap (λ (m : ℕ). take m (drop at l)) n ∙ slice_is at size l (omega arith)
 
--- what was moved up, with the part over the first of what stands from its place on, is the part spliced in
-splice_steps :
-    (l r : List ℕ) (at size n k : ℕ) → n ≡ length r → at ≤ size → size + n ≤ length l → n ≤ length (take k (drop at (moved_up l at size n)))
-    → take at (moved_up l at size n) ++ (take n r ++ drop n (take k (drop at (moved_up l at size n))) ++ drop k (drop at (moved_up l at size n)))
-    ≡ spliced l r at size
-unfolding moved_up spliced
-splice_steps l r at size n k e h room fits =
+pub put_is :
+    (l r : List ℕ) (at size : ℕ) → at ≤ size → size + length r ≤ length l
+    → put_mid at (at + length r - at) (paste l (at + length r) (drop at l) (size - at)) r ≡ spliced l r at size
+unfolding spliced
+put_is l r at size h room =
+    let n : ℕ = length r in
     let rest : List ℕ = slice at size l ++ drop (size + n) l in
-    let m : List ℕ = take (at + n) l ++ rest in
+    let k : at + n - at ≡ n = omega arith in
+    let e : at + n + (size - at) ≡ size + n = omega arith in
     let low : length (take (at + n) l) ≡ at + n = length-take-le (at + n) l (omega arith) in
-    let t : take at m ≡ take at l = take-append-le at (take (at + n) l) rest (omega arith) ∙ take-take at (at + n) l (omega arith) in
-    let d : drop n (take k (drop at m)) ++ drop k (drop at m) ≡ rest =
-    sym (drop-append-le n (take k (drop at m)) _ fits)
-    ∙ ap (drop n) (take-append-drop k (drop at m))
-    ∙ drop-drop n at m
-    ∙ drop_at (take (at + n) l) rest (at + n) low in
-    rw (t, append_assoc, d, e, take-length)
-
-pub steps_insert :
-    (l r b₁ d b₃ b₄ : List ℕ) (at size field count n : ℕ) → n ≡ length r → at ≤ size → size + n ≤ length l
-    → b₁ ≡ moved_up l at size n → at + n ≤ length b₁ → d ≡ take n r ++ drop n (take (length b₁ - at) (drop at b₁))
-    → b₃ ≡ put_word_at (take at b₁ ++ (d ++ drop (length b₁ - at) (drop at b₁))) 1 (size + n) → b₄ ≡ put_word_at b₃ field (count + 1)
-    → b₄ ≡ inserted l r at size field count
-unfolding inserted
-steps_insert l r b₁ d b₃ b₄ at size field count n e h room e₁ fits e₂ e₃ e₄ =
-    let m : List ℕ = moved_up l at size n in
-    let fit : n ≤ length (take (length m - at) (drop at m)) = part_room m at n (subst (λ b. at + n ≤ length b) e₁ fits) in
-    rw (e₄, e₃, e₂, e₁, splice_steps l r at size n (length m - at) e h room fit, e)
+    let moved : paste l (at + n) (drop at l) (size - at) ≡ take (at + n) l ++ rest =
+    append_assoc (take (at + n) l) (take (size - at) (drop at l)) (drop (at + n + (size - at)) l) ∙ rw (slice_is at size l h, e) in
+    let front : take at (take (at + n) l ++ rest) ≡ take at l =
+    take-append-le at (take (at + n) l) rest (omega arith) ∙ take-take at (at + n) l (omega arith) in
+    let behind : drop n (drop at (take (at + n) l ++ rest)) ≡ rest =
+    drop-drop n at (take (at + n) l ++ rest) ∙ drop_at (take (at + n) l) rest (at + n) low in
+    rw (k, moved, front, behind)

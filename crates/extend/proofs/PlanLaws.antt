@@ -1,13 +1,12 @@
 -- Laws of the plan of an add, by the ways that the code goes. Assumes nothing.
 use Prim.Native.Nat.{ℕ, suc, ◌+◌, ◌-◌, ◌≤◌, ◌<◌}
 use mathlib.Core.Path.{◌≡◌, refl, sym, ap, ◌∙◌}
-use mathlib.Core.Bool.{Bool, true, false}
+use mathlib.Core.Bool.{Bool, true, false, ◌||◌}
 use Rattle.std.specs.Prelude.{None, Some, Err}
-use mathlib.Core.List.{List, [], ◌∷◌}
+use mathlib.Core.List.{List, []}
 use native.Mathlib.Omega.{arith}
-use native.Mathlib.Nat.{add-sub_cancel_left}
-use lib.ListN.{length, get_or, take, drop, drop_of_length-le}
-use lib.Seq.{drop-cons}
+use lib.ListN.{length, get_or, take, drop, length-drop, drop_of_length-le}
+use lib.Seq.{drop-cons, drop-drop, get_or-drop}
 use borrow.Author.Tests.{le-ltb, lt-ltb, lt-leb}
 use Rattle.format.specs.declared.Section.{Section}
 use Rattle.format.specs.declared.Section.TheVariants.{Groups, Rules, Constraints}
@@ -15,7 +14,7 @@ use Rattle.format.specs.declared.Misread.TheVariants.{Malformed, BadField}
 use Rattle.format.specs.declared.Starts.{Starts}
 use Rattle.format.specs.Bytes.{Bytes, word_at}
 use Rattle.format.specs.Refusals.{refusal}
-use Rattle.format.specs.Format.{limit_of, count_place, count_of, kind_in, first_record, shape_ok}
+use Rattle.format.specs.Format.{limit_of, count_of, kind_in, first_record, shape_ok}
 use Rattle.format.specs.Policy.{Policy, policy_of, record_at, place_of}
 use Rattle.format.specs.Twins.{same_bytes, listed}
 use Rattle.format.specs.Inner.Places.{Stands}
@@ -24,7 +23,7 @@ use Rattle.std.specs.Prelude.{Ok}
 use Rattle.format.specs.Answers.{outcome, starts}
 use Rattle.format.proofs.Chain.{or_else_split, or_else_next, or_else_first, need_none, need_some}
 use Rattle.format.proofs.Shapes.{Formed, record_part, length_least, length_cases, shape_length, shape_kind, first_whole, read_whole, read_bad_field, read_malformed}
-use Rattle.format.proofs.ByCase.{limit_most, count_place_most}
+use Rattle.format.proofs.ByCase.{limit_most}
 use Rattle.format.proofs.Accepted.{accepted_header, accepted_body, start_inside, start_least, record_stands, group_nth, place_first, place_next, start_groups}
 use Rattle.format.proofs.Twins.{listed_nil, listed_cons}
 use Rattle.format.proofs.Images.{group_count}
@@ -33,6 +32,7 @@ use Rattle.format.proofs.Reach.{longest_image}
 use Rattle.extension.specs.Add.{section_of, added_twin, field_fault, new_number, own_fault, add_fault}
 use Rattle.extension.specs.Inner.Splice.{end_of_section}
 use Rattle.extension.proofs.Adds.{section_of_lem, own_passes, passes_own}
+use Rattle.extend.proofs.WordLaws.{part_is}
 use Rattle.extend.specs.Inner.Plans.{slot_at, slot_of}
 use Rattle.extend.specs.Inner.Moves.{Fits}
 
@@ -153,14 +153,13 @@ slot_fits b r bytes e =
       within = omega (arith, end_inside (image_in b) ok s);
       room = own.room;
       size = omega (arith, longest_image (image_in b) ok, shape_length r own.formed.shape, bytes 0);
-      field = count_place_most s;
       count = omega (arith, own.few, limit_most s);
     }
 
 pub slot_made :
-    (b r : List ℕ) (s : Section) (at size field count : ℕ) → size ≡ word_at b 1 → field ≡ count_place s → count ≡ count_of b s → own_fault b r ≡ None
-    → Ok (record { at = at; size = size; field = field; count = count }) ≡ outcome (own_fault b r) (slot_at b s at)
-slot_made b r s at size field count x y z e = rw (e, x, y, z)
+    (b r : List ℕ) (s : Section) (at size count : ℕ) → size ≡ word_at b 1 → count ≡ count_of b s → own_fault b r ≡ None
+    → Ok (record { at = at; size = size; section = s; count = count }) ≡ outcome (own_fault b r) (slot_at b s at)
+slot_made b r s at size count x z e = rw (e, x, z)
 
 -- ---- the groups, one after the other
 
@@ -168,46 +167,56 @@ module _ (l part : List ℕ) (e : Accepted l) where
   abbrev gs : List (List ℕ)
   gs = (policy_of l).groups
 
-  -- the record at a group's place
-  module _ (k : ℕ) (h : k < count_of l Groups) where
+  pub header_inside : 9 ≤ length l
+  header_inside = (accepted_header l e).long
+
+  pub groups_start : take (length l - 9) (drop 9 l) ≡ drop (place_of l Groups 0) l
+  groups_start = part_is l 9 ∙ ap (λ (i : ℕ). drop i l) (sym (start_groups l) ∙ sym (place_first l Groups))
+
+  -- the part of the image from a group's place on, and the length byte there
+  module _ (k : ℕ) (h : k < count_of l Groups) (rest : List ℕ) (left : rest ≡ drop (place_of l Groups k) l) where
     group_stands : Stands l (place_of l Groups k) (record_at l (place_of l Groups k))
     group_stands = record_stands l e Groups k h
 
-    pub group_byte : place_of l Groups k < length l
-    group_byte = let s = group_stands in omega (arith, s.some, s.inside)
+    size_is : length rest ≡ length l - place_of l Groups k
+    size_is = ap length left ∙ length-drop (place_of l Groups k) l
 
-    pub group_end : place_of l Groups k + get_or l (place_of l Groups k) 0 ≤ length l
-    group_end = let s = group_stands in omega (arith, s.size, s.inside)
+    byte_is : get_or rest 0 0 ≡ get_or l (place_of l Groups k) 0
+    byte_is =
+        ap (λ (x : List ℕ). get_or x 0 0) left ∙ get_or-drop (place_of l Groups k) l 0 0 ∙ ap (λ (i : ℕ). get_or l i 0) (omega arith)
 
-    pub group_part :
-        take (place_of l Groups k + get_or l (place_of l Groups k) 0 - place_of l Groups k) (drop (place_of l Groups k) l) ≡ get_or (policy_of l).groups k []
-    group_part =
-        let s = group_stands in
-        rw add-sub_cancel_left
-        (ap (λ (n : ℕ). take n (drop (place_of l Groups k) l)) (sym s.size) ∙ sym (record_part l _ s) ∙ sym (group_nth l k h))
+    pub group_byte : 0 < length rest
+    group_byte = let s = group_stands in omega (arith, s.some, s.inside, size_is)
 
-    -- as the code has them: the place, and the length byte there
-    pub group_part_at :
-        (at n : ℕ) → at ≡ place_of l Groups k → n ≡ get_or l (place_of l Groups k) 0 → take (at + n - at) (drop at l) ≡ get_or (policy_of l).groups k []
-    group_part_at at n a b = rw (a, b) group_part
+    module _ (n : ℕ) (is : n ≡ get_or rest 0 0) where
+      pub group_end : n ≤ length rest
+      group_end = let s = group_stands in omega (arith, s.size, s.inside, size_is, byte_is)
 
-    rest_is : drop k gs ≡ get_or gs k [] ∷ drop (suc k) gs
-    rest_is = drop-cons gs k [] (omega (arith, group_count l))
+      group_first : take n rest ≡ get_or gs k []
+      group_first =
+          let s = group_stands in
+          let q : n ≡ length (record_at l (place_of l Groups k)) = omega (arith, s.size, byte_is) in
+          rw (left, q) (sym (record_part l _ s) ∙ sym (group_nth l k h))
 
-    pub listed_here : same_bytes part (get_or (policy_of l).groups k []) ≡ true → listed part (drop k (policy_of l).groups) ≡ true
-    listed_here t = ap (listed part) rest_is ∙ listed_cons part _ _ ∙ rw t
+      pub group_next : drop n rest ≡ drop (place_of l Groups (k + 1)) l
+      group_next =
+          let q : place_of l Groups k + n ≡ place_of l Groups (k + 1) = omega (arith, byte_is, place_next l Groups k) in
+          rw left (drop-drop n (place_of l Groups k) l ∙ ap (λ (i : ℕ). drop i l) q)
 
-    pub listed_on : same_bytes part (get_or (policy_of l).groups k []) ≡ false → listed part (drop k (policy_of l).groups) ≡ listed part (drop (suc k) (policy_of l).groups)
-    listed_on t = ap (listed part) rest_is ∙ listed_cons part _ _ ∙ rw t
+      groups_left : {t : Bool} → same_bytes part (take n rest) ≡ t → listed part (drop k gs) ≡ (t || listed part (drop (k + 1) gs))
+      groups_left q =
+          let one : suc k ≡ k + 1 = omega arith in
+          ap (listed part) (drop-cons gs k [] (omega (arith, group_count l))) ∙ listed_cons part _ _
+          ∙ rw (← group_first, q, one)
 
-  pub listed_end : (k : ℕ) → count_of l Groups ≤ k → listed part (drop k (policy_of l).groups) ≡ false
+      pub listed_here : same_bytes part (take n rest) ≡ true → listed part (drop k gs) ≡ true
+      listed_here q = groups_left q
+
+      pub listed_on : same_bytes part (take n rest) ≡ false → listed part (drop k gs) ≡ listed part (drop (k + 1) gs)
+      listed_on q = groups_left q
+
+  pub listed_end : (k : ℕ) → count_of l Groups ≤ k → listed part (drop k gs) ≡ false
   listed_end k h = ap (listed part) (drop_of_length-le gs {i = k} (omega (arith, group_count l))) ∙ listed_nil part
-
-pub group_next : (l : List ℕ) (k at n : ℕ) → at ≡ place_of l Groups k → n ≡ get_or l (place_of l Groups k) 0 → at + n ≡ place_of l Groups (k + 1)
-group_next l k at n a b = rw (a, b) (sym (place_next l Groups k))
-
-pub groups_start : (l : List ℕ) → place_of l Groups 0 ≡ 9
-groups_start l = place_first l Groups ∙ start_groups l
 
 pub twin_groups : (p : Policy) (r : List ℕ) → added_twin Groups p r ≡ listed r p.groups
 unfolding added_twin

@@ -5,19 +5,17 @@
 use Prim.Native.Nat.{ℕ, suc, ◌+◌, ◌≤◌, ◌<◌}
 use mathlib.Core.Path.{◌≡◌, refl, sym, ap, ap₂, ◌∙◌}
 use mathlib.Core.Bool.{Bool, true, false}
-use Rattle.std.specs.Prelude.{Option, None, Some, Ok}
 use mathlib.Core.List.{List, [], ◌∷◌}
 use native.Mathlib.Omega.{arith}
 use lib.ListN.{length, get_or, take, drop, drop_of_length-le, length-drop}
 use lib.Seq.{length-take-le, drop-drop, drop-cons, get_or-drop}
 use lib.Dec.{ltb}
-use borrow.Author.Tests.{lt-ltb, le-ltb, ltb-true, ltb-false}
+use borrow.Author.Tests.{ltb-true, ltb-false}
 use Rattle.format.specs.declared.Refusal.{Refusal}
 use Rattle.format.specs.declared.Starts.{Starts}
 use Rattle.format.specs.Refusals.{refusal}
 use Rattle.format.specs.Sample.{empty}
 use Rattle.format.specs.Check.{image_in, check_front}
-use Rattle.std.specs.Prelude.{Err}
 use Rattle.format.specs.Answers.{starts, Outcome}
 use Rattle.format.proofs.Chain.{outcome_gives, outcome_refused}
 use Rattle.format.proofs.Front.{front_of, image_in_of}
@@ -30,6 +28,7 @@ use Rattle.text.specs.Inner.Parts.{run_of, rest}
 use Rattle.text.specs.Inner.Read.{row_of}
 use Rattle.text.proofs.Parts.{run_most, split_run, rest_end, rest_more, run_next, run_stop}
 use Rattle.text.proofs.Rows.{row_record, rows_kept, rows_first_added, rows_first_refused}
+use Rattle.std.specs.Prelude.{None, Some, Ok, Err}
 use Rattle.extend.specs.declared.row.Row.{Row}
 use Rattle.extend.specs.Inner.Filled.{record_of_part, Records}
 use Rattle.extend.specs.Inner.Grow.{Grows}
@@ -55,7 +54,7 @@ rows_feed text at b h e =
     ap (λ (l : List ℕ). rows_from at (split 10 l) b) d ∙ empty_row at (split 10 (drop (at + 1) text)) b
 
 module _ (text : List ℕ) (at : ℕ) (b : List ℕ) where
-  module _ (h : at < length text) (no_feed : get_or text at 0 ≡ 10 → ⊥) (r : Row) (part : List ℕ) (s : Records text at r part) where
+  module _ (h : at < length text) (no_feed : get_or text at 0 ≡ 10 → ⊥) where
     abbrev row : List ℕ
     row = row_of (drop at text)
 
@@ -70,18 +69,16 @@ module _ (text : List ℕ) (at : ℕ) (b : List ℕ) where
     unfolding row_of
     rows_are = split_run 10 (drop at text)
 
-    is_record : (o : Option (List ℕ)) → record_of_part r.length part ≡ o → (row_fault at row b ≡ record_fault at o b) × (after_row row b ≡ after_record o b)
-    is_record o e = row_record at row b o (omega (arith, size, some_bytes)) (s.bytes ∙ e)
-
-    pub rows_outside : r.length < 2 → From text at b ≡ record { answer = Err (refusal 18 at); buffer = b }
+    pub rows_outside : (part : List ℕ) → Records text at None part → From text at b ≡ record { answer = Err (refusal 18 at); buffer = b }
     unfolding record_of_part record_fault
-    rows_outside k =
-        rw rows_are (rows_first_refused at row (rest 10 (drop at text)) b (is_record None (rw (lt-ltb r.length 2 k))).0)
+    rows_outside part s =
+        rw rows_are
+        (rows_first_refused at row (rest 10 (drop at text)) b (row_record at row b None (omega (arith, size, some_bytes)) s.bytes).0)
 
-    module _ (k : 2 ≤ r.length) where
+    module _ (r : Row) (part : List ℕ) (s : Records text at (Some r) part) where
       whole : (row_fault at row b ≡ moved_to at (add_fault b (take r.length part))) × (after_row row b ≡ buffer_after b (take r.length part))
       unfolding record_of_part record_fault after_record
-      whole = is_record (Some (take r.length part)) (rw (le-ltb r.length 2 k))
+      whole = row_record at row b (Some (take r.length part)) (omega (arith, size, some_bytes)) s.bytes
 
       pub rows_refused :
           {f : Refusal} {g : Outcome Starts} {after : List ℕ} → g ≡ Err f → Grows at b (take r.length part) g after
@@ -100,11 +97,11 @@ module _ (text : List ℕ) (at : ℕ) (b : List ℕ) where
         rows_starts = passed.1
 
         pub rows_ahead : (at < r.end) × (r.end ≤ length text)
-        rows_ahead = (omega (arith, s.end k, some_bytes), omega (arith, s.end k, run_most 10 (drop at text), length-drop at text))
+        rows_ahead = (omega (arith, s.ends.end, some_bytes), omega (arith, s.ends.end, run_most 10 (drop at text), length-drop at text))
 
         one_row : From text at b ≡ rows_from (r.end + 1) (rest 10 (drop at text)) after
         one_row =
-            let n : at + suc (length row) ≡ r.end + 1 = omega (arith, s.end k, size) in
+            let n : at + suc (length row) ≡ r.end + 1 = omega (arith, s.ends.end, size) in
             rw rows_are
             (rows_first_added at row (rest 10 (drop at text)) b (whole.0 ∙ passed.0)
             ∙ ap (λ (x : ℕ). rows_from x (rest 10 (drop at text)) (after_row row b)) n
@@ -113,18 +110,18 @@ module _ (text : List ℕ) (at : ℕ) (b : List ℕ) where
         at_end : length text ≤ r.end → From text at b ≡ From text r.end after
         unfolding rows_from
         at_end m =
-            let x : rest 10 (drop at text) ≡ [] = rest_end 10 (drop at text) (omega (arith, s.end k, length-drop at text)) in
+            let x : rest 10 (drop at text) ≡ [] = rest_end 10 (drop at text) (omega (arith, s.ends.end, length-drop at text)) in
             one_row ∙ ap (λ (rows : List (List ℕ)). rows_from (r.end + 1) rows after) x ∙ sym (rows_past text r.end after m)
 
         at_feed : r.end < length text → From text at b ≡ From text r.end after
         at_feed m =
-            let room : run_of 10 (drop at text) < length (drop at text) = omega (arith, s.end k, length-drop at text) in
-            let place : at + suc (run_of 10 (drop at text)) ≡ r.end + 1 = omega (arith, s.end k) in
+            let room : run_of 10 (drop at text) < length (drop at text) = omega (arith, s.ends.end, length-drop at text) in
+            let place : at + suc (run_of 10 (drop at text)) ≡ r.end + 1 = omega (arith, s.ends.end) in
             let behind : drop (suc (run_of 10 (drop at text))) (drop at text) ≡ drop (r.end + 1) text =
             drop-drop (suc (run_of 10 (drop at text))) at text ∙ ap (λ (x : ℕ). drop x text) place in
             let x : rest 10 (drop at text) ≡ split 10 (drop (r.end + 1) text) = rest_more 10 (drop at text) room ∙ ap (split 10) behind in
             let feed : get_or text r.end 0 ≡ 10 =
-            ap (λ (n : ℕ). get_or text n 0) (s.end k) ∙ sym (get_or-drop at text (run_of 10 (drop at text)) 0) ∙ run_stop 10 (drop at text) room in
+            ap (λ (n : ℕ). get_or text n 0) (s.ends.end) ∙ sym (get_or-drop at text (run_of 10 (drop at text)) 0) ∙ run_stop 10 (drop at text) room in
             one_row ∙ ap (λ (rows : List (List ℕ)). rows_from (r.end + 1) rows after) x ∙ sym (rows_feed text r.end after m feed)
 
         pub rows_added_lem : From text at b ≡ From text r.end after

@@ -1,106 +1,114 @@
--- Laws of the walks over a word. Assumes nothing.
---     end-..            the place past a word, from the place come to
---     same-..           two words, byte by byte
---     digits-..         the number of a word's digits, from the number come to
---     upto-..           a number in its range
---     says-..           what a word says, and the place past it
---     decimal-..        by how many digits there are, and the first
---     letter-.., other_none, says_behind   by the first byte: a letter, or another
+-- Laws of what a word says. Assumes nothing.
+--     part_is           the part of a list from a place to the end
+--     word_found, end_inside   where a word ends: at the first byte that ends one, and within the text
 --     word_is           the bytes up to the place past a word are that word
-use Prim.Native.Nat.{ℕ, zero, suc, ◌+◌, ◌-◌, ◌*◌, ◌≤◌, ◌<◌}
+--     same_as           `==` of two words
+--     digit-.., digits-..   the number of a word's digits, from the number come to
+--     upto-..           a number in its range
+--     said-..           what the code has of what a word says; said_or, said_or_or of the first of two or three that says something
+--     number-..         a number, from what its digits write
+--     letter-.., name-..   a number behind a letter, and the word of a name
+use Prim.Native.Nat.{ℕ, suc, ◌+◌, ◌-◌, ◌*◌, ◌≤◌, ◌<◌}
 use mathlib.Core.Path.{◌≡◌, refl, sym, ap, ◌∙◌}
 use mathlib.Core.Bool.{Bool, true, false, cond, ◌&&◌, ◌||◌}
-use Rattle.std.specs.Prelude.{Option, None, Some}
 use mathlib.Core.List.{List, [], ◌∷◌}
 use native.Mathlib.Omega.{arith}
-use lib.ListN.{length, get_or, take, drop, drop_of_length-le, length-drop}
-use lib.Seq.{drop-cons, length-take-le, get_or-take, get_or-drop}
-use lib.Dec.{leb, eqb}
-use borrow.Author.Tests.{le-leb, lt-leb, leb-true, eq-eqb, ne_eqb}
-use Rattle.format.proofs.Chain.{or_else_none, or_else_next, or_else_first, or_else_nothing}
-use Rattle.text.specs.declared.Field.TheVariants.{AnyType, Condition}
-use Rattle.text.specs.Words.{ascii, same, is_digit, digits_from, number_of, up_to, number_to, named, above, lettered}
-use Rattle.text.specs.Rows.{value_of}
+use lib.ListN.{length, get_or, take, drop, length-drop}
+use lib.Seq.{drop-cons, take-length, length-take-le, get_or-take}
+use lib.Dec.{ltb, eqb}
+use borrow.Author.Tests.{le-leb, lt-leb, ltb-false, eq-eqb, ne_eqb}
+use Rattle.format.specs.Refusals.{◌or_else◌}
+use Rattle.format.proofs.Chain.{or_else_next, or_else_first}
+use Rattle.std.specs.Prelude.{Option, Some, None, MatchOption, unwrap_or}
+use Rattle.std.specs.Bool.{then_some}
+use Rattle.std.specs.List.{position_or_len}
+use Rattle.std.specs.Cmp.Lexicographic.{pointwise}
+use Rattle.std.proofs.lemmas.Bool.Decides.{nat_tests}
+use Rattle.std.proofs.lemmas.List.Recursion.{is_position_or_len}
+use Rattle.text.specs.Words.{same, is_digit, digits_from, number_of, up_to, number_to, named, above, lettered}
 use Rattle.text.specs.Inner.Read.{word_size, word_of}
 use Rattle.text.proofs.Words.{number_most}
-use Rattle.text.proofs.Read.{word_most, word_none, word_space, word_feed, word_next, word_byte, word_empty}
+use Rattle.text.proofs.Read.{word_most, word_next, word_byte, word_empty}
 use Rattle.extend.specs.declared.spell.Word.{Word}
-use Rattle.extend.specs.Inner.Filled.{said, Says}
+use Rattle.extend.specs.Inner.Filled.{said}
 
--- the element at a place, and those behind it
-next : (l : List ℕ) (i : ℕ) → i < length l → drop i l ≡ get_or l i 0 ∷ drop (i + 1) l
-next l i h = let e : suc i ≡ i + 1 = omega arith in drop-cons l i 0 h ∙ ap (λ (k : ℕ). get_or l i 0 ∷ drop k l) e
+-- the part from a place to the end
+pub part_is : (l : List ℕ) (i : ℕ) → take (length l - i) (drop i l) ≡ drop i l
+part_is l i = ap (λ (n : ℕ). take n (drop i l)) (sym (length-drop i l)) ∙ take-length (drop i l)
 
 -- ---- the place past a word
 
-module _ (l : List ℕ) (from i : ℕ) (h : from + word_size (drop from l) ≡ i + word_size (drop i l)) where
-  pub end_last : length l ≤ i → i ≡ from + word_size (drop from l)
-  end_last k = omega (arith, h, word_none l i k)
+abbrev pub ends_word : ℕ → Bool
+ends_word c = eqb c 32 || eqb c 10
 
-  pub end_space : i < length l → get_or l i 0 ≡ 32 → i ≡ from + word_size (drop from l)
-  end_space k e = omega (arith, h, word_space l i k e)
+word_size_is : (l : List ℕ) → word_size l ≡ position_or_len ends_word l
+unfolding word_size
+word_size_is l = is_position_or_len word_size ends_word refl (λ c l. ap (cond (ends_word c) 0) (omega arith)) l
 
-  pub end_feed : i < length l → get_or l i 0 ≡ 10 → i ≡ from + word_size (drop from l)
-  end_feed k e = omega (arith, h, word_feed l i k e)
-
-  pub end_next : i < length l → (get_or l i 0 ≡ 32 → ⊥) → (get_or l i 0 ≡ 10 → ⊥) → from + word_size (drop from l) ≡ i + 1 + word_size (drop (i + 1) l)
-  end_next k s f =
-      let q : suc i ≡ i + 1 = omega arith in
-      omega (arith, h, word_next l i k s f, ap (λ (x : ℕ). word_size (drop x l)) q)
+pub word_found :
+    (l : List ℕ) (r : Option ℕ) → r ≡ cond (ltb (position_or_len ends_word l) (length l)) (Some (position_or_len ends_word l)) None
+    → unwrap_or r (length l) ≡ word_size l
+word_found l r f = step (ltb (word_size l) (length l)) refl (rw (← word_size_is l) at f) where
+  step : (t : Bool) → ltb (word_size l) (length l) ≡ t → r ≡ cond t (Some (word_size l)) None → unwrap_or r (length l) ≡ word_size l
+  step true k e = rw e
+  step false k e = rw e (omega (arith, ltb-false (word_size l) (length l) k, word_most l))
 
 pub end_inside : (l : List ℕ) (i : ℕ) → i ≤ length l → i + word_size (drop i l) ≤ length l
 end_inside l i h = omega (arith, word_most (drop i l), length-drop i l)
 
--- ---- two words, byte by byte
+pub word_is : (text : List ℕ) (from end : ℕ) → end ≡ from + word_size (drop from text) → take (end - from) (drop from text) ≡ word_of (drop from text)
+unfolding word_of
+word_is text from end e = let n : end - from ≡ word_size (drop from text) = omega arith in ap (λ (k : ℕ). take k (drop from text)) n
 
-pub same_lengths : (a b : List ℕ) → (length a ≡ length b → ⊥) → same a b ≡ false
+-- ---- two words
+
+same_is : (a b : List ℕ) → pointwise eqb a b ≡ same a b
 unfolding same
-same_lengths [] [] h = absurd (h refl)
-same_lengths [] (y ∷ b) h = refl
-same_lengths (x ∷ a) [] h = refl
-same_lengths (x ∷ a) (y ∷ b) h = step (eqb x y) (same_lengths a b (λ e. h (ap suc e))) where
-  step : (t : Bool) → same a b ≡ false → (t && same a b) ≡ false
-  step true e = e
-  step false e = refl
+same_is [] [] = refl
+same_is [] (y ∷ b) = refl
+same_is (x ∷ a) [] = refl
+same_is (x ∷ a) (y ∷ b) = ap (λ (t : Bool). eqb x y && t) (same_is a b)
 
-module _ (a b : List ℕ) (i : ℕ) (n : length a ≡ length b) where
-  pub same_end : length a ≤ i → same (drop i a) (drop i b) ≡ true
-  unfolding same
-  same_end h = let k : length b ≤ i = omega arith in rw (drop_of_length-le a h, drop_of_length-le b k)
-
-  pub same_differ : i < length a → (get_or a i 0 ≡ get_or b i 0 → ⊥) → same (drop i a) (drop i b) ≡ false
-  unfolding same
-  same_differ h e = let k : i < length b = omega arith in rw (next a i h, next b i k, ne_eqb (get_or a i 0) (get_or b i 0) e)
-
-  pub same_next : i < length a → get_or a i 0 ≡ get_or b i 0 → same (drop i a) (drop i b) ≡ same (drop (i + 1) a) (drop (i + 1) b)
-  unfolding same
-  same_next h e = let k : i < length b = omega arith in rw (next a i h, next b i k, eq-eqb (get_or a i 0) (get_or b i 0) e)
+-- what `==` answered of a word and a part with these bytes
+pub same_as : (w : List ℕ) {a b : List ℕ} {r t : Bool} → a ≡ b → r ≡ pointwise eqb w a → r ≡ t → same w b ≡ t
+same_as w {a} {b} q h e = sym (same_is w b) ∙ sym (ap (pointwise eqb w) q) ∙ sym h ∙ e
 
 -- ---- digits
 
-pub digits_end : (l : List ℕ) (n : ℕ) → word_size l ≡ 0 → digits_from n (word_of l) ≡ Some n
-unfolding digits_from
-digits_end l n e = rw (word_empty l e)
+module _ (l : List ℕ) (i n : ℕ) (h : i < length l) where
+  digit_is : is_digit (get_or l i 0) ≡ true → (48 ≤ get_or l i 0) × (get_or l i 0 ≤ 57)
+  unfolding is_digit
+  digit_is e = (grind (arith, nat_tests), grind (arith, nat_tests))
 
-module _ (l : List ℕ) (i n c : ℕ) (e : c ≡ get_or l i 0) (h : i < length l) where
-  first_digit : (c ≡ 32 → ⊥) → (c ≡ 10 → ⊥) → digits_from n (word_of (drop i l)) ≡ cond (is_digit c) (digits_from (n * 10 + (c - 48)) (word_of (drop (i + 1) l))) None
+  ends_not : (b : ℕ) → ends_word b ≡ true → ends_word (get_or l i 0) ≡ false → get_or l i 0 ≡ b → ⊥
+  ends_not b t f x = absurd (let z : ◌≡◌ {A = Bool} true false = sym t ∙ sym (ap ends_word x) ∙ f in cc)
+
+  digit_none : is_digit (get_or l i 0) ≡ false → ends_word (get_or l i 0) ≡ false → digits_from n (word_of (drop i l)) ≡ None
   unfolding digits_from
-  first_digit s f =
-      let q : suc i ≡ i + 1 = omega arith in
-      rw (e, word_byte l i h (λ x. s (e ∙ x)) (λ x. f (e ∙ x)), q)
+  digit_none e f = rw (word_byte l i h (ends_not 32 refl f) (ends_not 10 refl f), e)
 
-  pub digits_low : c < 48 → (c ≡ 32 → ⊥) → (c ≡ 10 → ⊥) → digits_from n (word_of (drop i l)) ≡ None
-  unfolding is_digit
-  digits_low k s f = first_digit s f ∙ rw (lt-leb 48 c k)
+  digit_ends : ends_word (get_or l i 0) ≡ true → word_size (drop i l) ≡ 0
+  unfolding word_size
+  digit_ends f = rw (drop-cons l i 0 h, f)
 
-  pub digits_high : 57 < c → digits_from n (word_of (drop i l)) ≡ None
-  unfolding is_digit
-  digits_high k =
-      first_digit (λ x. absurd (omega arith)) (λ x. absurd (omega arith)) ∙ rw (le-leb 48 c (omega arith), lt-leb c 57 k)
+  module _ (d : ℕ) (q : d ≡ get_or l i 0 - 48) (e : is_digit (get_or l i 0) ≡ true) where
+    pub digit_size : word_size (drop i l) ≡ 1 + word_size (drop (i + 1) l)
+    digit_size =
+        let s : suc i ≡ i + 1 = omega arith in
+        let b = digit_is e in
+        let n = word_next l i h (λ x. absurd (omega arith)) (λ x. absurd (omega arith)) in
+        omega (arith, n, ap (λ (x : ℕ). word_size (drop x l)) s)
 
-  pub digits_next : 48 ≤ c → c ≤ 57 → digits_from n (word_of (drop i l)) ≡ digits_from (n * 10 + (c - 48)) (word_of (drop (i + 1) l))
-  unfolding is_digit
-  digits_next k j = first_digit (λ x. absurd (omega arith)) (λ x. absurd (omega arith)) ∙ rw (le-leb 48 c k, le-leb c 57 j)
+    pub digit_next : digits_from n (word_of (drop i l)) ≡ digits_from (n * 10 + d) (word_of (drop (i + 1) l))
+    unfolding digits_from
+    digit_next =
+        let s : suc i ≡ i + 1 = omega arith in
+        let b = digit_is e in
+        rw (word_byte l i h (λ x. absurd (omega arith)) (λ x. absurd (omega arith)), e, q, s)
+
+pub digit_end : (l : List ℕ) (n : ℕ) → word_size l ≡ 0 → digits_from n (word_of l) ≡ Some n
+unfolding digits_from
+digit_end l n e = rw (word_empty l e)
 
 -- digits never make a number smaller
 pub upto_over : (most n : ℕ) (w : List ℕ) → most < n → up_to most (digits_from n w) ≡ None
@@ -111,250 +119,168 @@ upto_over most n (c ∷ w) h = step (is_digit c) (upto_over most (n * 10 + (c - 
   step true k = k
   step false k = refl
 
-pub upto_none : (most : ℕ) {o : Option ℕ} → o ≡ None → up_to most o ≡ None
+upto_none : (most : ℕ) {o : Option ℕ} → o ≡ None → up_to most o ≡ None
 unfolding up_to
 upto_none most e = rw e
 
-pub upto_some : (most n : ℕ) {o : Option ℕ} → o ≡ Some n → n ≤ most → up_to most o ≡ Some n
+upto_some : (most n : ℕ) {o : Option ℕ} → o ≡ Some n → n ≤ most → up_to most o ≡ Some n
 unfolding up_to
 upto_some most n e h = rw (e, le-leb n most h)
 
--- ---- what a word says
-
-pub said_none : (o : Option ℕ) (most : ℕ) → most < 65536 → said (up_to most o) ≡ 65536 → up_to most o ≡ None
-unfolding said up_to
-said_none None most h e = refl
-said_none (Some n) most h e = step (leb n most) refl e where
-  step : (t : Bool) → leb n most ≡ t → said (cond t (Some n) None) ≡ 65536 → cond t (Some n) None ≡ None
-  step true q k = let j = leb-true n most q in absurd (omega arith)
-  step false q k = refl
-
-pub said_some : (o : Option ℕ) (n : ℕ) → n ≡ said o → n < 65536 → o ≡ Some n
-unfolding said
-said_some None n e h = absurd (omega arith)
-said_some (Some m) n e h = ap Some (sym e)
-
-module _ {o : Option ℕ} (text : List ℕ) (at e : ℕ) where
-  pub says_outside : o ≡ None → Says o text at (record { number = 65536; end = e })
+-- where the word ends: the number come to
+module _ (l : List ℕ) (most i n : ℕ) where
+  pub digits_all :
+      {size : ℕ} → n ≤ most → digits_from 0 (word_of l) ≡ digits_from n (word_of (drop i l)) → word_size (drop i l) ≡ 0 → size ≡ word_size l
+      → said (up_to most (digits_from 0 (word_of l))) l ≡ Some (record { number = n; size = size })
   unfolding said
-  says_outside h = record { number = rw h; few = omega arith; end = λ k. absurd (omega arith) }
+  digits_all few left e is = rw (upto_some most n (left ∙ digit_end (drop i l) n e) few, is)
 
-  pub says_number : (n : ℕ) → o ≡ Some n → n < 65536 → e ≡ at + word_size (drop at text) → Says o text at (record { number = n; end = e })
+  pub digit_last :
+      (t : Bool) → i < length l → n ≤ most → word_size l ≡ i + word_size (drop i l) → digits_from 0 (word_of l) ≡ digits_from n (word_of (drop i l))
+      → is_digit (get_or l i 0) ≡ false → t ≡ ends_word (get_or l i 0)
+      → then_some t (record { number = n; size = i }) ≡ said (up_to most (digits_from 0 (word_of l))) l
   unfolding said
-  says_number n h k j = record { number = rw h; few = omega arith; end = λ _. j }
-
--- a word that says nothing, for a lesser reason
-pub says_nothing : {o o' : Option ℕ} {text : List ℕ} {at : ℕ} (w : Word) → Says o text at w → w.number ≡ 65536 → o' ≡ None → Says o' text at w
-unfolding said
-says_nothing w s e h = record { number = rw h e; few = s.few; end = λ k. absurd (omega arith) }
-
-pub says_same : {o o' : Option ℕ} {text : List ℕ} {at : ℕ} (w : Word) → Says o text at w → o' ≡ o → Says o' text at w
-says_same w s e = rw e s
+  digit_last true h few width left e q =
+      let z = digit_ends l i n h (sym q) in
+      sym (digits_all few left z (omega (arith, width, z)))
+  digit_last false h few width left e q = rw (upto_none most (left ∙ digit_none l i n h e (sym q)))
 
 -- ---- decimal numbers
 
-decimal_empty : (w : List ℕ) → length w ≡ 0 → number_of w ≡ None
-unfolding number_of
-decimal_empty [] e = refl
-decimal_empty (c ∷ w) e = absurd (omega arith)
+-- a number without leading zeros is the digits' where there is one
+module _ (most : ℕ) where
+  number_empty : (w : List ℕ) → length w < 1 → number_to most w ≡ None
+  unfolding number_to number_of up_to
+  number_empty [] h = refl
+  number_empty (c ∷ w) h = absurd (omega arith)
 
-decimal_one : (w : List ℕ) → length w ≡ 1 → number_of w ≡ digits_from 0 w
-unfolding number_of
-decimal_one [] e = absurd (omega arith)
-decimal_one (c ∷ []) e = refl
-decimal_one (c ∷ d ∷ w) e = absurd (omega arith)
+  number_zero : (w : List ℕ) → 2 ≤ length w → get_or w 0 0 ≡ 48 → number_to most w ≡ None
+  unfolding number_to number_of up_to
+  number_zero [] h e = absurd (omega arith)
+  number_zero (c ∷ []) h e = absurd (omega arith)
+  number_zero (c ∷ d ∷ w) h e = rw (eq-eqb c 48 e)
 
-decimal_zero : (w : List ℕ) → 1 < length w → get_or w 0 0 ≡ 48 → number_of w ≡ None
-unfolding number_of
-decimal_zero [] h e = absurd (omega arith)
-decimal_zero (c ∷ []) h e = absurd (omega arith)
-decimal_zero (c ∷ d ∷ w) h e = rw (eq-eqb c 48 e)
+  number_digits : (w : List ℕ) → 1 ≤ length w → (2 ≤ length w → get_or w 0 0 ≡ 48 → ⊥) → number_to most w ≡ up_to most (digits_from 0 w)
+  unfolding number_to number_of
+  number_digits [] h e = absurd (omega arith)
+  number_digits (c ∷ []) h e = refl
+  number_digits (c ∷ d ∷ w) h e = rw (ne_eqb c 48 (e (omega arith)))
 
-decimal_more : (w : List ℕ) → 1 < length w → (get_or w 0 0 ≡ 48 → ⊥) → number_of w ≡ digits_from 0 w
-unfolding number_of
-decimal_more [] h e = absurd (omega arith)
-decimal_more (c ∷ []) h e = absurd (omega arith)
-decimal_more (c ∷ d ∷ w) h e = rw (ne_eqb c 48 e)
+  number_over : (w : List ℕ) → up_to most (digits_from 0 w) ≡ None → number_to most w ≡ None
+  unfolding number_to number_of up_to
+  number_over [] e = refl
+  number_over (c ∷ []) e = e
+  number_over (c ∷ d ∷ w) e = step (eqb c 48) where
+    step : (t : Bool) → up_to most (cond t None (digits_from 0 (c ∷ d ∷ w))) ≡ None
+    step true = refl
+    step false = e
 
--- no number in range by the digits is none without leading zeros
-decimal_over : (most : ℕ) (w : List ℕ) → up_to most (digits_from 0 w) ≡ None → number_to most w ≡ None
-unfolding number_to number_of up_to
-decimal_over most [] e = refl
-decimal_over most (c ∷ []) e = e
-decimal_over most (c ∷ d ∷ w) e = step (eqb c 48) where
-  step : (t : Bool) → up_to most (cond t None (digits_from 0 (c ∷ d ∷ w))) ≡ None
-  step true = refl
-  step false = e
+-- ---- what a word says
 
--- ---- a number, from the digits of the word at a place
+pub said_none : (o : Option ℕ) (l : List ℕ) → said o l ≡ None → o ≡ None
+unfolding said
+said_none None l e = refl
+said_none (Some n) l e = absurd (cc)
 
-module _ (text : List ℕ) (from most : ℕ) (inside : from ≤ length text) (small : most < 65536) (w : Word)
-    (s : Says (up_to most (digits_from 0 (word_of (drop from text)))) text from w) where
-  size : length (word_of (drop from text)) ≡ word_size (drop from text)
+pub said_some : (o : Option ℕ) (l : List ℕ) (w : Word) → said o l ≡ Some w → (o ≡ Some w.number) × (w.size ≡ word_size l)
+unfolding said
+said_some None l w e = absurd (cc)
+said_some (Some m) l w e =
+    let q : ◌≡◌ {A = Word} (record { number = m; size = word_size l }) w = cc in
+    (ap (λ (v : Word). Some v.number) q, sym (ap (λ (v : Word). v.size) q))
+
+pub said_or :
+    (a b : Option ℕ) (l : List ℕ) (r s : Option Word) → r ≡ said a l → MatchOption r (s ≡ said b l) (λ w. s ≡ Some w)
+    → s ≡ said (a or_else b) l
+unfolding said
+said_or None b l r s e h = rw (or_else_next b refl) (rw e at h)
+said_or (Some n) b l r s e h = rw (or_else_first {x = n} b refl) (rw e at h)
+
+or_assoc : (a b d : Option ℕ) → (a or_else b) or_else d ≡ a or_else (b or_else d)
+or_assoc None b d = ap (λ (o : Option ℕ). o or_else d) (or_else_next b refl) ∙ sym (or_else_next (b or_else d) refl)
+or_assoc (Some n) b d = or_else_first {x = n} d (or_else_first b refl) ∙ sym (or_else_first (b or_else d) refl)
+
+pub said_or_or :
+    (a b d : Option ℕ) (l : List ℕ) (r s t : Option Word) → r ≡ said a l → MatchOption r (s ≡ said b l) (λ w. s ≡ Some w)
+    → MatchOption s (t ≡ said d l) (λ w. t ≡ Some w) → t ≡ said (a or_else (b or_else d)) l
+said_or_or a b d l r s t e f g = said_or (a or_else b) d l s t (said_or a b l r s e f) g ∙ ap (λ (o : Option ℕ). said o l) (or_assoc a b d)
+
+module _ (l : List ℕ) where
+  size : length (word_of l) ≡ word_size l
   unfolding word_of
-  size = length-take-le (word_size (drop from text)) (drop from text) (word_most (drop from text))
+  size = length-take-le (word_size l) l (word_most l)
 
-  ends : (w.number ≡ 65536 → ⊥) → w.end ≡ from + length (word_of (drop from text))
-  ends h = s.end (omega (arith, s.few)) ∙ omega (arith, size)
-
-  pub number_outside : w.number ≡ 65536 → Says (number_to most (word_of (drop from text))) text from w
-  number_outside e =
-      says_nothing w s e (decimal_over most (word_of (drop from text)) (said_none (digits_from 0 (word_of (drop from text))) most small (sym s.number ∙ e)))
-
-  module _ (in-range : w.number ≡ 65536 → ⊥) where
-    pub number_empty : w.end ≡ from → Says (number_to most (word_of (drop from text))) text from (record { number = 65536; end = from })
-    unfolding number_to
-    number_empty e =
-        says_outside text from from (upto_none most (decimal_empty (word_of (drop from text)) (omega (arith, ends in-range))))
-
-    pub number_one : w.end ≡ from + 1 → Says (number_to most (word_of (drop from text))) text from w
-    unfolding number_to
-    number_one e = says_same w s (ap (up_to most) (decimal_one (word_of (drop from text)) (omega (arith, ends in-range))))
-
-    module _ (some_bytes : w.end ≡ from → ⊥) (more_bytes : w.end ≡ from + 1 → ⊥) where
-      long : 1 < length (word_of (drop from text))
-      long = let e = ends in-range in go (length (word_of (drop from text))) e where
-        go : (n : ℕ) → w.end ≡ from + n → 1 < n
-        go zero e = absurd (some_bytes (e ∙ omega arith))
-        go (suc zero) e = absurd (more_bytes e)
-        go (suc (suc n)) e = omega arith
-
-      pub number_inside : from < length text
-      number_inside = omega (arith, long, size, end_inside text from inside)
-
-      first : get_or (word_of (drop from text)) 0 0 ≡ get_or text from 0
-      unfolding word_of
-      first =
-          get_or-take (word_size (drop from text)) (drop from text) 0 0 (omega (arith, long, size))
-          ∙ get_or-drop from text 0 0 ∙ ap (λ (k : ℕ). get_or text k 0) (omega arith)
-
-      pub number_zero : get_or text from 0 ≡ 48 → Says (number_to most (word_of (drop from text))) text from (record { number = 65536; end = from })
-      unfolding number_to
-      number_zero e = says_outside text from from (upto_none most (decimal_zero (word_of (drop from text)) long (first ∙ e)))
-
-      pub number_more : (get_or text from 0 ≡ 48 → ⊥) → Says (number_to most (word_of (drop from text))) text from w
-      unfolding number_to
-      number_more e = says_same w s (ap (up_to most) (decimal_more (word_of (drop from text)) long (λ x. e (sym first ∙ x))))
-
--- ---- a number above a base
-
-module _ (text : List ℕ) (from base most : ℕ) (x : List ℕ) (small : base + most < 65536) (w : Word) (s : Says (number_to most x) text from w) where
-  pub above_outside : w.number ≡ 65536 → Says (above base (number_to most x)) text from w
-  unfolding number_to above
-  above_outside e = says_nothing w s e (rw (said_none (number_of x) most (omega arith) (sym s.number ∙ e)))
-
-  pub above_number : (w.number ≡ 65536 → ⊥) → Says (above base (number_to most x)) text from (record { number = base + w.number; end = w.end })
-  unfolding number_to above
-  above_number e =
-      let few : w.number < 65536 = omega (arith, s.few) in
-      let o : up_to most (number_of x) ≡ Some w.number = said_some (up_to most (number_of x)) w.number s.number few in
-      says_number text from w.end (base + w.number) (rw o) (omega (arith, number_most most x w.number o)) (s.end few)
-
--- ---- a word by its first byte
-
-first_byte : (letter : ℕ) (l : List ℕ) → 0 < letter → get_or (word_of l) 0 0 ≡ letter → get_or l 0 0 ≡ letter
-unfolding word_of word_size
-first_byte letter [] h e = e
-first_byte letter (c ∷ l) h e = step (eqb c 32 || eqb c 10) e where
-  step : (t : Bool) → get_or (take (cond t 0 (suc (word_size l))) (c ∷ l)) 0 0 ≡ letter → c ≡ letter
-  step true k = absurd (omega arith)
-  step false k = k
-
-letter_other : (letter base most : ℕ) (w : List ℕ) → (get_or w 0 0 ≡ letter → ⊥) → lettered letter base most w ≡ None
-unfolding lettered
-letter_other letter base most [] h = refl
-letter_other letter base most (c ∷ w) h = rw (ne_eqb c letter h)
-
-module _ (letter : ℕ) (text : List ℕ) (from : ℕ) where
-  other_none : (base most : ℕ) → 0 < letter → (get_or text from 0 ≡ letter → ⊥) → lettered letter base most (word_of (drop from text)) ≡ None
-  other_none base most h e =
-      letter_other letter base most (word_of (drop from text))
-      (λ x. e (ap (λ (k : ℕ). get_or text k 0) (omega arith) ∙ sym (get_or-drop from text 0 0) ∙ first_byte letter (drop from text) h x))
-
-  module _ (h : from < length text) (high : 32 < letter) (e : get_or text from 0 ≡ letter) where
-    no_space : get_or text from 0 ≡ 32 → ⊥
-    no_space x = absurd (omega arith)
-
-    no_feed : get_or text from 0 ≡ 10 → ⊥
-    no_feed x = absurd (omega arith)
-
-    letter_first : word_of (drop from text) ≡ letter ∷ word_of (drop (from + 1) text)
-    letter_first = let q : suc from ≡ from + 1 = omega arith in word_byte text from h no_space no_feed ∙ rw (e, q)
-
-    -- what is said behind the letter is said with it
-    says_behind : {o : Option ℕ} (o' : Option ℕ) (w : Word) → Says o text (from + 1) w → o' ≡ o → Says o' text from w
-    says_behind o' w s i =
-        let q : suc from ≡ from + 1 = omega arith in
-        let n : word_size (drop from text) ≡ suc (word_size (drop (from + 1) text)) = word_next text from h no_space no_feed ∙ rw q in
-        record { number = rw i s.number; few = s.few; end = λ k. s.end k ∙ omega (arith, n) }
-
--- ---- types
-
--- `g` is no digit
-letter_none : (most : ℕ) (w : List ℕ) → number_to most (103 ∷ w) ≡ None
-unfolding number_to number_of digits_from is_digit up_to
-letter_none most [] = refl
-letter_none most (d ∷ w) = refl
-
-module _ (text : List ℕ) (from : ℕ) where
-  pub type_empty : length text ≤ from → Says (value_of AnyType (word_of (drop from text))) text from (record { number = 65536; end = from })
-  unfolding value_of number_to number_of up_to lettered
-  type_empty h = says_outside text from from (rw (word_empty (drop from text) (word_none text from h)) (or_else_none refl refl))
-
-  pub type_group :
-      (w : Word) → from < length text → get_or text from 0 ≡ 103 → Says (above 32768 (number_to 32767 (word_of (drop (from + 1) text)))) text (from + 1) w
-      → Says (value_of AnyType (word_of (drop from text))) text from w
-  unfolding value_of lettered
-  type_group w h e s =
-      says_behind 103 text from h (omega arith) e (value_of AnyType (word_of (drop from text))) w s
-      (rw (letter_first 103 text from h (omega arith) e) (or_else_next _ (letter_none 32767 (word_of (drop (from + 1) text)))))
-
-  pub type_basic :
-      (w : Word) → (get_or text from 0 ≡ 103 → ⊥) → Says (number_to 32767 (word_of (drop from text))) text from w
-      → Says (value_of AnyType (word_of (drop from text))) text from w
-  unfolding value_of
-  type_basic w e s =
-      says_same w s (rw (other_none 103 text from 32768 32767 (omega arith) e) (or_else_nothing (number_to 32767 (word_of (drop from text)))))
-
--- ---- conditions
-
-module _ (text : List ℕ) (from end : ℕ) (e : end ≡ from + word_size (drop from text)) where
-  pub word_is : take (end - from) (drop from text) ≡ word_of (drop from text)
+  first : 0 < word_size l → get_or (word_of l) 0 0 ≡ get_or l 0 0
   unfolding word_of
-  word_is = let n : end - from ≡ word_size (drop from text) = omega arith in ap (λ (k : ℕ). take k (drop from text)) n
+  first h = get_or-take (word_size l) l 0 0 h
 
-  pub says_off :
-      same (take (end - from) (drop from text)) (ascii "off") ≡ true
-      → Says (value_of Condition (word_of (drop from text))) text from (record { number = 0; end = end })
-  unfolding value_of named
-  says_off h = says_number text from end 0 (or_else_first _ (rw (rw word_is at h))) (omega arith) e
+  module _ (most : ℕ) where
+    pub number_none : said (up_to most (digits_from 0 (word_of l))) l ≡ None → said (number_to most (word_of l)) l ≡ None
+    unfolding said
+    number_none e = rw (number_over most (word_of l) (said_none _ l e))
 
-  module _ (f : same (take (end - from) (drop from text)) (ascii "off") ≡ false) where
-    pub says_on :
-        same (take (end - from) (drop from text)) (ascii "on") ≡ true
-        → Says (value_of Condition (word_of (drop from text))) text from (record { number = 1; end = end })
-    unfolding value_of named
-    says_on h =
-        says_number text from end 1 (or_else_next _ (rw (rw word_is at f)) ∙ or_else_first _ (rw (rw word_is at h))) (omega arith) e
+    module _ (w : Word) (e : said (up_to most (digits_from 0 (word_of l))) l ≡ Some w) where
+      of_size : w.size ≡ length (word_of l)
+      of_size = (said_some _ l w e).1 ∙ sym size
 
-    pub says_neither :
-        same (take (end - from) (drop from text)) (ascii "on") ≡ false → (get_or text from 0 ≡ 115 → ⊥)
-        → Says (value_of Condition (word_of (drop from text))) text from (record { number = 65536; end = end })
-    unfolding value_of named
-    says_neither h s =
-        says_outside text from end
-        (or_else_none (rw (rw word_is at f)) (or_else_none (rw (rw word_is at h)) (other_none 115 text from 2 31 (omega arith) s)))
+      pub number_inside : w.size ≤ length l
+      number_inside = omega (arith, (said_some _ l w e).1, word_most l)
 
-module _ (text : List ℕ) (from : ℕ) where
-  pub condition_empty : length text ≤ from → Says (value_of Condition (word_of (drop from text))) text from (record { number = 65536; end = from })
-  unfolding ascii same value_of named lettered
-  condition_empty h =
-      says_outside text from from (rw (word_empty (drop from text) (word_none text from h)) (or_else_none refl (or_else_none refl refl)))
+      pub number_no_digit : w.size ≡ 0 → said (number_to most (word_of l)) l ≡ None
+      unfolding said
+      number_no_digit h = let q = of_size in rw (number_empty most (word_of l) (omega arith))
 
-  pub condition_switch :
-      (w : Word) → from < length text → get_or text from 0 ≡ 115 → Says (above 2 (number_to 31 (word_of (drop (from + 1) text)))) text (from + 1) w
-      → Says (value_of Condition (word_of (drop from text))) text from w
-  unfolding ascii same value_of named lettered
-  condition_switch w h e s =
-      says_behind 115 text from h (omega arith) e (value_of Condition (word_of (drop from text))) w s
-      (rw (letter_first 115 text from h (omega arith) e) (or_else_next _ refl ∙ or_else_next _ refl))
+      pub number_leading : 1 < w.size → get_or l 0 0 ≡ 48 → said (number_to most (word_of l)) l ≡ None
+      unfolding said
+      number_leading h z =
+          let q = of_size in
+          rw (number_zero most (word_of l) (omega arith) (first (omega (arith, size)) ∙ z))
+
+      pub number_some : (w.size ≡ 0 → ⊥) → (1 < w.size → get_or l 0 0 ≡ 48 → ⊥) → said (number_to most (word_of l)) l ≡ Some w
+      number_some h z =
+          let q = of_size in
+          rw (number_digits most (word_of l) (omega arith) (λ k x. z (omega arith) (sym (first (omega (arith, size))) ∙ x))) e
+
+-- a number behind a letter
+module _ (letter base most : ℕ) (high : 32 < letter) where
+  pub letter_other : (l : List ℕ) → (0 < length l → get_or l 0 0 ≡ letter → ⊥) → said (lettered letter base most (word_of l)) l ≡ None
+  unfolding said lettered word_of word_size
+  letter_other [] h = refl
+  letter_other (c ∷ l) h = step (ends_word c) where
+    step : (t : Bool) → said (lettered letter base most (take (cond t 0 (suc (word_size l))) (c ∷ l))) (c ∷ l) ≡ None
+    step true = refl
+    step false = rw (ne_eqb c letter (h (omega arith)))
+
+  module _ (l : List ℕ) (some_byte : 0 < length l) (e : get_or l 0 0 ≡ letter) where
+    letter_word : word_of l ≡ letter ∷ word_of (drop 1 l)
+    letter_word = word_byte l 0 some_byte (λ x. absurd (omega arith)) (λ x. absurd (omega arith)) ∙ rw e
+
+    letter_size : word_size l ≡ 1 + word_size (drop 1 l)
+    letter_size = let n = word_next l 0 some_byte (λ x. absurd (omega arith)) (λ x. absurd (omega arith)) in omega arith
+
+    letter_is : lettered letter base most (word_of l) ≡ above base (number_to most (word_of (drop 1 l)))
+    unfolding lettered
+    letter_is = rw (letter_word, eq-eqb letter letter refl)
+
+    pub letter_none : said (number_to most (word_of (drop 1 l))) (drop 1 l) ≡ None → said (lettered letter base most (word_of l)) l ≡ None
+    unfolding said above
+    letter_none h = rw (letter_is, said_none _ (drop 1 l) h)
+
+    pub letter_some :
+        (w : Word) → said (number_to most (word_of (drop 1 l))) (drop 1 l) ≡ Some w
+        → (said (lettered letter base most (word_of l)) l ≡ Some (record { number = base + w.number; size = 1 + w.size }))
+        × (w.number ≤ most) × (1 + w.size ≤ length l)
+    unfolding said above
+    letter_some w h =
+        let q = said_some _ (drop 1 l) w h in
+        (rw (letter_is, q.0, q.1, letter_size), number_most most (word_of (drop 1 l)) w.number q.0, omega (arith, q.1, letter_size, word_most l))
+
+-- the word of a name
+module _ (l name : List ℕ) (n size : ℕ) (is : size ≡ word_size l) where
+  pub name_is : pointwise eqb (take size l) name ≡ true → said (named name n (word_of l)) l ≡ Some (record { number = n; size = size })
+  unfolding said named word_of
+  name_is e = rw (← is, sym (same_is (take size l) name) ∙ e, is)
+
+  pub name_other : pointwise eqb (take size l) name ≡ false → said (named name n (word_of l)) l ≡ None
+  unfolding said named word_of
+  name_other e = rw (← is, sym (same_is (take size l) name) ∙ e)

@@ -1,10 +1,9 @@
 // Adding to the image that a lent buffer starts with: a record, and the rows of a text.
 #![tactic(auto)]
 
-mod bytes; // bytes.rt: bytes copied
 mod word; // word.rt: numbers in bytes
 mod plan; // plan.rt: where a record goes, or why it does not
-mod splice; // splice.rt: bytes moved up and written
+mod splice; // splice.rt: a record put into an image
 mod spell; // spell.rt: what a word of a row says
 mod form; // form.rt: the forms of rows
 mod row; // row.rt: the record of a row

@@ -9,16 +9,15 @@ ghost use Rattle.format.specs.Answers.{outcome, starts};
 ghost use Rattle.extension.specs.Add.{added_twin, own_fault, add_fault};
 ghost use Rattle.extend.specs.Inner.Plans.{slot_at, slot_of};
 
-use crate::word::wide;
 use format::{Misread, Refusal, Section, Starts, header};
 use image::{same_record, word_at};
 
-// The place that a record goes to, the image's size, and the place and the value of its section's count.
+// The place that a record goes to, the image's size, and the record's section with its count.
 #[derive(Clone, Copy)]
 pub(crate) struct Slot {
     pub at: usize,
     pub size: usize,
-    pub field: usize,
+    pub section: Section,
     pub count: usize,
 }
 
@@ -28,7 +27,8 @@ fn refused(number: u8, place: usize) -> Result<Slot, Refusal>
     Err(Refusal { number, place })
 }
 
-fn count_place(section: Section) -> usize
+// The place of a section's count.
+pub(crate) fn count_place(section: Section) -> usize
     ensures { (result ≡ count_place section) × (result ≤ 7) }
 {
     match section {
@@ -48,19 +48,19 @@ fn limit_of(section: Section) -> usize
     }
 }
 
-// Whether an accepted image has a group with this record: from group to group.
+// Whether an accepted image has a group with this record: from group to group. (k is the group's number, for the proof.)
 fn is_listed(image: &[u8], part: &[u8]) -> bool
     requires { Accepted image.now }
     ensures { result ≡ listed part.now (policy_of image.now).groups }
 {
     let count = word_at(image, header::GROUPS_AT);
-    let mut at = header::SIZE;
+    let mut rest = &image[header::SIZE..];
     for k in 0..count {
-        let next = at + wide(image[at]);
-        if same_record(part, &image[at..next]) {
+        let (group, next) = rest.split_at(usize::from(rest[0]));
+        if same_record(part, group) {
             return true;
         }
-        at = next;
+        rest = next;
     }
     false
 }
@@ -89,8 +89,7 @@ fn room(buffer: &[u8], part: &[u8], section: Section, at: usize) -> Result<Slot,
             if is_twin(buffer, part, section) {
                 return refused(20, 0);
             }
-            let field = count_place(section);
-            let count = word_at(buffer, field);
+            let count = word_at(buffer, count_place(section));
             if limit_of(section) <= count {
                 return refused(12, 0);
             }
@@ -101,7 +100,7 @@ fn room(buffer: &[u8], part: &[u8], section: Section, at: usize) -> Result<Slot,
             Ok(Slot {
                 at,
                 size,
-                field,
+                section,
                 count,
             })
         }
@@ -113,13 +112,13 @@ pub(crate) fn own_causes(buffer: &[u8], part: &[u8], sections: Starts) -> Result
     requires { (check_front buffer.now ≡ None) × (sections ≡ starts (image_in buffer.now)) }
     ensures { result ≡ outcome (own_fault buffer.now part.now) (slot_of buffer.now part.now) }
 {
-    if part.len() < 2 {
+    let [length, kind, ..] = part else {
+        return refused(10, 0);
+    };
+    if usize::from(*length) != part.len() {
         return refused(10, 0);
     }
-    if wide(part[0]) != part.len() {
-        return refused(10, 0);
-    }
-    match part[1] {
+    match *kind {
         1 => room(buffer, part, Section::Groups, sections.rules),
         2..=3 => room(buffer, part, Section::Rules, sections.constraints),
         4 => room(

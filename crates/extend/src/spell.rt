@@ -1,211 +1,147 @@
-// What a word of a row says, read from a place of the text on: a word ends at a space, at a line feed and at the end.
-ghost use Rattle.std.specs.Prelude.{◌≡◌, ◌+◌, ◌≤◌, ◌<◌, length, drop};
-ghost use Rattle.text.specs.Words.{same as Words·same, digits_from, up_to, number_to, above};
+// What the words of a row say, read from where a word starts on.
+ghost use Rattle.std.specs.Prelude.{◌≡◌, ◌==◌, ◌||◌, ◌+◌, ◌<◌};
+ghost use Rattle.text.specs.Words.{digits_from, up_to, number_to, named, lettered};
 ghost use Rattle.text.specs.Rows.{value_of};
 ghost use Rattle.text.specs.declared.Field.TheVariants.{AnyType, Condition};
 ghost use Rattle.text.specs.Inner.Read.{word_size, word_of};
-ghost use Rattle.extend.specs.Inner.Filled.{Says, kind_of};
+ghost use Rattle.extend.specs.Inner.Filled.{said, kind_of};
 
-use crate::word::wide;
+use crate::form::Kind;
 use text::Field;
 
-// Past every number that a word can say: the word says nothing in its field.
-pub(crate) const OUTSIDE: usize = 65536;
-
-// What a word says, and the place past it; that place counts only where it says something.
+// What a word says, and how many bytes it has.
 #[derive(Clone, Copy)]
 pub(crate) struct Word {
     pub number: usize,
-    pub end: usize,
+    pub size: usize,
 }
 
-// The place past the word that starts at a place.
-pub(crate) fn word_end(text: &[u8], from: usize) -> usize
-    requires { from ≤ length text.now }
-    ensures { (result ≡ from + word_size (drop from text.now)) × (from ≤ result) × (result ≤ length text.now) }
+// A word ends at a space, at a line feed and at the end of the text.
+fn ends_word(c: u8) -> bool
+    ensures { result ≡ (c == 32 || c == 10) }
 {
-    let mut i = from;
-    while i < text.len() {
-        if text[i] == b' ' {
-            return i;
-        }
-        if text[i] == b'\n' {
-            return i;
-        }
-        i += 1;
-    }
-    i
+    c == b' ' || c == b'\n'
 }
 
-fn same(a: &[u8], b: &[u8]) -> bool
-    ensures { result ≡ Words·same a.now b.now }
+// How many bytes the word has that a text starts with.
+pub(crate) fn word_size(text: &[u8]) -> usize
+    ensures { result ≡ word_size text.now }
 {
-    if a.len() != b.len() {
-        return false;
-    }
-    let mut i = 0;
-    while i < a.len() {
-        if a[i] != b[i] {
-            return false;
-        }
-        i += 1;
-    }
-    true
+    text.iter()
+        .position(|c| ends_word(*c))
+        .unwrap_or(text.len())
 }
 
 // The number that the digits of a word write, where it is at most so much: digits past that are not read.
-fn digits(text: &[u8], from: usize, most: usize) -> Word
-    requires { (from ≤ length text.now) × (most < 65536) }
-    ensures { Says (up_to most (digits_from 0 (word_of (drop from text.now)))) text.now from result }
+fn digits(text: &[u8], most: usize) -> Option<Word>
+    requires { most < 65536 }
+    ensures { result ≡ said (up_to most (digits_from 0 (word_of text.now))) text.now }
 {
-    let mut n: usize = 0;
-    let mut i = from;
-    while i < text.len() {
-        let c = wide(text[i]);
-        if c < 48 {
-            if c == 32 {
-                return Word { number: n, end: i };
-            }
-            if c == 10 {
-                return Word { number: n, end: i };
-            }
-            return Word {
-                number: OUTSIDE,
-                end: i,
-            };
+    let mut number = 0;
+    for (size, c) in text.iter().enumerate() {
+        if !c.is_ascii_digit() {
+            return ends_word(*c).then_some(Word { number, size });
         }
-        if 57 < c {
-            return Word {
-                number: OUTSIDE,
-                end: i,
-            };
+        number = number * 10 + usize::from(*c - b'0');
+        if most < number {
+            return None;
         }
-        n = n * 10 + (c - 48);
-        if most < n {
-            return Word {
-                number: OUTSIDE,
-                end: i,
-            };
-        }
-        i += 1;
     }
-    Word { number: n, end: i }
+    Some(Word {
+        number,
+        size: text.len(),
+    })
 }
 
 // A decimal number without leading zeros.
-fn number(text: &[u8], from: usize, most: usize) -> Word
-    requires { (from ≤ length text.now) × (most < 65536) }
-    ensures { Says (number_to most (word_of (drop from text.now))) text.now from result }
+fn number(text: &[u8], most: usize) -> Option<Word>
+    requires { most < 65536 }
+    ensures { result ≡ said (number_to most (word_of text.now)) text.now }
 {
-    let word = digits(text, from, most);
-    if word.number == OUTSIDE {
-        return word;
+    let word = digits(text, most)?;
+    if word.size == 0 {
+        return None;
     }
-    if word.end == from {
-        return Word {
-            number: OUTSIDE,
-            end: from,
-        };
+    if 1 < word.size && text[0] == b'0' {
+        return None;
     }
-    if word.end == from + 1 {
-        return word;
-    }
-    if text[from] == b'0' {
-        return Word {
-            number: OUTSIDE,
-            end: from,
-        };
-    }
-    word
+    Some(word)
 }
 
-// A number behind a letter, which counts from a base.
-fn above_base(text: &[u8], from: usize, base: usize, most: usize) -> Word
-    requires { (from ≤ length text.now) × (base + most < 65536) }
-    ensures { Says (above base (number_to most (word_of (drop from text.now)))) text.now from result }
+// A letter, and a number that counts from a base.
+fn lettered(letter: u8, base: usize, most: usize, text: &[u8]) -> Option<Word>
+    requires { (32 < letter) × (base + most < 65536) }
+    ensures { result ≡ said (lettered letter base most (word_of text.now)) text.now }
 {
-    let word = number(text, from, most);
-    if word.number == OUTSIDE {
-        return word;
+    let [first, rest @ ..] = text else {
+        return None;
+    };
+    if *first != letter {
+        return None;
     }
-    Word {
+    let word = number(rest, most)?;
+    Some(Word {
         number: base + word.number,
-        end: word.end,
+        size: 1 + word.size,
+    })
+}
+
+// The word of a name, which stands for a number.
+fn named(name: &[u8], n: usize, text: &[u8]) -> Option<Word>
+    ensures { result ≡ said (named name.now n (word_of text.now)) text.now }
+{
+    let size = word_size(text);
+    if &text[..size] == name {
+        return Some(Word { number: n, size });
     }
+    None
 }
 
 // A basic type, or `g` and a group.
-fn any_type(text: &[u8], from: usize) -> Word
-    requires { from ≤ length text.now }
-    ensures { Says (value_of AnyType (word_of (drop from text.now))) text.now from result }
+fn any_type(text: &[u8]) -> Option<Word>
+    ensures { result ≡ said (value_of AnyType (word_of text.now)) text.now }
 {
-    if text.len() <= from {
-        return Word {
-            number: OUTSIDE,
-            end: from,
-        };
-    }
-    if text[from] == b'g' {
-        return above_base(text, from + 1, 32768, 32767);
-    }
-    number(text, from, 32767)
+    number(text, 32767).or_else(|| lettered(b'g', 32768, 32767, text))
 }
 
 // `off`, `on`, or `s` and a switch.
-fn condition(text: &[u8], from: usize) -> Word
-    requires { from ≤ length text.now }
-    ensures { Says (value_of Condition (word_of (drop from text.now))) text.now from result }
+fn condition(text: &[u8]) -> Option<Word>
+    ensures { result ≡ said (value_of Condition (word_of text.now)) text.now }
 {
-    if text.len() <= from {
-        return Word {
-            number: OUTSIDE,
-            end: from,
-        };
-    }
-    if text[from] == b's' {
-        return above_base(text, from + 1, 2, 31);
-    }
-    let end = word_end(text, from);
-    if same(&text[from..end], b"off") {
-        return Word { number: 0, end };
-    }
-    if same(&text[from..end], b"on") {
-        return Word { number: 1, end };
-    }
-    Word {
-        number: OUTSIDE,
-        end,
-    }
+    named(b"off", 0, text)
+        .or_else(|| named(b"on", 1, text))
+        .or_else(|| lettered(b's', 2, 31, text))
 }
 
-pub(crate) fn value(field: Field, text: &[u8], from: usize) -> Word
-    requires { from ≤ length text.now }
-    ensures { Says (value_of field (word_of (drop from text.now))) text.now from result }
+// What a word says in a field.
+pub(crate) fn value(field: Field, text: &[u8]) -> Option<Word>
+    ensures { result ≡ said (value_of field (word_of text.now)) text.now }
 {
     match field {
-        Field::Member => number(text, from, 32767),
-        Field::AnyType => any_type(text, from),
-        Field::Number => number(text, from, 65535),
-        Field::Predicate => number(text, from, 255),
-        Field::Condition => condition(text, from),
+        Field::Member => number(text, 32767),
+        Field::AnyType => any_type(text),
+        Field::Number => number(text, 65535),
+        Field::Predicate => number(text, 255),
+        Field::Condition => condition(text),
     }
 }
 
-// The kind of record that a row's first word names, or 0.
-pub(crate) fn kind_of(word: &[u8]) -> u8
+// The kind of record that a row's first word names. (A match on the four words is left with 23 goals, one for each way to be
+// none of them.)
+pub(crate) fn kind_of(word: &[u8]) -> Option<Kind>
     ensures { result ≡ kind_of word.now }
 {
-    if same(word, b"group") {
-        return 1;
+    if word == b"group".as_slice() {
+        return Some(Kind::Group);
     }
-    if same(word, b"allow") {
-        return 2;
+    if word == b"allow".as_slice() {
+        return Some(Kind::Allow);
     }
-    if same(word, b"trans") {
-        return 3;
+    if word == b"trans".as_slice() {
+        return Some(Kind::Transition);
     }
-    if same(word, b"limit") {
-        return 4;
+    if word == b"limit".as_slice() {
+        return Some(Kind::Constraint);
     }
-    0
+    None
 }

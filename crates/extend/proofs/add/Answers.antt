@@ -3,6 +3,7 @@ use native.Mathlib.Omega.{arith}
 use mathlib.Core.Path.{◌≡◌, sym, ap, ◌∙◌}
 use Rattle.std.specs.Prelude.{None, Some}
 use Rattle.format.specs.Bytes.{Bytes}
+use Rattle.format.specs.Format.{count_place}
 use Rattle.std.specs.Prelude.{Ok, Err}
 use Rattle.format.proofs.Chain.{outcome_gives, outcome_refused}
 use Rattle.extension.specs.Add.{new_number, add_fault}
@@ -34,5 +35,5 @@ returns c =
     let bytes : Bytes b = λ i. omega (arith, c.slice_known-1.given i) in
     record {
       answer = rw q.0 (ap (λ x. Ok x.count) q.1);
-      buffer = c.insert.ensures ∙ ap (λ x. inserted b r x.at x.size x.field x.count) q.1 ∙ buffer_inserted b r bytes q.0;
+      buffer = c.insert.ensures ∙ ap (λ x. inserted b r x.at x.size (count_place x.section) x.count) q.1 ∙ buffer_inserted b r bytes q.0;
     }

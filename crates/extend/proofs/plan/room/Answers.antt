@@ -34,7 +34,7 @@ returns-then-limit_of-count c =
     ≡ Ok c.in-Ok.field-0 = read _ c.in-Ok.is in
     let fresh : added_twin c.args.section (policy_of (image_in c.args.buffer.now)) c.args.part.now ≡ false = sym c.is_twin.ensures ∙ c.if-is_twin.false in
     let counted : c.word_at-count.result ≡ count_of c.args.buffer.now c.args.section = let a = c.args in
-    c.word_at-count.ensures.0 ∙ ap (word_at a.buffer.now) c.count_place-field.ensures.0 ∙ sym (count_at _ _) in
+    c.word_at-count.ensures.0 ∙ ap (word_at a.buffer.now) c.count_place.ensures.0 ∙ sym (count_at _ _) in
     rw (
       c.refused-then-limit_of-count.ensures,
       own_full _ _ _ c.requires.1 c.requires.2 _ whole fresh
@@ -54,7 +54,7 @@ returns-then-buffer-size c =
     ≡ Ok c.in-Ok.field-0 = read _ c.in-Ok.is in
     let fresh : added_twin c.args.section (policy_of (image_in c.args.buffer.now)) c.args.part.now ≡ false = sym c.is_twin.ensures ∙ c.if-is_twin.false in
     let counted : c.word_at-count.result ≡ count_of c.args.buffer.now c.args.section = let a = c.args in
-    c.word_at-count.ensures.0 ∙ ap (word_at a.buffer.now) c.count_place-field.ensures.0 ∙ sym (count_at _ _) in
+    c.word_at-count.ensures.0 ∙ ap (word_at a.buffer.now) c.count_place.ensures.0 ∙ sym (count_at _ _) in
     let few : count_of c.args.buffer.now c.args.section < limit_of c.args.section = omega (arith, counted, c.limit_of.ensures) in
     rw (
       c.refused-then-buffer-size.ensures,
@@ -85,8 +85,8 @@ returns-else-buffer-size c =
     ≡ Ok c.in-Ok.field-0 = read _ c.in-Ok.is in
     let fresh : added_twin c.args.section (policy_of (image_in c.args.buffer.now)) c.args.part.now ≡ false = sym c.is_twin.ensures ∙ c.if-is_twin.false in
     let counted : c.word_at-count.result ≡ count_of c.args.buffer.now c.args.section = let a = c.args in
-    c.word_at-count.ensures.0 ∙ ap (word_at a.buffer.now) c.count_place-field.ensures.0 ∙ sym (count_at _ _) in
+    c.word_at-count.ensures.0 ∙ ap (word_at a.buffer.now) c.count_place.ensures.0 ∙ sym (count_at _ _) in
     let few : count_of c.args.buffer.now c.args.section < limit_of c.args.section = omega (arith, counted, c.limit_of.ensures) in
-    slot_made _ _ _ _ _ _ _ c.word_at-size.ensures.0 c.count_place-field.ensures.0 counted
+    slot_made _ _ _ _ _ _ c.word_at-size.ensures.0 counted
     (own_none _ _ _ c.requires.1 c.requires.2 _ whole fresh few
     (omega (arith, front_fits _ c.requires.0, c.word_at-size.ensures.0, c.if-buffer-size.false)))

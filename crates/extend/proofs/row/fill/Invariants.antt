@@ -1,7 +1,5 @@
 -- `fill` meets its contract: the bytes so far, and those of the words left, are those of all. Assumes nothing.
-use Prim.Native.Nat.{◌+◌, ◌-◌, ◌*◌, ◌≤◌}
-use mathlib.Core.Path.{◌≡◌}
-use lib.ListN.{length, take, drop}
+use Rattle.std.proofs.Common.{◌≡◌, ◌+◌, ◌*◌, ◌≤◌, length, take, drop}
 use Rattle.text.specs.Words.{split}
 use Rattle.text.specs.Inner.Parts.{run_of}
 use Rattle.text.specs.Inner.Read.{row_of}
@@ -11,9 +9,10 @@ use Rattle.extend.proofs.row.fill.Given as goal
 
 abbrev pub invariant-loop-i : goal.invariant-loop-i
 invariant-loop-i l =
-    (l.start ≤ length l.text) × (2 ≤ l.at) × (l.at ≤ 2 + 2 * l.i) × (length l.part ≡ length l.initial.part)
-    × Filling (fields_from l.kind 0 (split 32 (row_of (drop l.from l.text)))) l.kind l.i l.text l.start (drop 2 (take l.at l.part))
-    × (l.from + run_of 10 (drop l.from l.text) ≡ l.start + run_of 10 (drop l.start l.text))
-
-abbrev pub decreases-loop-i : goal.decreases-loop-i
-decreases-loop-i l = length l.text - l.start
+    record {
+      inside : l.start ≤ length l.text;
+      low : 2 ≤ l.at;
+      few : l.at ≤ 2 + 2 * l.i;
+      filling : Filling (fields_from l.kind 0 (split 32 (row_of (drop l.from l.text)))) l.kind l.i l.text l.start (drop 2 (take l.at l.part));
+      same_row : l.from + run_of 10 (drop l.from l.text) ≡ l.start + run_of 10 (drop l.start l.text);
+    }

@@ -1,17 +1,15 @@
 -- `moved` meets its contract. Assumes nothing.
-use native.Mathlib.Omega.{arith}
-use borrow.Author.Tests.{eq-eqb, ne_eqb}
 use Rattle.extend.specs.Inner.Grow.{moved_starts}
 use Rattle.extend.proofs.rows.moved.Goals as goal
 
-pub returns-then-field-eq-GROUPS_AT : goal.returns-then-field-eq-GROUPS_AT
+pub returns-in-Groups : goal.returns-in-Groups
 unfolding moved_starts
-returns-then-field-eq-GROUPS_AT c = let f = c.args.field in rw (eq-eqb f 3 (omega arith))
+returns-in-Groups c = rw c.in-Groups.is
 
-pub returns-then-field-eq-RULES_AT : goal.returns-then-field-eq-RULES_AT
+pub returns-in-Rules : goal.returns-in-Rules
 unfolding moved_starts
-returns-then-field-eq-RULES_AT c = let f = c.args.field in rw (ne_eqb f 3 (omega arith), eq-eqb f 5 (omega arith))
+returns-in-Rules c = rw c.in-Rules.is
 
-pub returns : goal.returns
+pub returns-in-Constraints : goal.returns-in-Constraints
 unfolding moved_starts
-returns c = let f = c.args.field in rw (ne_eqb f 3 c.if-field-eq-GROUPS_AT.false, ne_eqb f 5 c.if-field-eq-RULES_AT.false)
+returns-in-Constraints c = rw c.in-Constraints.is

@@ -5,4 +5,4 @@ use Rattle.extend.proofs.rows.put_empty.Goals as goal
 
 pub returns : goal.returns
 unfolding overwrite empty
-returns c = c.copy.ensures.1
+returns c = rw c.copy_from_slice.ensures.after

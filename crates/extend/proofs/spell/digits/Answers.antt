@@ -1,62 +1,41 @@
 -- `digits` meets its contract: the digits left, from the number come to, give the number of all. Assumes nothing.
-use native.Mathlib.Omega.{arith}
-use Prim.Native.Nat.{ℕ, ◌+◌, ◌≤◌, ◌<◌}
-use mathlib.Core.Path.{◌≡◌, refl, ap, ◌∙◌}
-use mathlib.Core.List.{List}
-use lib.ListN.{drop}
-use Rattle.text.specs.Words.{digits_from, up_to}
-use Rattle.text.specs.Inner.Read.{word_size, word_of}
-use Rattle.extend.specs.Inner.Filled.{Says}
-use Rattle.text.proofs.Read.{word_none, word_space, word_feed}
-use Rattle.extend.proofs.WordLaws.{end_next, digits_end, digits_low, digits_high, digits_next, upto_over, upto_none, upto_some, says_outside, says_number}
+use Rattle.std.proofs.Common.{◌≡◌, sym, ap, ◌∙◌, arith, rules, get_or, true, false}
+use Rattle.text.specs.Words.{is_digit, up_to}
+use Rattle.extend.specs.Inner.Filled.{said}
+use Rattle.extend.proofs.WordLaws.{digit_last, digits_all, digit_size, digit_next, upto_over}
+use Rattle.text.proofs.Read.{word_none}
 use Rattle.extend.proofs.spell.digits.Goals as goal
 
--- the number come to, where the word ends here
-number-here :
-    (text : List ℕ) (from most i n : ℕ) → n ≤ most → most < 65536 → word_size (drop i text) ≡ 0
-    → from + word_size (drop from text) ≡ i + word_size (drop i text)
-    → digits_from 0 (word_of (drop from text)) ≡ digits_from n (word_of (drop i text))
-    → Says (up_to most (digits_from 0 (word_of (drop from text)))) text from (record { number = n; end = i })
-number-here text from most i n h small e k d =
-    says_number text from i n (upto_some most n (d ∙ digits_end (drop i text) n e) h) (omega arith) (omega (arith, k, e))
+pub returns-then-not-is_ascii_digit : goal.returns-then-not-is_ascii_digit
+unfolding is_digit
+returns-then-not-is_ascii_digit c =
+    let l = c.loop-size in
+    let no_digit : is_digit (get_or c.args.text.now l.size 0) ≡ false = search rules in
+    c.then_some.ensures
+    ∙ digit_last c.args.text.now c.args.most l.size l.number c.ends_word.result (omega arith) l.invariant.few l.invariant.width l.invariant.left no_digit
+    c.ends_word.ensures
 
-pub returns-then-c-eq32 : goal.returns-then-c-eq32
-returns-then-c-eq32 c = let text = c.args.text.now in
-    number-here text _ _ c.loop-i.i c.loop-i.n (omega arith) (omega arith)
-    (word_space text c.loop-i.i (omega arith) (omega (arith, c.wide-c.ensures.0))) c.loop-i.invariant.3 c.loop-i.invariant.4
+pub returns-then-most-number : goal.returns-then-most-number
+unfolding said is_digit
+returns-then-most-number c =
+    let l = c.loop-size in
+    let digit : is_digit (get_or c.args.text.now l.size 0) ≡ true = search rules in
+    let left = l.invariant.left ∙ digit_next c.args.text.now l.size l.number (omega arith) c.from.result c.from.ensures digit in
+    rw (ap (up_to c.args.most) left ∙ upto_over _ _ _ (omega arith))
 
-pub returns-then-c-eq10 : goal.returns-then-c-eq10
-returns-then-c-eq10 c = let text = c.args.text.now in
-    number-here text _ _ c.loop-i.i c.loop-i.n (omega arith) (omega arith)
-    (word_feed text c.loop-i.i (omega arith) (omega (arith, c.wide-c.ensures.0))) c.loop-i.invariant.3 c.loop-i.invariant.4
-
-pub returns-then-c-lt48 : goal.returns-then-c-lt48
-returns-then-c-lt48 c = let text = c.args.text.now in
-    says_outside text _ _ (upto_none _ (c.loop-i.invariant.4 ∙ digits_low text c.loop-i.i c.loop-i.n c.wide-c.result c.wide-c.ensures.0 (omega arith) (omega arith)
-    (λ x. absurd (c.if-c-eq32.false x)) (λ x. absurd (c.if-c-eq10.false x))))
-
-pub returns-then-c-gt57 : goal.returns-then-c-gt57
-returns-then-c-gt57 c = let text = c.args.text.now in
-    says_outside text _ _ (upto_none _ (c.loop-i.invariant.4 ∙ digits_high text c.loop-i.i c.loop-i.n c.wide-c.result c.wide-c.ensures.0 (omega arith) (omega arith)))
-
-pub returns-then-most-n : goal.returns-then-most-n
-returns-then-most-n c = let text = c.args.text.now in
-    says_outside text _ _ (ap (up_to _) (c.loop-i.invariant.4 ∙ digits_next text c.loop-i.i c.loop-i.n c.wide-c.result c.wide-c.ensures.0 (omega arith) (omega arith) (omega arith))
-    ∙ upto_over _ _ _ (omega arith))
-
-pub loop-i-preserved : goal.loop-i-preserved
-loop-i-preserved c = let text = c.args.text.now in (
-  omega arith,
-  omega arith,
-  omega arith,
-  end_next text _ c.loop-i.i c.loop-i.invariant.3 (omega arith) (λ x. absurd (omega (arith, x, c.wide-c.ensures.0))) (λ x. absurd (omega (arith, x, c.wide-c.ensures.0))),
-  c.loop-i.invariant.4 ∙ digits_next text c.loop-i.i c.loop-i.n c.wide-c.result c.wide-c.ensures.0 (omega arith) (omega arith) (omega arith),
-)
+pub loop-size-preserved : goal.loop-size-preserved
+unfolding is_digit
+loop-size-preserved c =
+    let l = c.loop-size in
+    let digit : is_digit (get_or c.args.text.now l.size 0) ≡ true = search rules in
+    record {
+      few = omega arith;
+      width = omega (arith, l.invariant.width, digit_size c.args.text.now l.size l.number (omega arith) c.from.result c.from.ensures digit);
+      left = l.invariant.left ∙ digit_next c.args.text.now l.size l.number (omega arith) c.from.result c.from.ensures digit;
+    }
 
 pub returns : goal.returns
-returns c = let text = c.args.text.now in
-    number-here text _ _ c.loop-i.i c.loop-i.n (omega arith) (omega arith) (word_none text c.loop-i.i (omega arith)) c.loop-i.invariant.3 c.loop-i.invariant.4
-
-pub loop-i-init : goal.loop-i-init
-loop-i-init c =
-    (omega arith, omega arith, omega arith, refl, refl)
+returns c =
+    let l = c.loop-size in
+    let none = word_none c.args.text.now l.size (omega arith) in
+    sym (digits_all c.args.text.now c.args.most l.size l.number l.invariant.few l.invariant.left none (omega (arith, l.invariant.width, none)))

@@ -1,22 +1,26 @@
--- `number` meets its contract: digits, of which the first is 0 only where it is the only one. Assumes nothing.
-use native.Mathlib.Omega.{arith}
-use Rattle.extend.proofs.WordLaws.{number_outside, number_empty, number_one, number_inside, number_zero, number_more}
+-- `number` meets its contract. Assumes nothing.
+use Rattle.std.proofs.Common.{sym, ◌∙◌, arith}
+use Rattle.extend.proofs.WordLaws.{number_none, number_inside, number_no_digit, number_leading, number_some}
 use Rattle.extend.proofs.spell.number.Goals as goal
+use Rattle.extend.proofs.spell.number.Goals.{else-word-gt1-via-then-word-gt1+else-text-eq48, else-word-gt1-via-else-word-gt1}
 
-pub returns-then-word-eq-OUTSIDE : goal.returns-then-word-eq-OUTSIDE
-returns-then-word-eq-OUTSIDE c = let a = c.args in number_outside a.text.now a.from a.most (omega arith) (omega arith) c.digits-word.result c.digits-word.ensures c.if-word-eq-OUTSIDE.true
+pub returns-in_err-word : goal.returns-in_err-word
+returns-in_err-word c = c.from_residual.ensures ∙ sym (number_none c.args.text.now c.args.most (sym c.digits.ensures ∙ c.in_err-word.was))
 
-pub returns-then-word-from : goal.returns-then-word-from
-returns-then-word-from c = let a = c.args in number_empty a.text.now a.from a.most (omega arith) (omega arith) c.digits-word.result c.digits-word.ensures c.if-word-eq-OUTSIDE.false c.if-word-from.true
+pub returns-then-word-eq0 : goal.returns-then-word-eq0
+returns-then-word-eq0 c = sym (number_no_digit c.args.text.now c.args.most c.in_ok-word.word (sym c.digits.ensures ∙ c.in_ok-word.was) c.if-word-eq0.true)
 
-pub returns-then-word-from-2 : goal.returns-then-word-from-2
-returns-then-word-from-2 c = let a = c.args in number_one a.text.now a.from a.most (omega arith) (omega arith) c.digits-word.result c.digits-word.ensures c.if-word-eq-OUTSIDE.false c.if-word-from-2.true
+pub bounds-text-0 : goal.bounds-text-0
+bounds-text-0 c = omega (arith, number_inside c.args.text.now c.args.most c.in_ok-word.word (sym c.digits.ensures ∙ c.in_ok-word.was))
 
-pub bounds-text-from : goal.bounds-text-from
-bounds-text-from c = let a = c.args in number_inside a.text.now a.from a.most (omega arith) (omega arith) c.digits-word.result c.digits-word.ensures c.if-word-eq-OUTSIDE.false c.if-word-from.false c.if-word-from-2.false
-
-pub returns-then-text-from-eq48 : goal.returns-then-text-from-eq48
-returns-then-text-from-eq48 c = let a = c.args in number_zero a.text.now a.from a.most (omega arith) (omega arith) c.digits-word.result c.digits-word.ensures c.if-word-eq-OUTSIDE.false c.if-word-from.false c.if-word-from-2.false c.if-text-from-eq48.true
+pub returns-then-text-eq48 : goal.returns-then-text-eq48
+returns-then-text-eq48 c =
+    sym (number_leading c.args.text.now c.args.most c.in_ok-word.word (sym c.digits.ensures ∙ c.in_ok-word.was) c.if-word-gt1.true c.if-text-eq48.true)
 
 pub returns : goal.returns
-returns c = let a = c.args in number_more a.text.now a.from a.most (omega arith) (omega arith) c.digits-word.result c.digits-word.ensures c.if-word-eq-OUTSIDE.false c.if-word-from.false c.if-word-from-2.false c.if-text-from-eq48.false
+returns c =
+    let some = number_some c.args.text.now c.args.most c.in_ok-word.word (sym c.digits.ensures ∙ c.in_ok-word.was) c.if-word-eq0.false in
+    elim c.else-word-gt1.branch [
+      | else-word-gt1-via-then-word-gt1+else-text-eq48 w ↦ sym (some (λ _. w.if-text-eq48.false))
+      | else-word-gt1-via-else-word-gt1 w ↦ sym (some (λ h. absurd (omega arith)))
+    ]

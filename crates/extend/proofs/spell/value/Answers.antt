@@ -7,7 +7,6 @@ unfolding value_of
 returns-in-Member c = rw c.in-Member.is c.number.ensures
 
 pub returns-in-AnyType : goal.returns-in-AnyType
-unfolding value_of
 returns-in-AnyType c = rw c.in-AnyType.is c.any_type.ensures
 
 pub returns-in-Number : goal.returns-in-Number
@@ -19,5 +18,4 @@ unfolding value_of
 returns-in-Predicate c = rw c.in-Predicate.is c.number-in-Predicate.ensures
 
 pub returns-in-Condition : goal.returns-in-Condition
-unfolding value_of
 returns-in-Condition c = rw c.in-Condition.is c.condition.ensures

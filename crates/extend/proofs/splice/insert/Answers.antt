@@ -1,20 +1,19 @@
--- `insert` meets its contract: its four steps, one after the other. Assumes nothing.
-use native.Mathlib.Omega.{arith}
-use Prim.Native.Nat.{◌+◌, ◌≤◌}
-use mathlib.Core.Path.{refl}
-use lib.ListN.{length}
-use Rattle.extend.proofs.MoveLaws.{part_room, steps_insert}
+-- `insert` meets its contract: what follows moves up, the record is written, and two numbers grow. Assumes nothing.
+use Rattle.std.proofs.Common.{◌≡◌, ap₂, ◌∙◌, ℕ, ◌+◌, List, length}
+use Rattle.extension.specs.Inner.Splice.{put_word_at, spliced, inserted}
+use Rattle.extend.proofs.MoveLaws.{put_is}
 use Rattle.extend.proofs.splice.insert.Goals as goal
 
-pub copy-requires : goal.copy-requires
-copy-requires c =
-    let room : (let a = c.args in a.slot.at + length a.part.now) ≤ length c.shift_up.new.buffer = omega (arith, c.requires.within, c.requires.room) in
-    part_room c.shift_up.new.buffer _ _ room
-
 pub returns : goal.returns
+unfolding inserted
 returns c =
-    let room : (let a = c.args in a.slot.at + length a.part.now) ≤ length c.shift_up.new.buffer = omega (arith, c.requires.within, c.requires.room) in
-    let copied = c.copy in
-    steps_insert _ _ _ _ _ _ c.args.slot.at c.args.slot.size c.args.slot.field c.args.slot.count (length c.args.part.now) refl
-    c.requires.within c.requires.room c.shift_up.ensures room copied.ensures.1
-    c.put_word.ensures c.put_word-2.ensures
+    let a = c.args in
+    let long : List ℕ = put_word_at (spliced a.buffer.now a.part.now a.slot.at a.slot.size) 1 (a.slot.size + length a.part.now) in
+    let written : c.put_word.new.buffer ≡ long =
+    rw (
+      c.put_word.ensures,
+      c.copy_from_slice.ensures.after,
+      c.copy_within.ensures.after,
+      put_is a.buffer.now a.part.now a.slot.at a.slot.size c.requires.within c.requires.room,
+    ) in
+    c.put_word-2.ensures ∙ ap₂ (λ (l : List ℕ) (p : ℕ). put_word_at l p (a.slot.count + 1)) written c.count_place.ensures.0

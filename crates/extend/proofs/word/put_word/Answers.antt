@@ -1,13 +1,8 @@
--- `put_word_lem` meets its contract. Assumes nothing.
-use native.Mathlib.Omega.{arith}
-use Prim.Native.Nat.{◌/◌, ◌%◌}
-use mathlib.Core.Path.{◌≡◌}
-use Rattle.extension.specs.Inner.Splice.{put_word_at}
+-- `put_word` meets its contract. Assumes nothing.
+use Rattle.std.proofs.Common.{◌∙◌, arith}
+use Rattle.extend.proofs.MoveLaws.{word_put}
 use Rattle.extend.proofs.word.put_word.Goals as goal
 
 pub returns : goal.returns
-unfolding put_word_at
-returns c = let v = c.args.value in
-    let high : c.low.result ≡ v / 256 = omega arith in
-    let less : c.low-2.result ≡ v % 256 = omega arith in
-    rw (high, less)
+returns c = let a = c.args in
+    word_put a.at a.value a.buffer.now c.copy_from_slice.new.self (omega arith) (omega arith) (c.copy_from_slice.ensures.after ∙ c.to_be_bytes.ensures)
