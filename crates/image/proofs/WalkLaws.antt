@@ -14,11 +14,13 @@ use Rattle.format.specs.declared.Misread.TheVariants.{BadField}
 use Rattle.format.specs.Refusals.{◌or_else◌, unless_refused}
 use Rattle.format.specs.Format.{count_of}
 use Rattle.format.specs.Policy.{record_at, place_after}
+use Rattle.format.specs.Longest.{longest_length}
 use Rattle.format.specs.Check.{read_of, read_fault, section_fault}
 use Rattle.format.specs.Inner.Places.{Stands}
+use Rattle.format.proofs.Records.{place_snoc}
 use Rattle.format.proofs.Shapes.{stands, read_whole, read_bad_field}
 use Rattle.format.proofs.Fields.{field_inside}
-use Rattle.image.specs.Inner.Walk.{walk_of, noted_from, Fits}
+use Rattle.image.specs.Inner.Walk.{walk_of, noted_from, Fits, Hops}
 use Rattle.std.specs.Prelude.{Some, Ok, Err}
 
 -- the part of a list from a place on, as a part of a slice is given
@@ -93,3 +95,41 @@ module _ (l : List ℕ) (s : Section) (at : ℕ) where
       pub note_stops : (x : Misread) (f : Refusal) → 0 < n → read_of s (count_of l Groups) (drop at l) ≡ Err x → read_fault at (Err x) ≡ Some f → noted_from l s at k n ps ≡ set ps k at
       unfolding noted_from unless_refused
       note_stops x f h r q = let e : n ≡ suc (n - 1) = omega arith in rw e (simp (r, q))
+
+-- ---- from length byte to length byte: the place past k records, and the part that starts there
+
+pub record Hopped (l : List ℕ) (from k at : ℕ) (part : List ℕ) : Type 0 where
+  pub place : at ≡ place_after l from k
+  pub starts : part ≡ drop at l
+
+module _ (l : List ℕ) (from n : ℕ) (h : Hops l from n) where
+  pub hop_first : (at : ℕ) → at ≡ from → Hopped l from 0 from (take (length l - at) (drop at l))
+  unfolding place_after
+  hop_first at e = record { place = refl; starts = part_from l at ∙ ap (λ (at : ℕ). drop at l) e }
+
+  pub hop_starts : from ≤ length l
+  unfolding place_after
+  hop_starts = h.inside 0 (omega arith)
+
+  module _ (k at : ℕ) (part : List ℕ) (s : Hopped l from k at part) (more : k < n) where
+    pub hop_room : 0 < length part
+    hop_room = omega (arith, part_length l part at s.starts, s.place, h.byte k more)
+
+    module _ (size : ℕ) (is : size ≡ get_or part 0 0) where
+      next_place : at + size ≡ place_after l from (k + 1)
+      next_place =
+          let byte : size ≡ get_or l at 0 = is ∙ part_first l part at s.starts in
+          ap (λ (b : ℕ). at + b) byte ∙ ap (λ (at : ℕ). at + get_or l at 0) s.place ∙ sym (place_snoc l from k) ∙ ap (place_after l from) (sym (add-one k))
+
+      pub hop_inside : size ≤ length part
+      hop_inside = omega (arith, part_length l part at s.starts, next_place, h.inside (k + 1) (omega arith))
+
+      pub hop_fits : at + size ≤ longest_length
+      hop_fits = omega (arith, next_place, h.fits (k + 1) (omega arith))
+
+      pub hop_next : (by : ℕ) → by ≡ get_or part 0 0 → Hopped l from (k + 1) (at + size) (take (length part - by) (drop by part))
+      hop_next by e =
+          record {
+            place = next_place;
+            starts = part_next l part at by s.starts ∙ ap (λ (n : ℕ). drop (at + n) l) (e ∙ sym is);
+          }

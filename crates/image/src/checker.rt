@@ -5,16 +5,17 @@ ghost use Rattle.format.specs.Answers.{outcome, starts};
 ghost use Rattle.image.specs.Survey.{Surveys, SurveysOld};
 ghost use Rattle.image.specs.Inner.Walk.{walk_of, ends_of, Ahead, Walks, ChecksBody, Checks};
 ghost use Rattle.format.specs.Refusals.{refusal};
+ghost use Rattle.format.specs.Causes.{number_of};
 
 use crate::reader::read_record;
 use crate::twins::{check_twins, fill_alike};
-use crate::word::{narrow, wide_word, word_at, word_in};
-use format::{Misread, Refusal, Section, Starts, header};
+use crate::word::{word_at, word_in};
+use format::{Cause, Misread, Refusal, Section, Starts, header};
 
 // The place of the first record, behind the header.
 const FIRST: u16 = header::SIZE as u16;
 
-// A place goes into slot k of a table, where it has that slot.
+// A place goes into slot k of a table, where it has that slot. (What a slice ends as, `get_mut` does not say.)
 fn note(places: &mut [u16], k: usize, at: u16)
     ensures { places.new ≡ set places.old k at }
 {
@@ -29,14 +30,8 @@ fn misread(error: Misread, at: usize) -> Refusal
     ensures { read_fault at (Err error) ≡ Some result }
 {
     match error {
-        Misread::Malformed => Refusal {
-            number: 5,
-            place: at,
-        },
-        Misread::BadField(i) => Refusal {
-            number: 6,
-            place: at + i,
-        },
+        Misread::Malformed => Cause::Record.at(at),
+        Misread::BadField(i) => Cause::Field.at(at + i),
     }
 }
 
@@ -55,15 +50,15 @@ fn walk(
     ensures { Walks image.now section from count places.old result places.new }
 {
     let mut at = from;
-    let mut part = &image[wide_word(from)..];
+    let mut part = &image[usize::from(from)..];
     for k in 0..count {
         note(places, k, at);
         match read_record(part, section, groups) {
             Ok(length) => {
                 part = &part[length..];
-                at += narrow(length);
+                at += length as u16;
             }
-            Err(error) => return Err(misread(error, wide_word(at))),
+            Err(error) => return Err(misread(error, usize::from(at))),
         }
     }
     Ok(at)
@@ -83,10 +78,10 @@ fn walk_on(
     walk(image, groups, section, count, from, &mut [])
 }
 
-fn refused(number: u8, place: usize) -> Result<(), Refusal>
-    ensures { result ≡ Err (refusal number place) }
+fn refused(cause: Cause, place: usize) -> Result<(), Refusal>
+    ensures { result ≡ Err (refusal (number_of cause) place) }
 {
-    Err(Refusal { number, place })
+    Err(cause.at(place))
 }
 
 // Refusals 1 to 4.
@@ -94,26 +89,26 @@ fn check_header(image: &[u8]) -> Result<(), Refusal>
     ensures { result ≡ outcome (header_fault eqb image.now) tt }
 {
     if image.len() < header::SIZE {
-        return refused(1, 0);
+        return refused(Cause::ShortImage, 0);
     }
     if image[0] != 1 {
-        return refused(2, 0);
+        return refused(Cause::Version, 0);
     }
     let size = word_in(image, header::LENGTH_AT);
     if size < header::SIZE {
-        return refused(3, 0);
+        return refused(Cause::Length, 0);
     }
     if size != image.len() {
-        return refused(3, 0);
+        return refused(Cause::Length, 0);
     }
     if header::MOST_GROUPS < word_in(image, header::GROUPS_AT) {
-        return refused(4, header::GROUPS_AT);
+        return refused(Cause::Count, header::GROUPS_AT);
     }
     if header::MOST_RULES < word_in(image, header::RULES_AT) {
-        return refused(4, header::RULES_AT);
+        return refused(Cause::Count, header::RULES_AT);
     }
     if header::MOST_CONSTRAINTS < word_in(image, header::CONSTRAINTS_AT) {
-        return refused(4, header::CONSTRAINTS_AT);
+        return refused(Cause::Count, header::CONSTRAINTS_AT);
     }
     Ok(())
 }
@@ -122,13 +117,13 @@ fn check_header(image: &[u8]) -> Result<(), Refusal>
 fn check_end(image: &[u8], rules: u16, constraints: u16, end: u16) -> Result<Starts, Refusal>
     ensures { result ≡ ends_of image.now rules constraints end }
 {
-    let place = wide_word(end);
+    let place = usize::from(end);
     if place < image.len() {
-        return Err(Refusal { number: 7, place });
+        return Err(Cause::BytesBehind.at(place));
     }
     Ok(Starts {
-        rules: wide_word(rules),
-        constraints: wide_word(constraints),
+        rules: usize::from(rules),
+        constraints: usize::from(constraints),
     })
 }
 

@@ -1,39 +1,37 @@
 // The fields of a record, by its kind: each function takes a record's own bytes, of a length of its kind.
-ghost use Rattle.std.specs.Prelude.{◌≡◌, true, ◌+◌, ◌≤◌, ◌<◌, ◌%◌, length, drop};
+ghost use Rattle.std.specs.Prelude.{◌≡◌, true, ◌&&◌, ◌+◌, ◌≤◌, ◌<◌, ◌%◌, nat_lt, length, drop, fold};
+ghost use Rattle.std.specs.List.{zip};
+ghost use Rattle.std.specs.Int.{w16, from_be_bytes};
 ghost use Rattle.format.specs.Bytes.{word_at, words};
 ghost use Rattle.format.specs.Format.{is_type, bad_type, bad_group, bad_allow, bad_transition, bad_constraint};
 ghost use Rattle.format.specs.Check.{read_fields};
 
 use crate::kind::{is_condition, is_type, list_ok};
-use crate::word::{pair_in, word_in};
+use crate::word::word_in;
 use format::Misread;
 
-// Whether members rise strictly and each is a basic type, from the last to the first: only the last is compared with
-// 1,024, and a turn has two members. A false tells nothing.
+// Whether each number is below the one that stands at its place in another list. None ends the walk, so that many are
+// compared at a time: on 64 members less than half the time that `is_sorted_by` takes, on few some nanoseconds more.
+fn all_below(numbers: &[[u8; 2]], others: &[[u8; 2]]) -> bool
+    ensures { result ≡ fold (λ below p. below && nat_lt (from_be_bytes w16 p.0) (from_be_bytes w16 p.1)) true
+        (zip numbers.now others.now) }
+{
+    numbers
+        .iter()
+        .zip(others)
+        .fold(true, |below, (number, other)| {
+            below & (u16::from_be_bytes(*number) < u16::from_be_bytes(*other))
+        })
+}
+
+// Whether members rise strictly and each is a basic type: where they rise, only the last is compared with 1,024. A false
+// tells nothing.
 fn rises(part: &[u8]) -> bool
     requires { (4 ≤ length part.now) × (length part.now % 2 ≡ 0) }
     ensures { result ≡ true → bad_group part.now ≡ None }
 {
-    let mut at = part.len() - 2;
-    let mut next = pair_in(part, at);
-    if 1024 <= next {
-        return false;
-    }
-    while 4 < at {
-        let member = pair_in(part, at - 2);
-        if next <= member {
-            return false;
-        }
-        next = pair_in(part, at - 4);
-        if member <= next {
-            return false;
-        }
-        at -= 4;
-    }
-    if 2 < at {
-        return pair_in(part, 2) < next;
-    }
-    true
+    let (members, _) = part[2..].as_chunks::<2>();
+    word_in(part, part.len() - 2) < 1024 && all_below(members, &members[1..])
 }
 
 // Members rise strictly, and each is a basic type.
@@ -52,10 +50,11 @@ fn first_member(part: &[u8]) -> Result<usize, Misread>
     requires { 2 ≤ length part.now }
     ensures { result ≡ read_fields (bad_group part.now) (length part.now) }
 {
-    let mut at: usize = 2;
-    let mut low: usize = 0;
-    while 1 < part.len() - at {
-        let member = word_in(part, at);
+    let (members, _) = part[2..].as_chunks::<2>();
+    let mut low = 0;
+    for (i, member) in members.iter().enumerate() {
+        let at = 2 + 2 * i;
+        let member = u16::from_be_bytes(*member);
         if member < low {
             return Err(Misread::BadField(at));
         }
@@ -63,7 +62,6 @@ fn first_member(part: &[u8]) -> Result<usize, Misread>
             return Err(Misread::BadField(at));
         }
         low = member + 1;
-        at += 2;
     }
     Ok(part.len())
 }
@@ -81,12 +79,12 @@ fn type_list(part: &[u8], groups: usize, from: usize) -> Result<usize, Misread>
     requires { from ≤ length part.now }
     ensures { result ≡ read_fields (bad_type groups from (words (drop from part.now))) (length part.now) }
 {
-    let mut at = from;
-    while 1 < part.len() - at {
-        if !type_at(part, groups, at) {
+    let (types, _) = part[from..].as_chunks::<2>();
+    for (i, field) in types.iter().enumerate() {
+        let at = from + 2 * i;
+        if !is_type(groups, usize::from(u16::from_be_bytes(*field))) {
             return Err(Misread::BadField(at));
         }
-        at += 2;
     }
     Ok(part.len())
 }

@@ -7,8 +7,8 @@ ghost use Rattle.format.specs.Give.{give_fault, Given};
 ghost use Rattle.image.specs.Inner.Walk.{start_in, Hops};
 
 use crate::checker::layout;
-use crate::word::{half, narrow, wide, wide_word, word_in};
-use format::{Extent, Refusal, Section, Starts, header};
+use crate::word::word_in;
+use format::{Cause, Extent, Refusal, Section, Starts, header};
 
 // How many records a section has.
 fn count_in(image: &[u8], section: Section) -> usize
@@ -40,11 +40,11 @@ fn place_after(image: &[u8], from: u16, count: usize) -> u16
     ensures { result ≡ place_after image.now from count }
 {
     let mut at = from;
-    let mut part = &image[wide_word(from)..];
-    for k in 0..count {
+    let mut part = &image[usize::from(from)..];
+    for _ in 0..count {
         let length = part[0];
-        part = &part[wide(length)..];
-        at += half(length);
+        part = &part[usize::from(length)..];
+        at += u16::from(length);
     }
     at
 }
@@ -55,16 +55,13 @@ pub fn find(image: &[u8], section: Section, n: usize) -> Result<Extent, Refusal>
 {
     let starts = layout(image)?;
     if count_in(image, section) <= n {
-        return Err(Refusal {
-            number: 14,
-            place: 0,
-        });
+        return Err(Cause::NoSuchRecord.at(0));
     }
-    let start = narrow(start_in(starts, section));
-    let place = wide_word(place_after(image, start, n));
+    let start = start_in(starts, section) as u16;
+    let place = usize::from(place_after(image, start, n));
     Ok(Extent {
         place,
-        length: wide(image[place]),
+        length: usize::from(image[place]),
     })
 }
 

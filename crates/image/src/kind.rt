@@ -5,6 +5,7 @@ ghost use Rattle.format.specs.Format.{is_type, is_condition, kind_in, length_ok,
 use format::Section;
 
 // Whether a number is a type field, where there are so many groups.
+#[tactic(auto, unfolding(format::specs::Format::is_type))]
 pub fn is_type(groups: usize, field: usize) -> bool
     ensures { result ≡ is_type groups field }
 {
@@ -16,49 +17,41 @@ pub fn is_type(groups: usize, field: usize) -> bool
 }
 
 // Off, on, or one of 32 switches.
+#[tactic(auto, unfolding(format::specs::Format::is_condition))]
 pub(crate) fn is_condition(byte: u8) -> bool
     ensures { result ≡ is_condition byte }
 {
-    match byte {
-        0..=33 => true,
-        _ => false,
-    }
+    matches!(byte, 0..=33)
 }
 
 // Whether a kind is one of the section's.
+#[tactic(auto, unfolding(format::specs::Format::kind_in))]
 pub(crate) fn kind_in(section: Section, kind: u8) -> bool
     ensures { result ≡ kind_in section kind }
 {
     match section {
         Section::Groups => kind == 1,
-        Section::Rules => match kind {
-            2..=3 => true,
-            _ => false,
-        },
+        Section::Rules => matches!(kind, 2..=3),
         Section::Constraints => kind == 4,
     }
 }
 
 // Whether a length is one of the kind's.
+#[tactic(auto, unfolding(format::specs::Format::length_ok))]
 pub(crate) fn length_ok(kind: u8, length: usize) -> bool
     ensures { result ≡ length_ok kind length }
 {
-    match kind {
-        1 => match length {
-            4..=130 => length % 2 == 0,
-            _ => false,
-        },
-        2 => length == 11,
-        3 => length == 8,
-        4 => match length {
-            11..=43 => length % 2 == 1,
-            _ => false,
-        },
+    match (kind, length) {
+        (1, 4..=130) => length % 2 == 0,
+        (2, 11) => true,
+        (3, 8) => true,
+        (4, 11..=43) => length % 2 == 1,
         _ => false,
     }
 }
 
 // Whether a list of so many types suits a predicate.
+#[tactic(auto, unfolding(format::specs::Format::list_ok))]
 pub(crate) fn list_ok(predicate: u8, types: usize) -> bool
     ensures { result ≡ list_ok predicate types }
 {

@@ -4,7 +4,6 @@ ghost use Rattle.format.specs.Check.{read_of};
 
 use crate::fields::{allow_fields, constraint_fields, group_fields, transition_fields};
 use crate::kind::{kind_in, length_ok};
-use crate::word::wide;
 use format::{Misread, Section};
 
 // The record that a part starts with, for a section of an image with so many groups. The part goes on past the record.
@@ -14,7 +13,7 @@ pub fn read_record(part: &[u8], section: Section, groups: usize) -> Result<usize
     if part.len() < 2 {
         return Err(Misread::Malformed);
     }
-    let length = wide(part[0]);
+    let length = usize::from(part[0]);
     if part.len() < length {
         return Err(Misread::Malformed);
     }

@@ -10,12 +10,12 @@ pub returns-then-place-image : goal.returns-then-place-image
 unfolding ends_of need
 returns-then-place-image c =
     let a = c.args in
-    let e = c.wide_word-place.ensures.0 in
-    rw e (simp (lt-leb (length a.image.now) a.end (omega (arith, e))))
+    let e = c.from-place.ensures in
+    rw (c.at.ensures, e) (simp (lt-leb (length a.image.now) a.end (omega (arith, e))))
 
 pub returns : goal.returns
 unfolding ends_of need
 returns c =
     let a = c.args in
-    rw (c.wide_word.ensures.0, c.wide_word-2.ensures.0)
-    (simp (le-leb (length a.image.now) a.end (omega (arith, c.wide_word-place.ensures.0))))
+    rw (c.from.ensures, c.from-2.ensures)
+    (simp (le-leb (length a.image.now) a.end (omega (arith, c.from-place.ensures))))

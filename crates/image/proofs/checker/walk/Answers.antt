@@ -18,7 +18,7 @@ use Rattle.image.proofs.checker.walk.Goals as goal
 use Rattle.std.specs.Prelude.{Ok, Err}
 
 pub slice_bounds-part-count : goal.slice_bounds-part-count
-slice_bounds-part-count c = omega (arith, c.wide_word.ensures.0, c.requires.inside)
+slice_bounds-part-count c = omega (arith, c.from.ensures, c.requires.inside)
 
 pub loop-k-init : goal.loop-k-init
 loop-k-init c =
@@ -29,7 +29,7 @@ loop-k-init c =
       rw sub-zero,
       rw sub-zero,
       rw sub-zero c.requires.fits,
-      part_from image _ ∙ ap (λ at. drop at image) c.wide_word.ensures.0,
+      part_from image _ ∙ ap (λ at. drop at image) c.from.ensures,
     )
 
 pub slice_bounds-part-count-in-Ok : goal.slice_bounds-part-count-in-Ok
@@ -54,8 +54,8 @@ slice_bounds-part-start-in-Ok c =
     let whole : reading ≡ Ok c.in-Ok.length = sym read ∙ c.in-Ok.is in
     omega (arith, part_length l _ c.loop-k.at c.loop-k.invariant.6, whole_inside l _ c.loop-k.at _ whole)
 
-pub narrow-at-requires : goal.narrow-at-requires
-narrow-at-requires c =
+pub overflow_cast-at : goal.overflow_cast-at
+overflow_cast-at c =
     let l : List ℕ = c.args.image.now in
     let reading : Read = read_of c.args.section (count_of l Groups) (drop c.loop-k.at l) in
     let read : c.read_record.result ≡ reading = let a = c.args in
@@ -78,7 +78,7 @@ overflow_add-at c =
     let whole : reading ≡ Ok c.in-Ok.length = sym read ∙ c.in-Ok.is in
     let fits : Fits l c.args.section (c.loop-k.at + c.in-Ok.length)
     (c.args.count - (c.loop-k.k + 1)) = fits_whole _ _ _ _ _ _ (omega arith) whole c.loop-k.invariant.5 in
-    omega (arith, c.narrow-at.ensures, fits_here _ _ _ _ fits)
+    omega (arith, fits_here _ _ _ _ fits)
 
 pub misread-requires : goal.misread-requires
 misread-requires c i e =
@@ -89,7 +89,7 @@ misread-requires c i e =
     ∙ ap (λ p. read_of a.section a.groups p) c.loop-k.invariant.6
     ∙ ap (λ g. read_of a.section g (drop c.loop-k.at l)) c.requires.groups in
     let bad : reading ≡ Err (BadField i) = sym read ∙ c.in-Err.is ∙ ap Err e in
-    omega (arith, c.wide_word-in-Err.ensures.0, bad_inside _ _ c.loop-k.at _ bad)
+    omega (arith, c.from-in-Err.ensures, bad_inside _ _ c.loop-k.at _ bad)
 
 pub returns-in-Err : goal.returns-in-Err
 returns-in-Err c =
@@ -101,7 +101,7 @@ returns-in-Err c =
     ∙ ap (λ g. read_of a.section g (drop c.loop-k.at l)) c.requires.groups in
     let table : c.note.new.places ≡ set c.loop-k.places c.loop-k.k c.loop-k.at = c.note.ensures in
     let e = sym read ∙ c.in-Err.is in
-    let f = ap (λ p. read_fault p (Err c.in-Err.error)) (sym c.wide_word-in-Err.ensures.0) ∙ c.misread.ensures in
+    let f = ap (λ p. read_fault p (Err c.in-Err.error)) (sym c.from-in-Err.ensures) ∙ c.misread.ensures in
     record {
       comes = sym (c.loop-k.invariant.3 ∙ walk_stops _ _ _ _ _ _ (omega arith) e f);
       table = table ∙ sym (c.loop-k.invariant.4 ∙ note_stops _ _ _ _ _ _ _ _ (omega arith) e f);
@@ -122,8 +122,7 @@ loop-k-preserved c =
     let fits : Fits l c.args.section (c.loop-k.at + c.in-Ok.length)
     (c.args.count - (c.loop-k.k + 1)) = fits_whole _ _ _ _ _ _ (omega arith) whole c.loop-k.invariant.5 in
     let t = c.loop-k in
-    let e = whole in
-    rw c.narrow-at.ensures (
+    let e = whole in (
       omega arith,
       omega (arith, whole_inside _ _ t.at _ e),
       kept,

@@ -26,14 +26,14 @@ returns-then-count_in-n c =
     let l : List ℕ = c.args.image.now in
     let accepted : Accepted l × (c.in_ok-starts.starts ≡ starts l) = outcome_gives _ _ (sym c.in_ok-starts.was ∙ c.layout.ensures) in
     let a = c.args in
-    rw (give_past a.image.now a.section a.n accepted.0 (omega (arith, c.count_in.ensures)))
+    rw (c.at.ensures, give_past a.image.now a.section a.n accepted.0 (omega (arith, c.count_in.ensures)))
 
-pub narrow-start-requires : goal.narrow-start-requires
-narrow-start-requires c =
+pub overflow_cast-start : goal.overflow_cast-start
+overflow_cast-start c =
     let l : List ℕ = c.args.image.now in
     let accepted : Accepted l × (c.in_ok-starts.starts ≡ starts l) = outcome_gives _ _ (sym c.in_ok-starts.was ∙ c.layout.ensures) in
-    let started : c.start_in.result ≡ start_of l c.args.section = let s = c.args.section in
-    c.start_in.ensures ∙ ap (λ y. start_in y s) accepted.1 ∙ start_in_lem l s in
+    let started : c.start_in-start.result ≡ start_of l c.args.section = let s = c.args.section in
+    c.start_in-start.ensures ∙ ap (λ y. start_in y s) accepted.1 ∙ start_in_lem l s in
     omega (arith, started, start_fits _ accepted.0 c.args.section)
 
 pub place_after-requires : goal.place_after-requires
@@ -41,10 +41,9 @@ place_after-requires c =
     let l : List ℕ = c.args.image.now in
     let accepted : Accepted l × (c.in_ok-starts.starts ≡ starts l) = outcome_gives _ _ (sym c.in_ok-starts.was ∙ c.layout.ensures) in
     let counted : c.args.n < count_of l c.args.section = omega (arith, c.count_in.ensures) in
-    let started : c.start_in.result ≡ start_of l c.args.section = let s = c.args.section in
-    c.start_in.ensures ∙ ap (λ y. start_in y s) accepted.1 ∙ start_in_lem l s in
-    let narrowed : c.narrow-start.result ≡ start_of l c.args.section = c.narrow-start.ensures ∙ started in
-    rw narrowed (hops _ _ _ accepted.0 counted)
+    let started : c.start_in-start.result ≡ start_of l c.args.section = let s = c.args.section in
+    c.start_in-start.ensures ∙ ap (λ y. start_in y s) accepted.1 ∙ start_in_lem l s in
+    rw started (hops _ _ _ accepted.0 counted)
 
 pub bounds-image-place : goal.bounds-image-place
 unfolding place_of
@@ -52,12 +51,11 @@ bounds-image-place c =
     let l : List ℕ = c.args.image.now in
     let accepted : Accepted l × (c.in_ok-starts.starts ≡ starts l) = outcome_gives _ _ (sym c.in_ok-starts.was ∙ c.layout.ensures) in
     let counted : c.args.n < count_of l c.args.section = omega (arith, c.count_in.ensures) in
-    let started : c.start_in.result ≡ start_of l c.args.section = let s = c.args.section in
-    c.start_in.ensures ∙ ap (λ y. start_in y s) accepted.1 ∙ start_in_lem l s in
-    let narrowed : c.narrow-start.result ≡ start_of l c.args.section = c.narrow-start.ensures ∙ started in
-    let placed : c.wide_word-place.result ≡ place_of l c.args.section c.args.n = c.wide_word-place.ensures.0
+    let started : c.start_in-start.result ≡ start_of l c.args.section = let s = c.args.section in
+    c.start_in-start.ensures ∙ ap (λ y. start_in y s) accepted.1 ∙ start_in_lem l s in
+    let placed : c.from-place.result ≡ place_of l c.args.section c.args.n = c.from-place.ensures
     ∙ c.place_after.ensures
-    ∙ ap (λ at. place_after l at c.args.n) narrowed in
+    ∙ ap (λ at. place_after l at c.args.n) started in
     rw placed (place_byte _ _ _ accepted.0 counted)
 
 pub returns-in_err-starts : goal.returns-in_err-starts
@@ -73,10 +71,9 @@ returns c =
     let l : List ℕ = c.args.image.now in
     let accepted : Accepted l × (c.in_ok-starts.starts ≡ starts l) = outcome_gives _ _ (sym c.in_ok-starts.was ∙ c.layout.ensures) in
     let counted : c.args.n < count_of l c.args.section = omega (arith, c.count_in.ensures) in
-    let started : c.start_in.result ≡ start_of l c.args.section = let s = c.args.section in
-    c.start_in.ensures ∙ ap (λ y. start_in y s) accepted.1 ∙ start_in_lem l s in
-    let narrowed : c.narrow-start.result ≡ start_of l c.args.section = c.narrow-start.ensures ∙ started in
-    let placed : c.wide_word-place.result ≡ place_of l c.args.section c.args.n = c.wide_word-place.ensures.0
+    let started : c.start_in-start.result ≡ start_of l c.args.section = let s = c.args.section in
+    c.start_in-start.ensures ∙ ap (λ y. start_in y s) accepted.1 ∙ start_in_lem l s in
+    let placed : c.from-place.result ≡ place_of l c.args.section c.args.n = c.from-place.ensures
     ∙ c.place_after.ensures
-    ∙ ap (λ at. place_after l at c.args.n) narrowed in
-    extent_is _ _ _ accepted.0 counted _ _ placed c.wide.ensures.0
+    ∙ ap (λ at. place_after l at c.args.n) started in
+    extent_is _ _ _ accepted.0 counted _ _ placed c.from.ensures

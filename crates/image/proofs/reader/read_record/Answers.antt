@@ -18,19 +18,19 @@ pub returns-then-part-lt2 : goal.returns-then-part-lt2
 returns-then-part-lt2 c = sym (read_tiny _ _ _ _ refl c.if-part-lt2.true)
 
 pub returns-then-part-length : goal.returns-then-part-length
-returns-then-part-length c = sym (read_past _ _ _ _ c.wide-length.ensures.0 c.if-part-length.true)
+returns-then-part-length c = sym (read_past _ _ _ _ c.from-length.ensures c.if-part-length.true)
 
 pub returns-then-not-kind_in : goal.returns-then-not-kind_in
 returns-then-not-kind_in c = sym (read_kind _ _ _ _ refl (told_false c.kind_in.ensures c.if-not-kind_in.true))
 
 pub returns-then-not-length_ok : goal.returns-then-not-length_ok
-returns-then-not-length_ok c = sym (read_length _ _ _ _ c.wide-length.ensures.0 (told_false c.length_ok.ensures c.if-not-length_ok.true))
+returns-then-not-length_ok c = sym (read_length _ _ _ _ c.from-length.ensures (told_false c.length_ok.ensures c.if-not-length_ok.true))
 
 pub slice_bounds-whole-end : goal.slice_bounds-whole-end
 slice_bounds-whole-end c =
     let part : List ℕ = c.args.part.now in
-    let size : ℕ = c.wide-length.result in
-    let size_is : size ≡ get_or part 0 0 = c.wide-length.ensures.0 in
+    let size : ℕ = c.from-length.result in
+    let size_is : size ≡ get_or part 0 0 = c.from-length.ensures in
     let fits : size ≤ length part = omega arith in
     let kind_is : kind_in c.args.section (get_or part 1 0) ≡ true = told_true c.kind_in.ensures c.if-not-kind_in.false in
     let ok : length_ok (get_or part 1 0) size ≡ true = told_true c.length_ok.ensures c.if-not-length_ok.false in
@@ -39,8 +39,8 @@ slice_bounds-whole-end c =
 pub group_fields-requires : goal.group_fields-requires
 group_fields-requires c =
     let part : List ℕ = c.args.part.now in
-    let size : ℕ = c.wide-length.result in
-    let size_is : size ≡ get_or part 0 0 = c.wide-length.ensures.0 in
+    let size : ℕ = c.from-length.result in
+    let size_is : size ≡ get_or part 0 0 = c.from-length.ensures in
     let fits : size ≤ length part = omega arith in
     let kind_is : kind_in c.args.section (get_or part 1 0) ≡ true = told_true c.kind_in.ensures c.if-not-kind_in.false in
     let ok : length_ok (get_or part 1 0) size ≡ true = told_true c.length_ok.ensures c.if-not-length_ok.false in
@@ -49,8 +49,8 @@ group_fields-requires c =
 pub allow_fields-requires : goal.allow_fields-requires
 allow_fields-requires c =
     let part : List ℕ = c.args.part.now in
-    let size : ℕ = c.wide-length.result in
-    let size_is : size ≡ get_or part 0 0 = c.wide-length.ensures.0 in
+    let size : ℕ = c.from-length.result in
+    let size_is : size ≡ get_or part 0 0 = c.from-length.ensures in
     let fits : size ≤ length part = omega arith in
     let kind_is : kind_in c.args.section (get_or part 1 0) ≡ true = told_true c.kind_in.ensures c.if-not-kind_in.false in
     let ok : length_ok (get_or part 1 0) size ≡ true = told_true c.length_ok.ensures c.if-not-length_ok.false in
@@ -59,8 +59,8 @@ allow_fields-requires c =
 pub transition_fields-requires : goal.transition_fields-requires
 transition_fields-requires c =
     let part : List ℕ = c.args.part.now in
-    let size : ℕ = c.wide-length.result in
-    let size_is : size ≡ get_or part 0 0 = c.wide-length.ensures.0 in
+    let size : ℕ = c.from-length.result in
+    let size_is : size ≡ get_or part 0 0 = c.from-length.ensures in
     let fits : size ≤ length part = omega arith in
     let kind_is : kind_in c.args.section (get_or part 1 0) ≡ true = told_true c.kind_in.ensures c.if-not-kind_in.false in
     let ok : length_ok (get_or part 1 0) size ≡ true = told_true c.length_ok.ensures c.if-not-length_ok.false in
@@ -69,8 +69,8 @@ transition_fields-requires c =
 pub constraint_fields-requires : goal.constraint_fields-requires
 constraint_fields-requires c =
     let part : List ℕ = c.args.part.now in
-    let size : ℕ = c.wide-length.result in
-    let size_is : size ≡ get_or part 0 0 = c.wide-length.ensures.0 in
+    let size : ℕ = c.from-length.result in
+    let size_is : size ≡ get_or part 0 0 = c.from-length.ensures in
     let fits : size ≤ length part = omega arith in
     let kind_is : kind_in c.args.section (get_or part 1 0) ≡ true = told_true c.kind_in.ensures c.if-not-kind_in.false in
     let ok : length_ok (get_or part 1 0) size ≡ true = told_true c.length_ok.ensures c.if-not-length_ok.false in
@@ -84,8 +84,8 @@ constraint_fields-requires c =
 pub returns-in-1 : goal.returns-in-1
 returns-in-1 c =
     let part : List ℕ = c.args.part.now in
-    let size : ℕ = c.wide-length.result in
-    let size_is : size ≡ get_or part 0 0 = c.wide-length.ensures.0 in
+    let size : ℕ = c.from-length.result in
+    let size_is : size ≡ get_or part 0 0 = c.from-length.ensures in
     let fits : size ≤ length part = omega arith in
     let kind_is : kind_in c.args.section (get_or part 1 0) ≡ true = told_true c.kind_in.ensures c.if-not-kind_in.false in
     let ok : length_ok (get_or part 1 0) size ≡ true = told_true c.length_ok.ensures c.if-not-length_ok.false in
@@ -100,8 +100,8 @@ returns-in-1 c =
 pub returns-in-2 : goal.returns-in-2
 returns-in-2 c =
     let part : List ℕ = c.args.part.now in
-    let size : ℕ = c.wide-length.result in
-    let size_is : size ≡ get_or part 0 0 = c.wide-length.ensures.0 in
+    let size : ℕ = c.from-length.result in
+    let size_is : size ≡ get_or part 0 0 = c.from-length.ensures in
     let fits : size ≤ length part = omega arith in
     let kind_is : kind_in c.args.section (get_or part 1 0) ≡ true = told_true c.kind_in.ensures c.if-not-kind_in.false in
     let ok : length_ok (get_or part 1 0) size ≡ true = told_true c.length_ok.ensures c.if-not-length_ok.false in
@@ -116,8 +116,8 @@ returns-in-2 c =
 pub returns-in-3 : goal.returns-in-3
 returns-in-3 c =
     let part : List ℕ = c.args.part.now in
-    let size : ℕ = c.wide-length.result in
-    let size_is : size ≡ get_or part 0 0 = c.wide-length.ensures.0 in
+    let size : ℕ = c.from-length.result in
+    let size_is : size ≡ get_or part 0 0 = c.from-length.ensures in
     let fits : size ≤ length part = omega arith in
     let kind_is : kind_in c.args.section (get_or part 1 0) ≡ true = told_true c.kind_in.ensures c.if-not-kind_in.false in
     let ok : length_ok (get_or part 1 0) size ≡ true = told_true c.length_ok.ensures c.if-not-length_ok.false in
@@ -132,8 +132,8 @@ returns-in-3 c =
 pub returns-in_default : goal.returns-in_default
 returns-in_default c =
     let part : List ℕ = c.args.part.now in
-    let size : ℕ = c.wide-length.result in
-    let size_is : size ≡ get_or part 0 0 = c.wide-length.ensures.0 in
+    let size : ℕ = c.from-length.result in
+    let size_is : size ≡ get_or part 0 0 = c.from-length.ensures in
     let fits : size ≤ length part = omega arith in
     let kind_is : kind_in c.args.section (get_or part 1 0) ≡ true = told_true c.kind_in.ensures c.if-not-kind_in.false in
     let ok : length_ok (get_or part 1 0) size ≡ true = told_true c.length_ok.ensures c.if-not-length_ok.false in

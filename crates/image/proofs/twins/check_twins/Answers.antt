@@ -1,53 +1,47 @@
 -- `check_twins` meets its contract: the first group that is not the first of its kind. Assumes nothing.
 use native.Mathlib.Omega.{arith}
-use Prim.Native.Nat.{ℕ, ◌≤◌}
-use mathlib.Core.Path.{◌≡◌, sym, ap, ◌∙◌}
-use mathlib.Core.List.{List}
-use Rattle.format.specs.declared.Section.TheVariants.{Groups}
-use Rattle.format.specs.Format.{count_of}
+use mathlib.Core.Path.{sym, ap, ◌∙◌}
+use lib.Seq.{length-take-le}
 use Rattle.format.specs.Answers.{outcome}
-use Rattle.format.proofs.ByCase.{count_groups}
-use Rattle.image.proofs.AlikeLaws.{placed_long, placed_few, placed_as, twins_end, twins_here}
+use Rattle.image.specs.Inner.Alike.{Placed}
+use Rattle.image.proofs.AlikeLaws.{placed_long, placed_few, placed_word, twins_end, twins_here, twins_own}
 use Rattle.image.proofs.twins.check_twins.Goals as goal
 
-pub fill_alike-requires : goal.fill_alike-requires
-fill_alike-requires c =
-    let l : List ℕ = c.args.image.now in
-    let count_is : c.word_in-count.result ≡ count_of l Groups = c.word_in-count.ensures.0 ∙ sym (count_groups l) in
-    (placed_as _ _ _ count_is c.requires, omega arith)
-
-pub returns-then-first-count : goal.returns-then-first-count
-returns-then-first-count c =
-    let l : List ℕ = c.args.image.now in
-    let count_is : c.word_in-count.result ≡ count_of l Groups = c.word_in-count.ensures.0 ∙ sym (count_groups l) in
-    let place = c.requires.place c.first_twin-first.result (omega (arith, count_is)) in
-    rw (c.wide_word.ensures.0 ∙ place)
-    (sym (ap (λ f. outcome f tt)
-    (twins_here l _ _ c.word_in-count.result count_is c.fill_alike.ensures
-    c.first_twin-first.result c.first_twin-first.ensures (omega arith))))
-
-pub returns : goal.returns
-returns c =
-    let l : List ℕ = c.args.image.now in
-    let count_is : c.word_in-count.result ≡ count_of l Groups = c.word_in-count.ensures.0 ∙ sym (count_groups l) in
-    sym (ap (λ f. outcome f tt)
-    (twins_end l _ _ c.word_in-count.result count_is c.fill_alike.ensures
-    c.first_twin-first.result c.first_twin-first.ensures (omega arith)))
-
 pub word_in-count-requires : goal.word_in-count-requires
-word_in-count-requires c =
-    placed_long _ _ _ c.requires
+word_in-count-requires c = placed_long _ _ _ c.requires
 
-pub first_twin-first-requires : goal.first_twin-first-requires
-first_twin-first-requires c =
-    let l : List ℕ = c.args.image.now in
-    let count_is : c.word_in-count.result ≡ count_of (l) Groups = c.word_in-count.ensures.0 ∙ sym (count_groups (l)) in
-    let few : c.word_in-count.result ≤ 256 = omega (arith, count_is, placed_few _ _ _ c.requires) in
-    few
+pub fill_alike-requires : goal.fill_alike-requires
+fill_alike-requires c = (placed_word _ _ _ c.word_in-count.ensures.0 c.requires, omega arith)
+
+pub slice_bounds-alike-end : goal.slice_bounds-alike-end
+slice_bounds-alike-end c = omega (arith, placed_few _ _ _ (placed_word _ _ _ c.word_in-count.ensures.0 c.requires))
+
+pub slice_bounds-first_twin-end : goal.slice_bounds-first_twin-end
+slice_bounds-first_twin-end c =
+    let few = placed_few _ _ _ (placed_word _ _ _ c.word_in-count.ensures.0 c.requires) in
+    omega (arith, length-take-le c.word_in-count.result c.fill_alike.new.alike (omega arith))
+
+pub offset_bounds-places-first : goal.offset_bounds-places-first
+offset_bounds-places-first c =
+    let placed : Placed c.args.image.now c.args.places.now c.word_in-count.result = placed_word _ _ _ c.word_in-count.ensures.0 c.requires in
+    let n = placed_few _ _ _ placed in
+    omega (arith, twins_own _ _ _ _ placed.count c.fill_alike.ensures (omega arith) _ c.first_twin.ensures _ c.in-Some.is)
 
 pub bounds-places-first : goal.bounds-places-first
 bounds-places-first c =
-    let l : List ℕ = c.args.image.now in
-    let count_is : c.word_in-count.result ≡ count_of (l) Groups = c.word_in-count.ensures.0 ∙ sym (count_groups (l)) in
-    let few : c.word_in-count.result ≤ 256 = omega (arith, count_is, placed_few _ _ _ c.requires) in
-    omega (arith, few, c.first_twin-first.ensures.most)
+    let placed : Placed c.args.image.now c.args.places.now c.word_in-count.result = placed_word _ _ _ c.word_in-count.ensures.0 c.requires in
+    let n = placed_few _ _ _ placed in
+    omega (arith, twins_own _ _ _ _ placed.count c.fill_alike.ensures (omega arith) _ c.first_twin.ensures _ c.in-Some.is)
+
+pub returns-in-Some : goal.returns-in-Some
+returns-in-Some c =
+    let placed : Placed c.args.image.now c.args.places.now c.word_in-count.result = placed_word _ _ _ c.word_in-count.ensures.0 c.requires in
+    let n = placed_few _ _ _ placed in
+    rw (c.at.ensures, c.from.ensures ∙ placed.place _ (twins_own _ _ _ _ placed.count c.fill_alike.ensures (omega arith) _ c.first_twin.ensures _ c.in-Some.is))
+    (sym (ap (λ f. outcome f tt) (twins_here _ _ _ _ placed.count c.fill_alike.ensures (omega arith) _ c.first_twin.ensures _ c.in-Some.is)))
+
+pub returns : goal.returns
+returns c =
+    let placed : Placed c.args.image.now c.args.places.now c.word_in-count.result = placed_word _ _ _ c.word_in-count.ensures.0 c.requires in
+    let n = placed_few _ _ _ placed in
+    sym (ap (λ f. outcome f tt) (twins_end _ _ _ _ placed.count c.fill_alike.ensures (omega arith) _ c.first_twin.ensures c.in_default.is))

@@ -1,5 +1,4 @@
 -- `fill_alike` meets its contract: the groups before are filed by their keys, and their slots filled. Assumes nothing.
-use Prim.Native.Nat.{◌-◌, ◌≤◌}
 use mathlib.Core.Path.{◌≡◌}
 use lib.ListN.{length}
 use Rattle.format.specs.Policy.{policy_of}
@@ -8,12 +7,9 @@ use Rattle.image.proofs.twins.fill_alike.Given as goal
 
 abbrev pub invariant-loop-k : goal.invariant-loop-k
 invariant-loop-k l =
-    (l.k ≤ l.count)
-    × (length l.alike ≡ length l.initial.alike)
-    × (length l.heads ≡ 1024)
-    × (length l.before ≡ 256)
-    × Filed (policy_of l.image).groups l.k l.heads l.before
-    × Fills (policy_of l.image).groups l.k l.initial.alike l.alike
-
-abbrev pub decreases-loop-k : goal.decreases-loop-k
-decreases-loop-k l = l.count - l.k
+    record {
+      heads : length l.heads ≡ 1024;
+      before : length l.before ≡ 256;
+      filed : Filed (policy_of l.image).groups l.k l.heads l.before;
+      filled : Fills (policy_of l.image).groups l.k l.initial.alike l.alike;
+    }

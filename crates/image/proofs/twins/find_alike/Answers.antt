@@ -1,62 +1,40 @@
--- `find_alike` meets its contract: of the groups with the key, those from the next one on are not alike. Assumes nothing.
+-- `find_alike` meets its contract: an earlier group that is alike is at most the next one. Assumes nothing.
 use native.Mathlib.Omega.{arith}
-use Prim.Native.Nat.{ℕ, ◌-◌, ◌<◌}
-use mathlib.Core.Path.{◌≡◌, sym, ap, subst, ◌∙◌}
-use mathlib.Core.List.{List, []}
-use lib.ListN.{get_or}
-use Rattle.format.specs.Policy.{policy_of}
-use Rattle.format.specs.Twins.{same_bytes}
-use Rattle.image.proofs.AlikeLaws.{Sought, looks_key, looks_own, looks_few, looks_first, looks_next, looks_here, looks_none}
+use Prim.Native.Nat.{◌+◌}
+use mathlib.Core.Path.{◌≡◌, refl, sym, ap, subst, ◌∙◌}
+use Rattle.std.specs.Prelude.{Some}
+use Rattle.image.proofs.AlikeLaws.{Sought, sought_at, left, looks_key, looks_own, looks_first, looks_next, looks_less, looks_here, looks_none}
 use Rattle.image.proofs.twins.find_alike.Goals as goal
 
 pub loop-next-init : goal.loop-next-init
-loop-next-init c =
-    subst (Sought _ c.args.k) (sym c.wide_word-next.ensures.0) (looks_first _ _ _ _ _ _ c.requires.0)
+loop-next-init c = looks_first _ _ _ _ _ _ c.requires.0
 
 pub group_at-requires : goal.group_at-requires
 group_at-requires c =
-    (c.requires.0.placed, looks_own _ _ _ _ _ _ c.requires.0 c.loop-next.next c.loop-next.invariant (omega arith))
+    let sought = sought_at c.loop-next.invariant _ _ c.in-Some.is c.from-g.ensures in
+    (c.requires.0.placed, looks_own _ _ _ _ _ _ c.requires.0 _ sought)
 
 pub returns-then-same_record : goal.returns-then-same_record
 returns-then-same_record c =
-    let gs : List (List ℕ) = (policy_of c.args.image.now).groups in
-    let compared : c.same_record.result ≡ same_bytes (get_or gs c.args.k []) (get_or gs (c.loop-next.next - 1) []) = c.same_record.ensures
-    ∙ ap (λ (a : List ℕ). same_bytes a c.group_at.result.now) c.requires.1
-    ∙ ap (same_bytes (get_or gs c.args.k [])) c.group_at.ensures in
-    looks_here _ _ _ _ _ _ c.requires.0 c.loop-next.next c.loop-next.invariant (omega arith) (sym compared ∙ c.if-same_record.true)
+    let sought = sought_at c.loop-next.invariant _ _ c.in-Some.is c.from-g.ensures in
+    looks_here _ _ _ _ _ _ c.requires.0 _ sought (sym (c.same_record.ensures ∙ (rw (c.requires.1, c.group_at.ensures) refl)) ∙ c.if-same_record.true)
 
 pub loop-next-smaller : goal.loop-next-smaller
 loop-next-smaller c =
-    omega (arith, c.wide_word-next-in-loop-next.ensures.0, c.requires.0.filed.before_most (c.loop-next.next - 1) (omega (arith, c.loop-next.invariant.most)))
+    let sought = sought_at c.loop-next.invariant _ _ c.in-Some.is c.from-g.ensures in
+    let left_is : left c.loop-next.next ≡ c.from-g.result + 1 = ap left (c.in-Some.is ∙ ap Some (sym c.from-g.ensures)) in
+    omega (arith, left_is, looks_less _ _ _ _ _ _ c.requires.0 _ sought)
 
 pub loop-next-preserved : goal.loop-next-preserved
 loop-next-preserved c =
-    let gs : List (List ℕ) = (policy_of c.args.image.now).groups in
-    let compared : c.same_record.result ≡ same_bytes (get_or gs c.args.k []) (get_or gs (c.loop-next.next - 1) []) = c.same_record.ensures
-    ∙ ap (λ (a : List ℕ). same_bytes a c.group_at.result.now) c.requires.1
-    ∙ ap (same_bytes (get_or gs c.args.k [])) c.group_at.ensures in
-    let next_sought : Sought gs c.args.k
-    (get_or c.args.before.now (c.loop-next.next - 1) 0) = looks_next _ _ _ _ _ _ c.requires.0 c.loop-next.next c.loop-next.invariant (omega arith) (sym compared ∙ c.if-same_record.false) in
-    subst (Sought _ _) (sym c.wide_word-next-in-loop-next.ensures.0) next_sought
+    let sought = sought_at c.loop-next.invariant _ _ c.in-Some.is c.from-g.ensures in
+    looks_next _ _ _ _ _ _ c.requires.0 _ sought (sym (c.same_record.ensures ∙ (rw (c.requires.1, c.group_at.ensures) refl)) ∙ c.if-same_record.false)
 
 pub returns : goal.returns
-returns c =
-    looks_none _ _ _ _ _ _ c.requires.0 c.loop-next.next c.loop-next.invariant (omega arith)
+returns c = looks_none _ _ _ _ _ _ c.requires.0 (subst (Sought _ _) c.in_default.is c.loop-next.invariant)
 
 pub offset_bounds-heads-key : goal.offset_bounds-heads-key
-offset_bounds-heads-key c =
-    omega (arith, looks_key _ _ _ _ _ _ c.requires.0)
+offset_bounds-heads-key c = omega (arith, looks_key _ _ _ _ _ _ c.requires.0)
 
 pub bounds-heads-key : goal.bounds-heads-key
-bounds-heads-key c =
-    looks_key _ _ _ _ _ _ c.requires.0
-
-pub offset_bounds-before-g : goal.offset_bounds-before-g
-offset_bounds-before-g c =
-    let slot_few : c.loop-next.next - 1 < 256 = looks_few _ _ _ _ _ _ c.requires.0 c.loop-next.next c.loop-next.invariant (omega arith) in
-    omega (arith, slot_few)
-
-pub bounds-before-g : goal.bounds-before-g
-bounds-before-g c =
-    let slot_few : c.loop-next.next - 1 < 256 = looks_few _ _ _ _ _ _ c.requires.0 c.loop-next.next c.loop-next.invariant (omega arith) in
-    slot_few
+bounds-heads-key c = looks_key _ _ _ _ _ _ c.requires.0
