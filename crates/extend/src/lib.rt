@@ -12,7 +12,7 @@ mod rows; // rows.rt: the rows of a text, one after the other
 ghost use Rattle.extension.specs.Add.{Adds};
 ghost use Rattle.text.specs.Build.{Builds, AddsRows};
 
-use format::{Refusal, Starts, header};
+use format::{Cause, Refusal, Starts, header};
 use plan::planned;
 use rows::{add_each, put_empty};
 use splice::insert;
@@ -33,10 +33,7 @@ pub fn build(text: &[u8], buffer: &mut [u8]) -> Result<usize, Refusal>
     ensures { Builds text.now buffer.old result buffer.new }
 {
     if buffer.len() < header::SIZE {
-        return Err(Refusal {
-            number: 13,
-            place: 0,
-        });
+        return Err(Cause::ShortBuffer.at(0));
     }
     put_empty(buffer);
     add_each(

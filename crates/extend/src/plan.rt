@@ -1,6 +1,7 @@
 // Where a record goes, or why it does not: decided before a byte is written.
 ghost use Rattle.std.specs.Prelude.{◌≡◌, true, ◌≤◌, length, get_or};
 ghost use Rattle.format.specs.Refusals.{refusal};
+ghost use Rattle.format.specs.Causes.{number_of};
 ghost use Rattle.format.specs.Format.{count_place, limit_of, kind_in};
 ghost use Rattle.format.specs.Policy.{policy_of};
 ghost use Rattle.format.specs.Twins.{listed};
@@ -9,7 +10,7 @@ ghost use Rattle.format.specs.Answers.{outcome, starts};
 ghost use Rattle.extension.specs.Add.{added_twin, own_fault, add_fault};
 ghost use Rattle.extend.specs.Inner.Plans.{slot_at, slot_of};
 
-use format::{Misread, Refusal, Section, Starts, header};
+use format::{Cause, Misread, Refusal, Section, Starts, header};
 use image::{same_record, word_at};
 
 // The place that a record goes to, the image's size, and the record's section with its count.
@@ -21,10 +22,10 @@ pub(crate) struct Slot {
     pub count: usize,
 }
 
-fn refused(number: u8, place: usize) -> Result<Slot, Refusal>
-    ensures { result ≡ Err (refusal number place) }
+fn refused(cause: Cause, place: usize) -> Result<Slot, Refusal>
+    ensures { result ≡ Err (refusal (number_of cause) place) }
 {
-    Err(Refusal { number, place })
+    Err(cause.at(place))
 }
 
 // The place of a section's count.
@@ -83,19 +84,19 @@ fn room(buffer: &[u8], part: &[u8], section: Section, at: usize) -> Result<Slot,
     ensures { result ≡ outcome (own_fault buffer.now part.now) (slot_at buffer.now section at) }
 {
     match image::read_record(part, section, word_at(buffer, header::GROUPS_AT)) {
-        Err(Misread::Malformed) => refused(10, 0),
-        Err(Misread::BadField(i)) => refused(11, i),
+        Err(Misread::Malformed) => refused(Cause::AddedRecord, 0),
+        Err(Misread::BadField(i)) => refused(Cause::AddedField, i),
         Ok(_) => {
             if is_twin(buffer, part, section) {
-                return refused(20, 0);
+                return refused(Cause::AddedTwin, 0);
             }
             let count = word_at(buffer, count_place(section));
             if limit_of(section) <= count {
-                return refused(12, 0);
+                return refused(Cause::SectionFull, 0);
             }
             let size = word_at(buffer, header::LENGTH_AT);
             if buffer.len() - size < part.len() {
-                return refused(13, 0);
+                return refused(Cause::ShortBuffer, 0);
             }
             Ok(Slot {
                 at,
@@ -113,10 +114,10 @@ pub(crate) fn own_causes(buffer: &[u8], part: &[u8], sections: Starts) -> Result
     ensures { result ≡ outcome (own_fault buffer.now part.now) (slot_of buffer.now part.now) }
 {
     let [length, kind, ..] = part else {
-        return refused(10, 0);
+        return refused(Cause::AddedRecord, 0);
     };
     if usize::from(*length) != part.len() {
-        return refused(10, 0);
+        return refused(Cause::AddedRecord, 0);
     }
     match *kind {
         1 => room(buffer, part, Section::Groups, sections.rules),
@@ -127,7 +128,7 @@ pub(crate) fn own_causes(buffer: &[u8], part: &[u8], sections: Starts) -> Result
             Section::Constraints,
             word_at(buffer, header::LENGTH_AT),
         ),
-        _ => refused(10, 0),
+        _ => refused(Cause::AddedRecord, 0),
     }
 }
 

@@ -9,7 +9,7 @@ ghost use Rattle.extend.specs.Inner.Grow.{moved_starts, Grows, AddsEach};
 use crate::plan::own_causes;
 use crate::row::{LONGEST, record_at};
 use crate::splice::insert;
-use format::{Refusal, Section, Starts, header};
+use format::{Cause, Refusal, Section, Starts, header};
 use image::word_at;
 
 // The sections' places with one record more of a section.
@@ -71,10 +71,7 @@ pub(crate) fn add_each(text: &[u8], buffer: &mut [u8], sections: Starts) -> Resu
             continue;
         }
         let Some(row) = record_at(text, at, &mut part) else {
-            return Err(Refusal {
-                number: 18,
-                place: at,
-            });
+            return Err(Cause::Row.at(at));
         };
         starts = grow(buffer, &part[..row.length], at, starts)?;
         at = row.end;

@@ -16,7 +16,7 @@ ghost use Rattle.mungaite.specs.Code.{fault_code, record_in, record_code, add_co
 use decide::{decide, run_numbers};
 use decision::Query;
 use extend::{add, build};
-use format::{Refusal, Section};
+use format::{Cause, Section};
 use image::{check, find};
 use numbers::{number, parts, refused, run_number};
 use rewrite::convert;
@@ -80,10 +80,7 @@ pub fn mungaite_record(section: u16, n: u16, image: &[u8]) -> u64
         1 => record_in(image, Section::Rules, n),
         2 => record_in(image, Section::Constraints, n),
         _ => match check(image) {
-            Ok(()) => refused(Refusal {
-                number: 14,
-                place: 0,
-            }),
+            Ok(()) => refused(Cause::NoSuchRecord.at(0)),
             Err(f) => refused(f),
         },
     }

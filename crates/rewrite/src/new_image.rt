@@ -12,7 +12,7 @@ use crate::put::{copy, put_header};
 use crate::retype::{IN_CONSTRAINT, IN_RULE, retype_records};
 use crate::section::{kept_length, put_kept};
 use crate::twins::{Renumbering, settle};
-use format::{Refusal, Starts, header};
+use format::{Cause, Refusal, Starts, header};
 use image::word_at;
 
 // The header, the groups that stay, and all rules and constraints, whose references then follow. The new image has `size` bytes.
@@ -47,10 +47,7 @@ fn put_new(
         + kept_length(&image[header::SIZE..], new.marks())
         + (image.len() - sections.rules);
     if buffer.len() < size {
-        return Err(Refusal {
-            number: 13,
-            place: 0,
-        });
+        return Err(Cause::ShortBuffer.at(0));
     }
     if new.kept == new.groups {
         return Ok(copy(buffer, 0, image));

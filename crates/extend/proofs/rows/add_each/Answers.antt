@@ -29,7 +29,7 @@ returns-in_default c =
     adds
     (l.invariant.same
     ∙ rows_outside c.args.text.now l.at l.buffer (omega arith) c.if-text-at-eq10.false c.record_at.new.part c.in_default.ensures)
-    refl refl
+    (ap Err c.at.ensures) refl
 
 pub grow-requires : goal.grow-requires
 grow-requires c = (c.loop-at.invariant.accepted, c.loop-at.invariant.places)

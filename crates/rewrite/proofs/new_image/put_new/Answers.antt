@@ -18,8 +18,8 @@ counted :
 counted l ms marks e = rw (e, take_rest l 9) refl
 
 pub returns-then-buffer-size : goal.returns-then-buffer-size
-returns-then-buffer-size c = converts_short _ _ c.requires.laid
-    (omega (arith, counted c.args.image.now _ _ c.marks.ensures))
+returns-then-buffer-size c = rw c.at.ensures (converts_short _ _ c.requires.laid
+    (omega (arith, counted c.args.image.now _ _ c.marks.ensures)))
 
 pub returns-then-new : goal.returns-then-new
 returns-then-new c = let e = c.requires.all c.if-new.true in
