@@ -15,48 +15,34 @@ use Rattle.format.specs.Claims.{IsType}
 use Rattle.std.specs.Prelude.{Ok, Err}
 use Rattle.format.specs.Answers.{outcome}
 use Rattle.decision.specs.declared.Query.{Query}
-use Rattle.decision.specs.Reading.{constraints_of}
 use Rattle.decision.specs.Decide as deciding
 use Rattle.decision.specs.Decide.{first_at, covers, fails, nearest}
-use Rattle.decide.specs.declared.cover.Found.{Found}
-use Rattle.decide.specs.declared.cover.Found.TheVariants.{At, Nothing}
 use Rattle.decide.specs.Inner.Parts.{rules_in, request_in, set_in}
 use Rattle.decide.specs.Inner.Marks.{no_marks, mark_all, Marked}
-use Rattle.decide.specs.Inner.Rules.{found_of, first_rule, first_constraint}
+use Rattle.decide.specs.Inner.Rules.{first_rule, first_constraint}
 use Rattle.decide.specs.Inner.Nearer.{Uncovered}
 use Rattle.decision.proofs.Search.{first_at_none}
 use Rattle.format.proofs.Chain.{or_else_next, or_else_first, need_none, need_some}
 use Rattle.decide.proofs.TypeLaws.{set_rising}
 use Rattle.decide.proofs.MarkedLaws.{marked_of}
 
-abbrev pub option_of : Found → Option ℕ
-option_of Nothing = None
-option_of (At n) = Some n
-
-found_back : (o : Option ℕ) → option_of (found_of o) ≡ o
-unfolding found_of
-found_back None = refl
-found_back (Some n) = refl
-
 -- the decision is that of the lowest covering rule and the lowest failing constraint, and of the nearest rule
 module _ (l : List ℕ) (q : Query) where
   pub engine_is :
-      (a b : Found) → a ≡ first_rule l q → b ≡ first_constraint l q
-      → deciding.decision_of (nearest (request_in l q) (rules_in l q.switches)) (option_of a) (option_of b)
+      (a b : Option ℕ) → a ≡ first_rule l q → b ≡ first_constraint l q
+      → deciding.decision_of (nearest (request_in l q) (rules_in l q.switches)) a b
       ≡ deciding.decide (policy_of l) q
   unfolding deciding.decide deciding.judge first_rule first_constraint
   engine_is a b e f = rw (
     e,
     f,
-    found_back (first_at (covers (request_in l q)) 0 (rules_in l q.switches)),
-    found_back (first_at (fails (rules_in l q.switches) (request_in l q)) 0 (constraints_of (policy_of l))),
   )
 
   -- no rule was found, so none covers
-  pub found_none : Nothing ≡ first_rule l q → Uncovered l q
+  pub found_none : None ≡ first_rule l q → Uncovered l q
   unfolding first_rule
   found_none e = first_at_none (covers (request_in l q)) 0 (rules_in l q.switches)
-      (sym (found_back _) ∙ ap option_of (sym e))
+      (sym e)
 
   -- ---- the answer
 

@@ -7,15 +7,17 @@ use native.Mathlib.Omega.{arith}
 use lib.ListN.{get_or, set, replicate}
 use lib.Dec.{eqb, ltb}
 use borrow.Author.Tests.{lt-ltb, le-ltb, ltb-true, ltb-false, eqb-true, ne_eqb, not-true}
+use Rattle.format.specs.declared.Section.TheVariants.{Groups}
+use Rattle.format.specs.Format.{count_of}
 use Rattle.format.specs.Check.{Accepted}
 use Rattle.format.specs.Claims.{IsType}
 use Rattle.format.proofs.Images.{group_count}
 use Rattle.decision.proofs.Filled.{types_filled}
-use Rattle.decision.specs.declared.Query.{Query}
 use Rattle.decision.specs.Sets.{within}
-use Rattle.decide.specs.Inner.Parts.{set_in, set_at, group_set, TypeAt}
+use Rattle.decide.specs.declared.kept.Side.{Side}
+use Rattle.decide.specs.Inner.Parts.{set_in, group_set}
 use Rattle.decide.specs.Inner.Marks.{tallied, fully_marked}
-use Rattle.decide.specs.Inner.Kept.{bit, Kept, KeptTest, outside_in, keep_outside, Side, Sides}
+use Rattle.decide.specs.Inner.Kept.{bit, Kept, KeptTest, outside_in, keep_outside, SideOf}
 use Rattle.decide.proofs.ArrayLaws.{blank, by_set}
 use Rattle.decide.proofs.TypeLaws.{set_basic, set_rising}
 use Rattle.decide.proofs.SetLaws.{full_within}
@@ -86,14 +88,7 @@ module _ (f : List ℕ → Bool) (l kept : List ℕ) (k : KeptTest f l kept) (t 
       go false h = kept_adds (λ g. f (group_set l g)) kept k (t - 32768) false
           (sym (ap f (same_set_lem (ltb-false t 32768 h)) ∙ n))
 
--- ---- of a query's two sides
-
-module _ {l : List ℕ} {q : Query} {ms ns : List Bool} {m n : ℕ} {ks kd : List ℕ} (a : Sides l q ms m ns n ks kd) where
-  pub with_source : {k : List ℕ} → KeptTest (fully_marked ms m) l k → Sides l q ms m ns n k kd
-  with_source k = record { source = record { type = a.source.type; marked = a.source.marked; kept = k }; dest = a.dest }
-
-  pub with_dest : {k : List ℕ} → KeptTest (fully_marked ns n) l k → Sides l q ms m ns n ks k
-  with_dest k = record { source = a.source; dest = record { type = a.dest.type; marked = a.dest.marked; kept = k } }
+-- ---- of a side
 
 -- a basic type without a mark holds no set of some size
 unmarked_tells : (l : List ℕ) (ms : List Bool) (size w : ℕ) → 0 < size → w < 32768 → get_or ms w false ≡ false
@@ -101,26 +96,25 @@ unmarked_tells : (l : List ℕ) (ms : List Bool) (size w : ℕ) → 0 < size →
 unfolding fully_marked tallied
 unmarked_tells l ms size w Some h e = rw (set_basic l w h) (simp e (ne_eqb 0 size (omega arith)))
 
+-- a test of a side by its marks, of a type
+pub side_within : {l : List ℕ} {t : ℕ} {s : Side} (d : SideOf l t s) → Accepted l → (w : ℕ) → IsType (count_of l Groups) w
+    → fully_marked s.marks.now s.size (set_in l w) ≡ within (set_in l t) (set_in l w)
+side_within {l} d c w is = full_within _ _ _ d.marked _ (set_rising l w c is)
+
 -- what is known of a side
 pub outside_tells :
-    {l : List ℕ} {t : ℕ} {ms : List Bool} {size : ℕ} {kept : List ℕ} (d : Side l t ms size kept) → Accepted l → (x w : ℕ)
-    → x ≡ w
-    → outside_in ms kept x ≡ true → fully_marked ms size (set_in l w) ≡ false
+    {l : List ℕ} {t : ℕ} {s : Side} (d : SideOf l t s) → Accepted l → (x w : ℕ) → IsType (count_of l Groups) w → x ≡ w
+    → outside_in s.marks.now s.kept x ≡ true → within (set_in l t) (set_in l w) ≡ false
 unfolding outside_in
-outside_tells {l} {t} {ms} {size} {kept} d c x w is e = go (ltb x 32768) refl e
+outside_tells {l} {t} {s} d c x w i is e = go (ltb x 32768) refl e
   where
-    filled : 0 < size
+    filled : 0 < s.size
     filled = omega (arith, d.marked.many, types_filled l c t (subst (λ (n : ℕ). IsType n t) (sym (group_count l)) d.type))
 
-    go : (b : Bool) → ltb x 32768 ≡ b → cond b (not (get_or ms x false)) (eqb (get_or kept (x - 32768) 0) 1) ≡ true
-        → fully_marked ms size (set_in l w) ≡ false
-    go true h e = unmarked_tells l ms size w filled (omega (arith, ltb-true x 32768 h))
-        (ap (λ (n : ℕ). get_or ms n false) (sym is) ∙ not-true (get_or ms x false) e)
-    go false h e = kept_tells (fully_marked ms size) l kept d.kept x w is (ltb-false x 32768 h) e
-
--- a test of a side by its marks, of the type in the field at a place
-pub side_within :
-    {l : List ℕ} {t : ℕ} {ms : List Bool} {size : ℕ} {kept : List ℕ} (d : Side l t ms size kept) {at : ℕ} → Accepted l
-    → TypeAt l at → (b : Bool)
-    → b ≡ fully_marked ms size (set_at l at) → within (set_in l t) (set_at l at) ≡ b
-side_within d c f b e = sym (e ∙ full_within _ _ _ d.marked _ (set_rising _ _ c f.is))
+    go : (b : Bool) → ltb x 32768 ≡ b → cond b (not (get_or s.marks.now x false)) (eqb (get_or s.kept (x - 32768) 0) 1) ≡ true
+        → within (set_in l t) (set_in l w) ≡ false
+    go true h e =
+        sym (side_within d c w i)
+        ∙ unmarked_tells l s.marks.now s.size w filled (omega (arith, ltb-true x 32768 h))
+        (ap (λ (n : ℕ). get_or s.marks.now n false) (sym is) ∙ not-true (get_or s.marks.now x false) e)
+    go false h e = kept_tells (within (set_in l t)) l s.kept d.kept x w is (ltb-false x 32768 h) e

@@ -31,7 +31,7 @@ use Rattle.decision.specs.Decide.{tests, covers, passes, steps, nearest, nearest
 use Rattle.decision.specs.Inner.OnePass.{nearer, nearest_from}
 use Rattle.decision.proofs.Search.{by_test, any_of_none}
 use Rattle.decision.proofs.Nearness.{nearest_same}
-use Rattle.decide.specs.declared.nearest.Best.{Best}
+use Rattle.decision.specs.declared.Near.{Near}
 use Rattle.decide.specs.Inner.Parts.{rules_in, request_in, set_in, set_at}
 use Rattle.decide.specs.Inner.Kept.{outside_in}
 use Rattle.decide.specs.Inner.Rules.{allow_at}
@@ -253,7 +253,7 @@ counts_less most s r c h =
 -- ---- the nearest so far
 
 -- a rule that passes no more steps leaves the nearest, one that passes more is it
-module _ (b : Best) (s n : ℕ) where
+module _ (b : Near) (s n : ℕ) where
   stays_best : s ≤ b.steps → nearer (near_of b) s n ≡ near_of b
   unfolding nearer
   stays_best h = simp (le-ltb b.steps s h)
@@ -280,7 +280,7 @@ module _ (l : List ℕ) (q : Query) where
   abbrev whole : Nearest
   whole = nearest (request_in l q) (rules_in l q.switches)
 
-  abbrev rest : Best → ℕ → List Rule → Nearest
+  abbrev rest : Near → ℕ → List Rule → Nearest
   rest b n rs = nearest_from (short_steps (request_in l q)) (near_of b) n rs
 
   pub near_empty : (count : ℕ) → count ≡ count_of l Rules → count ≡ 0 → None ≡ whole
@@ -315,7 +315,7 @@ module _ (l : List ℕ) (q : Query) where
       ∙ some_first count c z
       ∙ ap (rest (record { steps = 0; rule = 0 }) 0) (all_rules l q.switches))
 
-  module _ (b : Best) (count n at : ℕ) (w : AtNearest l q b count n at) where
+  module _ (b : Near) (count n at : ℕ) (w : AtNearest l q b count n at) where
     abbrev here : ℕ
     here = short_steps (request_in l q) (rule_of (policy_of l) q.switches (record_at l at))
 
@@ -324,7 +324,7 @@ module _ (l : List ℕ) (q : Query) where
     near_end h = sym (walk_end Rules (rule_of (policy_of l) q.switches) l whole (rest b) count n at w h)
 
     module _ (more : n < count) where
-      turn : (b' : Best) → nearer (near_of b) here n ≡ near_of b' → (rs : List Rule)
+      turn : (b' : Near) → nearer (near_of b) here n ≡ near_of b' → (rs : List Rule)
           → rest b n (rule_of (policy_of l) q.switches (record_at l at) ∷ rs) ≡ rest b' (n + 1) rs
       unfolding nearest_from
       turn b' e rs =

@@ -21,11 +21,9 @@ use Rattle.format.proofs.Places.{rule_at, constraint_at}
 use Rattle.decision.specs.Sets.{any_of}
 use Rattle.decision.specs.Reading.{rule_of, constraint_of, rules_of, constraints_of}
 use Rattle.decision.specs.Decide.{first_at}
-use Rattle.decide.specs.declared.cover.Found.{Found}
-use Rattle.decide.specs.declared.cover.Found.TheVariants.{At, Nothing}
+use Rattle.std.specs.Prelude.{Option, Some, None}
 use Rattle.decide.specs.Inner.Parts.{rules_in, RuleHere, NthConstraint}
 use Rattle.decide.specs.Inner.Walks.{Walk}
-use Rattle.decide.specs.Inner.Rules.{found_of}
 
 module _ {A R : Type 0} where
   module _ (s : Section) (read : List ℕ → R) (l : List ℕ) (whole : A) (rest : ℕ → List R → A) where
@@ -77,29 +75,29 @@ module _ {A R : Type 0} {read : List ℕ → R} {l : List ℕ} {whole : A} {rest
 -- ---- the first record that passes a test, and any
 
 module _ {R : Type 0} where
-  abbrev pub FirstOf : Section → (List ℕ → R) → List ℕ → (R → Bool) → Found → ℕ → ℕ → ℕ → Type 0
-  FirstOf s read l f whole = Walk s read l whole (λ n rs. found_of (first_at f n rs))
+  abbrev pub FirstOf : Section → (List ℕ → R) → List ℕ → (R → Bool) → Option ℕ → ℕ → ℕ → ℕ → Type 0
+  FirstOf s read l f whole = Walk s read l whole (λ n rs. first_at f n rs)
 
   abbrev pub AnyOf : Section → (List ℕ → R) → List ℕ → (R → Bool) → Bool → ℕ → ℕ → ℕ → Type 0
   AnyOf s read l f whole = Walk s read l whole (λ n rs. any_of f rs)
 
-  module _ {s : Section} {read : List ℕ → R} {l : List ℕ} (f : R → Bool) {whole : Found} {count n at : ℕ}
+  module _ {s : Section} {read : List ℕ → R} {l : List ℕ} (f : R → Bool) {whole : Option ℕ} {count n at : ℕ}
       (w : FirstOf s read l f whole count n at) where
-    pub first_end : (n < count → ⊥) → Nothing ≡ whole
-    unfolding found_of first_at
-    first_end h = sym (walk_end s read l whole (λ n rs. found_of (first_at f n rs)) count n at w h)
+    pub first_end : (n < count → ⊥) → None ≡ whole
+    unfolding first_at
+    first_end h = sym (walk_end s read l whole (λ n rs. first_at f n rs) count n at w h)
 
-    pub first_hit : n < count → f (read (record_at l at)) ≡ true → At n ≡ whole
-    unfolding found_of first_at
+    pub first_hit : n < count → f (read (record_at l at)) ≡ true → Some n ≡ whole
+    unfolding first_at
     first_hit more y = sym
-        (walk_hit s read l whole (λ n rs. found_of (first_at f n rs)) count n at w more (At n) (λ rs. simp y))
+        (walk_hit s read l whole (λ n rs. first_at f n rs) count n at w more (Some n) (λ rs. simp y))
 
     pub first_next : n < count → f (read (record_at l at)) ≡ false → (to : ℕ) → to ≡ at + get_or l at 0
         → FirstOf s read l f whole count (n + 1) to
-    unfolding found_of first_at
+    unfolding first_at
     first_next more y to =
-        walk_next s read l whole (λ n rs. found_of (first_at f n rs)) count n at w more
-        (λ n rs. found_of (first_at f n rs)) to (λ rs. rw add-one (simp y))
+        walk_next s read l whole (λ n rs. first_at f n rs) count n at w more
+        (λ n rs. first_at f n rs) to (λ rs. rw add-one (simp y))
 
   module _ {s : Section} {read : List ℕ → R} {l : List ℕ} (f : R → Bool) {whole : Bool} {count n at : ℕ}
       (w : AnyOf s read l f whole count n at) where

@@ -2,6 +2,7 @@
 #![tactic(auto)]
 
 mod word; // word.rt: numbers in bytes
+mod policy; // policy.rt: an accepted policy, as the code reads it
 mod types; // types.rt: where the members of a type lie in the image
 mod marks; // marks.rt: sets as 1,024 marks, and the members of a type against them
 mod halves; // halves.rt: whether a number is among members that rise

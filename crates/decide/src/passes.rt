@@ -1,14 +1,15 @@
-// How many steps the rule at a place passes of a query that no rule covers: condition, source, destination, class. As none covers,
-// the action is not asked.
+// How many steps the rule at a place passes of a query that no rule covers: condition, source, destination, class. As none
+// covers, the action is not asked.
 ghost use Rattle.std.specs.Prelude.{◌≡◌};
 ghost use Rattle.format.specs.Check.{Accepted};
-ghost use Rattle.decide.specs.Inner.Parts.{Known, TypeAt, RuleHere, rule_in, request_in};
-ghost use Rattle.decide.specs.Inner.Kept.{Sides, Leaves};
+ghost use Rattle.decide.specs.Inner.Parts.{TypeAt, RuleHere, rule_in, request_in};
+ghost use Rattle.decide.specs.Inner.Kept.{SideOf, Sides, Leaves};
 ghost use Rattle.decide.specs.Inner.Rules.{allow_at};
 ghost use Rattle.decide.specs.Inner.Nearer.{off_at, other_class_at, class_stops, stops_at, On, SourceIn, short_steps, Counts};
 
 use crate::condition::is_on;
-use crate::kept::{find_inside, inside};
+use crate::kept::{Side, find_inside};
+use crate::policy::Policy;
 use crate::rules::is_allow;
 use crate::word::{wide, wide_word, word_in};
 use decision::Query;
@@ -48,133 +49,91 @@ fn is_stopped_by_class(image: &[u8], at: usize, allow: bool, q: Query, most: usi
 
 // Whether a rule passes no more steps than so many, since the type in its field at a place is known to stop it: after one step
 // where that is its source, after two where it is its destination.
-fn is_known_to_stop(
-    image: &[u8],
-    at: usize,
-    marks: &[bool; 1024],
-    kept: &[u8; 256],
-    passed: usize,
-    most: usize,
-) -> bool
+fn is_known_to_stop(image: &[u8], at: usize, side: &Side, passed: usize, most: usize) -> bool
     requires { Accepted image.now × TypeAt image.now at }
-    ensures { result ≡ stops_at image.now at marks.now kept.now passed most }
+    ensures { result ≡ stops_at image.now at side.now.marks.now side.now.kept passed most }
 {
     if most < passed {
         return false;
     }
     // a group's number is the low byte
     if 127 < image[at] {
-        return kept[wide(image[at + 1])] == 1;
+        return side.kept[wide(image[at + 1])] == 1;
     }
-    !marks[word_in(image, at)]
+    !side.marks[word_in(image, at)]
 }
 
-// How many steps the rule at a place passes, which is on and passes its source.
-fn steps_past_source(
-    image: &[u8],
-    groups: &[u16; 256],
-    at: usize,
-    q: Query,
-    source: &[bool; 1024],
-    sources: usize,
-    dest: &[bool; 1024],
-    dests: usize,
-    ksource: &[u8; 256],
-    kdest: &mut [u8; 256],
-) -> usize
-    requires { Known image.now groups.now × On image.now q.switches at
-        × Sides image.now q source.now sources dest.now dests ksource.now kdest.old × SourceIn image.now q at }
-    ensures { Leaves (short_steps (request_in image.now q) (rule_in image.now q.switches at))
-        (Sides image.now q source.now sources dest.now dests
-        ksource.now kdest.new) result }
-{
-    if !inside(image, groups, at + 4, q.dest, dest, dests, kdest) {
-        return 2;
+impl Policy<'_> {
+    // How many steps the rule at a place passes, which is on and passes its source.
+    fn steps_past_source(self, at: usize, q: Query, dest: &mut Side) -> usize
+        requires { On self.image.now q.switches at × SideOf self.image.now q.dest dest.old
+            × SourceIn self.image.now q at }
+        ensures { Leaves (short_steps (request_in self.entry.image.now q) (rule_in self.entry.image.now q.switches at))
+            (SideOf self.entry.image.now q.dest dest.new) result }
+    {
+        if !self.inside(at + 4, q.dest, dest) {
+            return 2;
+        }
+        if is_of_other_class(self.image, at, is_allow(self.image, at), q) {
+            return 3;
+        }
+        4
     }
-    if is_of_other_class(image, at, is_allow(image, at), q) {
-        return 3;
-    }
-    4
-}
 
-// How many steps the rule at a place passes, which is on. What is known of its source costs no call.
-fn steps_on(
-    image: &[u8],
-    groups: &[u16; 256],
-    at: usize,
-    q: Query,
-    source: &[bool; 1024],
-    sources: usize,
-    dest: &[bool; 1024],
-    dests: usize,
-    ksource: &mut [u8; 256],
-    kdest: &mut [u8; 256],
-) -> usize
-    requires { Known image.now groups.now × On image.now q.switches at
-        × Sides image.now q source.now sources dest.now dests ksource.old kdest.old }
-    ensures { Leaves (short_steps (request_in image.now q) (rule_in image.now q.switches at))
-        (Sides image.now q source.now sources dest.now dests
-        ksource.new kdest.new) result }
-{
-    let t = word_in(image, at + 2);
-    if t < 32768 {
-        if !inside(image, groups, at + 2, q.source, source, sources, ksource) {
+    // How many steps the rule at a place passes, which is on. What is known of its source costs no call.
+    fn steps_on(self, at: usize, q: Query, source: &mut Side, dest: &mut Side) -> usize
+        requires { On self.image.now q.switches at
+            × Sides self.image.now q source.old dest.old }
+        ensures { Leaves (short_steps (request_in self.entry.image.now q) (rule_in self.entry.image.now q.switches at))
+            (Sides self.entry.image.now q source.new dest.new) result }
+    {
+        let t = word_in(self.image, at + 2);
+        if t < 32768 {
+            if !self.inside(at + 2, q.source, source) {
+                return 1;
+            }
+            return self.steps_past_source(at, q, dest);
+        }
+        let g = t - 32768;
+        if source.kept[g] == 2 {
+            return self.steps_past_source(at, q, dest);
+        }
+        if !find_inside(self.image, self.groups, g, q.source, source) {
             return 1;
         }
-        return steps_past_source(
-            image, groups, at, q, source, sources, dest, dests, ksource, kdest,
-        );
+        self.steps_past_source(at, q, dest)
     }
-    let g = t - 32768;
-    if ksource[g] == 2 {
-        return steps_past_source(
-            image, groups, at, q, source, sources, dest, dests, ksource, kdest,
-        );
-    }
-    if !find_inside(image, groups, g, q.source, source, sources, ksource) {
-        return 1;
-    }
-    steps_past_source(
-        image, groups, at, q, source, sources, dest, dests, ksource, kdest,
-    )
-}
 
-// How many steps the rule at a place passes, where they are more than so many; else a number that is no more either, so that a
-// type is walked only where it may tell. Each test but the last tells that the rule passes no more; the order is that of their
-// cost.
-pub(crate) fn steps_at(
-    image: &[u8],
-    groups: &[u16; 256],
-    at: usize,
-    allow: bool,
-    q: Query,
-    source: &[bool; 1024],
-    sources: usize,
-    dest: &[bool; 1024],
-    dests: usize,
-    ksource: &mut [u8; 256],
-    kdest: &mut [u8; 256],
-    most: usize,
-) -> usize
-    requires { Known image.now groups.now × RuleHere image.now at × (allow ≡ allow_at image.now at)
-        × Sides image.now q source.now sources dest.now dests ksource.old kdest.old }
-    ensures { Counts most (short_steps (request_in image.now q) (rule_in image.now q.switches at)) result
-        × Sides image.now q source.now sources dest.now dests
-        ksource.new kdest.new }
-{
-    if is_stopped_by_class(image, at, allow, q, most) {
-        return 0;
+    // How many steps the rule at a place passes, where they are more than so many; else a number that is no more either, so that
+    // a type is walked only where it may tell. Each test but the last tells that the rule passes no more; the order is that of
+    // their cost.
+    pub(crate) fn steps_at(
+        self,
+        at: usize,
+        allow: bool,
+        q: Query,
+        source: &mut Side,
+        dest: &mut Side,
+        most: usize,
+    ) -> usize
+        requires { RuleHere self.image.now at × (allow ≡ allow_at self.image.now at)
+            × Sides self.image.now q source.old dest.old }
+        ensures { Counts most
+            (short_steps (request_in self.entry.image.now q) (rule_in self.entry.image.now q.switches at)) result
+            × Sides self.entry.image.now q source.new dest.new }
+    {
+        if is_stopped_by_class(self.image, at, allow, q, most) {
+            return 0;
+        }
+        if is_known_to_stop(self.image, at + 2, source, 1, most) {
+            return 0;
+        }
+        if is_off(self.image, at, allow, q) {
+            return 0;
+        }
+        if is_known_to_stop(self.image, at + 4, dest, 2, most) {
+            return 0;
+        }
+        self.steps_on(at, q, source, dest)
     }
-    if is_known_to_stop(image, at + 2, source, ksource, 1, most) {
-        return 0;
-    }
-    if is_off(image, at, allow, q) {
-        return 0;
-    }
-    if is_known_to_stop(image, at + 4, dest, kdest, 2, most) {
-        return 0;
-    }
-    steps_on(
-        image, groups, at, q, source, sources, dest, dests, ksource, kdest,
-    )
 }

@@ -9,7 +9,7 @@ ghost use Rattle.decide.specs.Inner.Steps.{Begins, Stepped};
 use crate::engine::decide_surveyed;
 use crate::verdicts::{Held, recall};
 use decision::{Answer, Decision, Query};
-use format::{Refusal, Starts};
+use format::{Cause, Refusal, Starts};
 use image::survey;
 use runs::Run;
 
@@ -43,22 +43,13 @@ fn opening(sections: Result<Starts, Refusal>, rows: usize, fits: bool) -> Run
 {
     sections?;
     if rows < 1 {
-        return Err(Refusal {
-            number: 16,
-            place: 0,
-        });
+        return Err(Cause::Rows.at(0));
     }
     if 64 < rows {
-        return Err(Refusal {
-            number: 16,
-            place: 0,
-        });
+        return Err(Cause::Rows.at(0));
     }
     if !fits {
-        return Err(Refusal {
-            number: 17,
-            place: 0,
-        });
+        return Err(Cause::Answers.at(0));
     }
     Ok(None)
 }

@@ -4,9 +4,8 @@
 --     KeptTest f l kept        of a test f of the groups' sets
 --     outside_in ms kept t      that a set is not within the type t is known from its marks, or kept; keep_outside kept t: it is kept
 --                              then, of a group
---     Side l t ms size table   a query's source or destination t, a type: its marks and its size, and what is kept of the groups
---                              that it is within
---     Sides l q ..             a query's two sides
+--     SideOf l t s             the side s is of the type t: its marks and their number, and what is kept of the groups that it is
+--                              within; Sides l q s d: the two of a query
 --     KeptReach l ms f ..      of the groups that touch marks, and of a test of sources
 --     Unmarks t ms ns          where ms are the marks of the type t, ns are none
 --     Leaves x K r             the answer is x, and what is kept is right after it
@@ -15,8 +14,10 @@ use Rattle.format.specs.declared.Section.TheVariants.{Groups}
 use Rattle.format.specs.Format.{count_of}
 use Rattle.format.specs.Claims.{IsType}
 use Rattle.decision.specs.declared.Query.{Query}
+use Rattle.decision.specs.Sets.{within}
+use Rattle.decide.specs.declared.kept.Side.{Side}
 use Rattle.decide.specs.Inner.Parts.{set_in, group_set}
-use Rattle.decide.specs.Inner.Marks.{no_marks, mark_all, Marked, any_marked, fully_marked}
+use Rattle.decide.specs.Inner.Marks.{no_marks, mark_all, Marked, any_marked}
 
 unfoldable pub bit : Bool → ℕ
 bit b = cond b 1 0
@@ -33,14 +34,14 @@ outside_in ms kept t = cond (ltb t 32768) (not (get_or ms t false)) (eqb (get_or
 unfoldable pub keep_outside : List ℕ → ℕ → List ℕ
 keep_outside kept t = cond (ltb t 32768) kept (set kept (t - 32768) 1)
 
-pub record Side (l : List ℕ) (t : ℕ) (ms : List Bool) (size : ℕ) (table : List ℕ) : Type 0 where
+pub record SideOf (l : List ℕ) (t : ℕ) (s : Side) : Type 0 where
   pub type : IsType (count_of l Groups) t
-  pub marked : Marked (set_in l t) ms size
-  pub kept : KeptTest (fully_marked ms size) l table
+  pub marked : Marked (set_in l t) s.marks.now s.size
+  pub kept : KeptTest (within (set_in l t)) l s.kept
 
-pub record Sides (l : List ℕ) (q : Query) (ms : List Bool) (sources : ℕ) (ns : List Bool) (dests : ℕ) (ks kd : List ℕ) : Type 0 where
-  pub source : Side l q.source ms sources ks
-  pub dest : Side l q.dest ns dests kd
+pub record Sides (l : List ℕ) (q : Query) (s d : Side) : Type 0 where
+  pub source : SideOf l q.source s
+  pub dest : SideOf l q.dest d
 
 pub record KeptReach (l : List ℕ) (ms : List Bool) (f : List ℕ → Bool) (kr ks : List ℕ) : Type 0 where
   pub reach : KeptTest (any_marked ms) l kr

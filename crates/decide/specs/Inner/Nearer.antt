@@ -6,10 +6,11 @@
 --     short_steps a r        the steps, but for the action's, which is asked of no rule: at most 4
 --     Counts most s r       r is s where that is more than `most`, else it is no more than `most` either
 --     On l w at             the rule at a place is on; SourceIn l q at: it passes the query's source
---     near_of b              the nearest so far, as the code's `Best`
+--     near_of b              the nearest so far, as the code's `Near`
 --     AtNearest l q b count n at   where the walk stands: the nearest so far, and the rules from rule n on, give the nearest of all
---     Comes l q b count n x   where it stands at the next rule, from rule n on, that comes nearer, if one does
-use Rattle.std.specs.Prelude.{ℕ, ◌+◌, ◌≤◌, ◌<◌, ◌≡◌, Bool, true, false, not, cond, List, get_or, take, eqb, ltb, Some}
+--     Comes l q b count n o   the next rule, from rule n on, that comes nearer, where one does; else the nearest so far is the nearest
+--                              of all; ComesAt l q b count n x: there is one, and where the walk stands at it
+use Rattle.std.specs.Prelude.{ℕ, ◌+◌, ◌≤◌, ◌<◌, ◌≡◌, Bool, true, false, not, cond, List, get_or, take, eqb, ltb, Option, MatchOption, Some}
 use Rattle.format.specs.declared.Section.TheVariants.{Rules}
 use Rattle.format.specs.Bytes.{word_at}
 use Rattle.format.specs.Policy.{policy_of}
@@ -17,9 +18,9 @@ use Rattle.decision.specs.declared.Query.{Query}
 use Rattle.decision.specs.Sets.{any_of, within}
 use Rattle.decision.specs.Conditions.{is_on}
 use Rattle.decision.specs.Reading.{Rule, Request, rule_of}
-use Rattle.decision.specs.Decide.{tests, covers, passes, nearest, near, Nearest}
+use Rattle.decision.specs.Decide.{tests, covers, passes, nearest, Nearest}
 use Rattle.decision.specs.Inner.OnePass.{nearest_from}
-use Rattle.decide.specs.declared.nearest.Best.{Best}
+use Rattle.decision.specs.declared.Near.{Near}
 use Rattle.decide.specs.declared.nearest.Next.{Next}
 use Rattle.decide.specs.Inner.Parts.{RuleHere, rules_in, rule_in, request_in, set_in, set_at}
 use Rattle.decide.specs.Inner.Kept.{outside_in}
@@ -48,8 +49,8 @@ pub record Counts (most s r : ℕ) : Type 0 where
   pub more : most < s → r ≡ s
   pub less : s ≤ most → r ≤ most
 
-abbrev pub near_of : Best → Nearest
-near_of b = Some (near b.steps b.rule)
+abbrev pub near_of : Near → Nearest
+near_of b = Some b
 
 pub record On (l : List ℕ) (w at : ℕ) : Type 0 where
   pub here : RuleHere l at
@@ -58,13 +59,18 @@ pub record On (l : List ℕ) (w at : ℕ) : Type 0 where
 abbrev pub SourceIn : List ℕ → Query → ℕ → Type 0
 SourceIn l q at = within (set_in l q.source) (set_at l (at + 2)) ≡ true
 
-abbrev pub AtNearest : List ℕ → Query → Best → ℕ → ℕ → ℕ → Type 0
+abbrev pub AtNearest : List ℕ → Query → Near → ℕ → ℕ → ℕ → Type 0
 AtNearest l q b =
     Walk Rules (rule_of (policy_of l) q.switches) l (nearest (request_in l q) (rules_in l q.switches))
     (λ n rs. nearest_from (short_steps (request_in l q)) (near_of b) n rs)
 
-pub record Comes (l : List ℕ) (q : Query) (b : Best) (count n : ℕ) (x : Next) : Type 0 where
+pub record ComesAt (l : List ℕ) (q : Query) (b : Near) (count n : ℕ) (x : Next) : Type 0 where
   pub onward : n ≤ x.n
+  pub more : x.n < count
   pub walk : AtNearest l q b count x.n x.at
-  pub nearer : x.n < count → b.steps < x.steps
-  pub steps : x.n < count → x.steps ≡ short_steps (request_in l q) (rule_in l q.switches x.at)
+  pub nearer : b.steps < x.steps
+  pub steps : x.steps ≡ short_steps (request_in l q) (rule_in l q.switches x.at)
+
+abbrev pub Comes : List ℕ → Query → Near → ℕ → ℕ → Option Next → Type 0
+Comes l q b count n o =
+    MatchOption o (near_of b ≡ nearest (request_in l q) (rules_in l q.switches)) (λ x. ComesAt l q b count n x)

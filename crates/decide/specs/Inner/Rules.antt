@@ -3,15 +3,12 @@
 --     may_at l at q          what the condition, the class and the action of the rule at a place let through of a query
 --     if_asked b t           a test that is made only where it is asked, and passes where it is not
 --     live_at l w at         the rule at a place is live under a switch word
---     AtRule l ps at        a rule stands at a place
---     found_of o             what a search answers, as the code's `Found`
 --     first_rule l q         the lowest rule that covers a query
 --     first_constraint l q   the lowest constraint that fails
 --     reaching ms a         a live rule whose destination touches marks; reaching_at l ms at live: the rule at a place, live or not
 --     reaching_from ms f a   such a rule, whose source passes a test
 --     shares_source rs ms s  a rule of the list that reaches marks has a source that touches s
-use Rattle.std.specs.Prelude.{ℕ, ◌+◌, Bool, true, false, ◌&&◌, cond, List, get_or, eqb}
-use Rattle.std.specs.Prelude.{Option, None, Some}
+use Rattle.std.specs.Prelude.{ℕ, ◌+◌, Bool, true, false, ◌&&◌, cond, List, get_or, eqb, Option}
 use Rattle.format.specs.Bytes.{word_at}
 use Rattle.format.specs.Policy.{policy_of}
 use Rattle.decision.specs.declared.Query.{Query}
@@ -19,9 +16,7 @@ use Rattle.decision.specs.Sets.{any_of, touches}
 use Rattle.decision.specs.Conditions.{is_on}
 use Rattle.decision.specs.Reading.{Rule, live, constraints_of}
 use Rattle.decision.specs.Decide.{covers, fails, first_at}
-use Rattle.decide.specs.declared.cover.Found.{Found}
-use Rattle.decide.specs.declared.cover.Found.TheVariants.{At, Nothing}
-use Rattle.decide.specs.Inner.Parts.{Known, RuleHere, rules_in, request_in, set_at}
+use Rattle.decide.specs.Inner.Parts.{rules_in, request_in, set_at}
 use Rattle.decide.specs.Inner.Marks.{any_marked}
 
 unfoldable pub allow_at : List ℕ → ℕ → Bool
@@ -39,19 +34,11 @@ if_asked b t = cond b t true
 unfoldable pub live_at : List ℕ → ℕ → ℕ → Bool
 live_at l w at = cond (allow_at l at) (is_on w (get_or l (at + 10) 0)) false
 
-pub record AtRule (l ps : List ℕ) (at : ℕ) : Type 0 where
-  pub known : Known l ps
-  pub here : RuleHere l at
+unfoldable pub first_rule : List ℕ → Query → Option ℕ
+first_rule l q = first_at (covers (request_in l q)) 0 (rules_in l q.switches)
 
-unfoldable pub found_of : Option ℕ → Found
-found_of None = Nothing
-found_of (Some n) = At n
-
-unfoldable pub first_rule : List ℕ → Query → Found
-first_rule l q = found_of (first_at (covers (request_in l q)) 0 (rules_in l q.switches))
-
-unfoldable pub first_constraint : List ℕ → Query → Found
-first_constraint l q = found_of (first_at (fails (rules_in l q.switches) (request_in l q)) 0 (constraints_of (policy_of l)))
+unfoldable pub first_constraint : List ℕ → Query → Option ℕ
+first_constraint l q = first_at (fails (rules_in l q.switches) (request_in l q)) 0 (constraints_of (policy_of l))
 
 unfoldable pub reaching : List Bool → Rule → Bool
 reaching ms a = live a && any_marked ms a.dest

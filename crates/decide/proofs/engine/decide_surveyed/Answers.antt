@@ -18,15 +18,15 @@ use Rattle.decide.proofs.engine.decide_surveyed.Goals as goal
 
 pub word_in-count-requires : goal.word_in-count-requires
 word_in-count-requires c =
-    let ready : Ready c.args.image.now c.args.groups.now c.in_ok-s.s = let p = c.requires.0 in
-    let k = outcome_gives _ _ (sym c.in_ok-s.was ∙ p.sections) in
+    let ready : Ready c.args.image.now c.args.groups.now c.in_ok-starts.starts = let p = c.requires.0 in
+    let k = outcome_gives _ _ (sym c.in_ok-starts.was ∙ p.sections) in
     record { known = record { accepted = k.0; placed = p.placed k.0 }; starting = k.1 } in
     omega (arith, (accepted_header _ ready.known.accepted).long)
 
 pub returns-then-not-is_type : goal.returns-then-not-is_type
 returns-then-not-is_type c =
-    let ready : Ready c.args.image.now c.args.groups.now c.in_ok-s.s = let p = c.requires.0 in
-    let k = outcome_gives _ _ (sym c.in_ok-s.was ∙ p.sections) in
+    let ready : Ready c.args.image.now c.args.groups.now c.in_ok-starts.starts = let p = c.requires.0 in
+    let k = outcome_gives _ _ (sym c.in_ok-starts.was ∙ p.sections) in
     record { known = record { accepted = k.0; placed = p.placed k.0 }; starting = k.1 } in
     let counted : c.word_in-count.result ≡ count_of c.args.image.now Groups =
     c.word_in-count.ensures.0 ∙ sym (count_groups _) in
@@ -34,15 +34,15 @@ returns-then-not-is_type c =
     type_told _ _ _ _ _ c.is_type.ensures counted c.wide_word.ensures in
     let k = ready in
     record {
-      is = outcome_some _ _ _ (query_source _ _ (source_told ∙ c.if-not-is_type.true))
-          ∙ sym (answer_accepted _ _ k.known.accepted);
+      is = rw c.at.ensures (outcome_some _ _ _ (query_source _ _ (source_told ∙ c.if-not-is_type.true))
+          ∙ sym (answer_accepted _ _ k.known.accepted));
       kept = left_same _ _ _ _ _ c.requires.1;
     }
 
 pub returns-then-not-is_type-2 : goal.returns-then-not-is_type-2
 returns-then-not-is_type-2 c =
-    let ready : Ready c.args.image.now c.args.groups.now c.in_ok-s.s = let p = c.requires.0 in
-    let k = outcome_gives _ _ (sym c.in_ok-s.was ∙ p.sections) in
+    let ready : Ready c.args.image.now c.args.groups.now c.in_ok-starts.starts = let p = c.requires.0 in
+    let k = outcome_gives _ _ (sym c.in_ok-starts.was ∙ p.sections) in
     record { known = record { accepted = k.0; placed = p.placed k.0 }; starting = k.1 } in
     let counted : c.word_in-count.result ≡ count_of c.args.image.now Groups =
     c.word_in-count.ensures.0 ∙ sym (count_groups _) in
@@ -54,15 +54,15 @@ returns-then-not-is_type-2 c =
     source_told ∙ c.if-not-is_type.false in
     let k = ready in
     record {
-      is = outcome_some _ _ _ (query_dest _ _ source_yes (dest_told ∙ c.if-not-is_type-2.true))
-          ∙ sym (answer_accepted _ _ k.known.accepted);
+      is = rw c.at-then-not-is_type-2.ensures (outcome_some _ _ _ (query_dest _ _ source_yes (dest_told ∙ c.if-not-is_type-2.true))
+          ∙ sym (answer_accepted _ _ k.known.accepted));
       kept = left_same _ _ _ _ _ c.requires.1;
     }
 
 pub judge-requires : goal.judge-requires
 judge-requires c =
-    let ready : Ready c.args.image.now c.args.groups.now c.in_ok-s.s = let p = c.requires.0 in
-    let k = outcome_gives _ _ (sym c.in_ok-s.was ∙ p.sections) in
+    let ready : Ready c.args.image.now c.args.groups.now c.in_ok-starts.starts = let p = c.requires.0 in
+    let k = outcome_gives _ _ (sym c.in_ok-starts.was ∙ p.sections) in
     record { known = record { accepted = k.0; placed = p.placed k.0 }; starting = k.1 } in
     let counted : c.word_in-count.result ≡ count_of c.args.image.now Groups =
     c.word_in-count.ensures.0 ∙ sym (count_groups _) in
@@ -73,20 +73,20 @@ judge-requires c =
     let dest_told : is_type (count_of c.args.image.now Groups) c.args.q.dest ≡ c.is_type-2.result =
     type_told _ _ _ _ _ c.is_type-2.ensures counted c.wide_word-2.ensures in
     let dest_yes : is_type (count_of c.args.image.now Groups) c.args.q.dest ≡ true = dest_told ∙ c.if-not-is_type-2.false in
-    (ready, (source_yes, dest_yes), c.requires.1)
+    ((source_yes, dest_yes), c.requires.1)
 
-pub returns-in_err-s : goal.returns-in_err-s
-returns-in_err-s c = let p = c.requires in
-    let passed_on : c.from_residual.result ≡ Err c.in_err-s.field-0.0 = search rules in
+pub returns-in_err-starts : goal.returns-in_err-starts
+returns-in_err-starts c = let p = c.requires in
+    let passed_on : c.from_residual.result ≡ Err c.in_err-starts.field-0.0 = search rules in
     record {
-      is = passed_on ∙ sym (image_refused _ _ _ (outcome_refused _ _ (sym c.in_err-s.was ∙ p.0.sections)));
+      is = passed_on ∙ sym (image_refused _ _ _ (outcome_refused _ _ (sym c.in_err-starts.was ∙ p.0.sections)));
       kept = left_same _ _ _ _ _ p.1;
     }
 
 pub returns : goal.returns
 returns c =
-    let ready : Ready c.args.image.now c.args.groups.now c.in_ok-s.s = let p = c.requires.0 in
-    let k = outcome_gives _ _ (sym c.in_ok-s.was ∙ p.sections) in
+    let ready : Ready c.args.image.now c.args.groups.now c.in_ok-starts.starts = let p = c.requires.0 in
+    let k = outcome_gives _ _ (sym c.in_ok-starts.was ∙ p.sections) in
     record { known = record { accepted = k.0; placed = p.placed k.0 }; starting = k.1 } in
     let counted : c.word_in-count.result ≡ count_of c.args.image.now Groups =
     c.word_in-count.ensures.0 ∙ sym (count_groups _) in

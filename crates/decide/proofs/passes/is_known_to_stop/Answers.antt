@@ -23,14 +23,14 @@ bounds-image-at-then-image-at-gt127 c = omega (arith, c.requires.1.room)
 pub returns-then-image-at-gt127 : goal.returns-then-image-at-gt127
 returns-then-image-at-gt127 c =
     let g = high_group _ _ (type_small _ _ _ refl c.requires.0 c.requires.1.is) (omega (arith, c.if-image-at-gt127.true)) in
-    ap (λ i. eqb (get_or c.args.kept.now i 0) 1) (c.wide.ensures.0 ∙ sym g.1)
+    ap (λ i. eqb (get_or c.args.side.now.kept i 0) 1) (c.wide.ensures.0 ∙ sym g.1)
     ∙ sym (stops_known _ _ _ _ _ _ c.if-most-passed.false ∙ outside_group _ _ _ g.0)
 
 pub word_in-requires : goal.word_in-requires
 word_in-requires c = c.requires.1.room
 
-pub bounds-marks-word_in : goal.bounds-marks-word_in
-bounds-marks-word_in c =
+pub bounds-side-word_in : goal.bounds-side-word_in
+bounds-side-word_in c =
     let basic : word_at c.args.image.now c.args.at < 32768 =
     high_basic _ _ (omega (arith, c.if-image-at-gt127.false)) (omega (arith, c.type_inv.image (c.args.at + 1))) in
     omega (arith, c.word_in.ensures.0, type_basic _ _ c.requires.1.is basic)
@@ -39,9 +39,9 @@ pub returns : goal.returns
 returns c =
     let basic : word_at c.args.image.now c.args.at < 32768 =
     high_basic _ _ (omega (arith, c.if-image-at-gt127.false)) (omega (arith, c.type_inv.image (c.args.at + 1))) in
-    ap (λ i. not (get_or c.args.marks.now i false)) c.word_in.ensures.0
+    ap (λ i. not (get_or c.args.side.now.marks.now i false)) c.word_in.ensures.0
     ∙ sym (stops_known _ _ _ _ _ _ c.if-most-passed.false ∙ outside_basic _ _ _ basic)
 
-pub bounds-kept-wide : goal.bounds-kept-wide
-bounds-kept-wide c =
+pub bounds-side-wide : goal.bounds-side-wide
+bounds-side-wide c =
     omega (arith, c.wide.ensures.1)

@@ -1,6 +1,6 @@
 -- `opening` meets its contract: the check's refusal, then 16, then 17. Assumes nothing.
 use native.Mathlib.Omega.{arith}
-use mathlib.Core.Path.{◌≡◌, sym, ◌∙◌}
+use mathlib.Core.Path.{◌≡◌, sym, ap, ◌∙◌}
 use Rattle.std.specs.Prelude.{None, Some}
 use Rattle.format.specs.Refusals.{refusal}
 use Rattle.runs.proofs.Faults.{rows_few, rows_many, rows_slots, rows_none}
@@ -10,14 +10,15 @@ use borrow.Author.Rules.{rules}
 use Rattle.decide.proofs.steps.opening.Goals as goal
 
 pub returns-then-rows-lt1 : goal.returns-then-rows-lt1
-returns-then-rows-lt1 c = opened _ _ _ _ (Some (refusal 16 0)) (sym c.in_ok-sections.was) (rows_few _ _ c.if-rows-lt1.true)
+returns-then-rows-lt1 c = ap Err c.at.ensures ∙ opened _ _ _ _ (Some (refusal 16 0)) (sym c.in_ok-sections.was) (rows_few _ _ c.if-rows-lt1.true)
 
 pub returns-then-rows-gt64 : goal.returns-then-rows-gt64
-returns-then-rows-gt64 c = opened _ _ _ _ (Some (refusal 16 0)) (sym c.in_ok-sections.was) (rows_many _ _ c.if-rows-gt64.true)
+returns-then-rows-gt64 c = ap Err c.at-then-rows-gt64.ensures ∙ opened _ _ _ _ (Some (refusal 16 0)) (sym c.in_ok-sections.was) (rows_many _ _ c.if-rows-gt64.true)
 
 pub returns-then-not-fits : goal.returns-then-not-fits
 returns-then-not-fits c =
-    opened _ _ _ _ (Some (refusal 17 0)) (sym c.in_ok-sections.was)
+    ap Err c.at-then-not-fits.ensures
+    ∙ opened _ _ _ _ (Some (refusal 17 0)) (sym c.in_ok-sections.was)
     (rows_slots _ _ (omega (arith, c.if-rows-lt1.false)) (omega (arith, c.if-rows-gt64.false)) c.if-not-fits.true)
 
 pub returns-in_err-sections : goal.returns-in_err-sections

@@ -8,28 +8,28 @@ use Rattle.decide.proofs.TypeLaws.{few_groups, group_placed, group_span_is}
 use Rattle.decide.proofs.types.group_span.Goals as goal
 
 pub offset_bounds-groups-g : goal.offset_bounds-groups-g
-offset_bounds-groups-g c = let p = c.requires in omega (arith, p.1, few_groups _ p.0.accepted)
+offset_bounds-groups-g c = omega (arith, c.requires.1, few_groups _ c.requires.0.accepted)
 
 pub bounds-groups-g : goal.bounds-groups-g
-bounds-groups-g c = let p = c.requires in omega (arith, p.1, few_groups _ p.0.accepted)
+bounds-groups-g c = omega (arith, c.requires.1, few_groups _ c.requires.0.accepted)
 
 pub overflow_add-result : goal.overflow_add-result
 overflow_add-result c =
-    let placed : GroupAt c.args.image.now c.wide_word-at.result (get_or (groups_in c.args.image.now) c.args.g []) = let p =
-    c.requires in rw c.wide_word-at.ensures (group_placed _ _ _ p.0 p.1) in
+    let placed : GroupAt c.args.image.now c.wide_word-at.result (get_or (groups_in c.args.image.now) c.args.g []) =
+    rw c.wide_word-at.ensures (group_placed _ _ _ c.requires.0 c.requires.1) in
     let g = placed in omega (arith, g.here.some, g.here.inside)
 
 pub bounds-image-at : goal.bounds-image-at
 bounds-image-at c =
-    let placed : GroupAt c.args.image.now c.wide_word-at.result (get_or (groups_in c.args.image.now) c.args.g []) = let p =
-    c.requires in rw c.wide_word-at.ensures (group_placed _ _ _ p.0 p.1) in
+    let placed : GroupAt c.args.image.now c.wide_word-at.result (get_or (groups_in c.args.image.now) c.args.g []) =
+    rw c.wide_word-at.ensures (group_placed _ _ _ c.requires.0 c.requires.1) in
     let g = placed in omega (arith, g.here.some, g.here.inside)
 
 pub overflow_sub-result : goal.overflow_sub-result
 overflow_sub-result c =
-    let placed : GroupAt c.args.image.now c.wide_word-at.result (get_or (groups_in c.args.image.now) c.args.g []) = let p =
-    c.requires in rw c.wide_word-at.ensures (group_placed _ _ _ p.0 p.1) in
+    let placed : GroupAt c.args.image.now c.wide_word-at.result (get_or (groups_in c.args.image.now) c.args.g []) =
+    rw c.wide_word-at.ensures (group_placed _ _ _ c.requires.0 c.requires.1) in
     let g = placed in omega (arith, g.here.some, g.here.size, c.wide.ensures.0)
 
 pub returns : goal.returns
-returns c = let p = c.requires in group_span_is _ _ _ p.0 p.1 _ _ c.wide_word-at.ensures c.wide.ensures.0
+returns c = group_span_is _ _ _ c.requires.0 c.requires.1 _ _ c.wide_word-at.ensures c.wide.ensures.0
