@@ -1,39 +1,26 @@
 -- A turn and the end of the input, for each way that they go. Assumes nothing.
---     added_gives, added_refuses   what adding rows answered
---     rests_full, rests_kept       the bytes behind the last line feed
---     turn_fault_lem, turn_rests       a turn
---     ends_fault, ends_image       the end of the input
+--     rests_kept                            the bytes behind the last line feed
+--     fault_inside, turn_told, turn_rests   a turn
+--     last_inside, ends_told                the end of the input
 use Prim.Native.Nat.{ℕ, ◌+◌, ◌-◌, ◌≤◌, ◌<◌}
 use native.Mathlib.Omega.{arith}
 use mathlib.Core.Path.{◌≡◌, sym, subst, ap, ◌∙◌}
-use Rattle.std.specs.Prelude.{None, Some}
+use Rattle.std.specs.Prelude.{None, Some, Ok, Err, Result, MatchResult, IsOk, IsErrAnd}
 use mathlib.Core.List.{List, []}
 use lib.ListN.{length, take, drop, length-drop}
-use lib.Seq.{length-take-le, take-take}
+use lib.Seq.{length-take-le}
 use Rattle.format.specs.declared.Refusal.{Refusal}
 use Rattle.format.specs.Bytes.{Bytes, word_at}
 use Rattle.format.specs.Check.{check_front}
-use Rattle.std.specs.Prelude.{Ok, Err}
 use Rattle.format.proofs.Front.{front_fits}
 use Rattle.text.specs.Build.{AddsRows, rows_added}
 use Rattle.text.proofs.Chunks.{added_accepted, added_place}
 use Rattle.lines.specs.declared.RowRefusal.{RowRefusal}
-use Rattle.lines.specs.Compiled.{feeds, refused_row, row_line, cut, turn_fault, Reading, reads}
+use Rattle.lines.specs.Compiled.{feeds, refused_row, row_line, cut, turn_fault}
 use Rattle.lines.proofs.Compiled.{turn_faulty, turn_full, turn_goes, turned_is, reads_refused, reads_image}
 use Rattle.compile.specs.declared.turn.Place.{Place}
-use Rattle.compile.specs.declared.turn.Step.{Step}
-use Rattle.compile.specs.declared.turn.Step.TheVariants as step
-use Rattle.compile.specs.declared.turn.Ending.{Ending}
-use Rattle.compile.specs.declared.turn.Ending.TheVariants as ending
-use Rattle.compile.specs.Inner.Turn.{reading_of, Kept, Filled, Rests, Goes, Turned, Image, Ended}
+use Rattle.compile.specs.Inner.Turn.{reading_of, Kept, Rests, Turned, Ended}
 use Rattle.format.specs.Answers.{Outcome}
-
-module _ (t b after : List ℕ) (r : Outcome ℕ) (a : AddsRows t b r after) where
-  pub added_gives : (n : ℕ) → r ≡ Ok n → (rows_added t b).answer ≡ Ok n
-  added_gives n e = sym a.answer ∙ e
-
-  pub added_refuses : (f : Refusal) → r ≡ Err f → (rows_added t b).answer ≡ Err f
-  added_refuses f e = sym a.answer ∙ e
 
 -- ---- the bytes behind the last line feed
 
@@ -44,15 +31,6 @@ module _ (p : Place) (input : List ℕ) (have end n : ℕ) (long : have ≤ leng
   rest_long : length (drop (cut l) l) ≡ have - end
   unfolding l
   rest_long = length-drop (cut l) l ∙ omega (arith, length-take-le have input long, at)
-
-  pub rests_full : have - end ≡ 65536 → Filled p (take have input) (record { number = 18; place = p.at + end; row = p.row + n })
-  unfolding l rest_long
-  rests_full e =
-      record {
-        full = omega (arith, rest_long);
-        is = ap (λ k. record { number = 18; place = p.at + k; row = p.row + n }) at
-            ∙ ap (λ k. record { number = 18; place = p.at + cut l; row = p.row + k }) count;
-      }
 
   pub rests_kept :
       (after : List ℕ) → have ≤ 65536 → (have - end ≡ 65536 → ⊥) → take (have - end) after ≡ drop end (take have input)
@@ -69,37 +47,39 @@ module _ (p : Place) (input : List ℕ) (have end n : ℕ) (long : have ≤ leng
 
 -- ---- a turn
 
-module _ (p : Place) (input image after : List ℕ) (have end : ℕ) (r : Outcome ℕ) (most : end ≤ have) (at : end ≡ cut (take have input)) (a : AddsRows (take end input) image r after) where
-  s : Reading
-  s = reading_of p input image
-
+module _ (p : Place) (input image after l : List ℕ) (end : ℕ) (at : end ≡ cut l) where
   -- the whole rows
-  rows : take end input ≡ take (cut (take have input)) (take have input)
-  rows = sym (take-take end have input most) ∙ ap (λ k. take k (take have input)) at
+  rows : take end l ≡ take (cut l) l
+  rows = ap (λ k. take k l) at
 
-  pub turn_fault_lem :
-      (f : Refusal) → r ≡ Err f → turn_fault (reading_of p input image) (take have input) ≡ Some (refused_row p.at p.row (take have input) f)
-  turn_fault_lem f e =
-      turn_faulty (reading_of p input image) (take have input) f
-      (ap (λ x. (rows_added x image).answer) (sym rows) ∙ added_refuses (take end input) image after r a f e)
+  pub fault_inside :
+      {r : Outcome ℕ} (f : Refusal) → check_front image ≡ None → end ≤ length l → AddsRows (take end l) image r after → r ≡ Err f
+      → f.place ≤ length l
+  fault_inside f front most a e =
+      omega (arith, added_place image front (take end l) f (sym a.answer ∙ e), length-take-le end l most)
 
-  pub fault_inside : (f : Refusal) → check_front image ≡ None → end ≤ length input → r ≡ Err f → f.place ≤ have
-  fault_inside f front long e =
-      omega (arith, added_place image front (take end input) f (added_refuses (take end input) image after r a f e), length-take-le end input long)
+  -- the refusal of a row is told for the whole text
+  pub turn_told :
+      {P : Refusal → Type 0} (r : Outcome ℕ) (g : RowRefusal) → AddsRows (take end l) image r after
+      → ((f : Refusal) → P f → g ≡ refused_row p.at p.row l f) → MatchResult r (λ n. ◌≡◌ {A = Result ℕ RowRefusal} (Err g) (Ok n)) P
+      → turn_fault (reading_of p input image) l ≡ Some g
+  turn_told (Ok n) g a told h = let z : ◌≡◌ {A = ℕ} 0 1 = cc in absurd (omega arith)
+  turn_told (Err f) g a told h =
+      turn_faulty (reading_of p input image) l f (ap (λ x. (rows_added x image).answer) (sym rows) ∙ sym a.answer) ∙ ap Some (sym (told f h))
 
   pub turn_rests :
-      (n : ℕ) (q : Step) (input' : List ℕ) → check_front image ≡ None → Bytes image → r ≡ Ok n → Rests p (take have input) q input'
-      → Turned (reading_of p input image) (take have input) q input' after
-  turn_rests n (step.Fault f) input' front bytes e k =
-      let adds = ap (λ x. (rows_added x image).answer) (sym rows) ∙ added_gives (take end input) image after r a n e in
-      turn_full (reading_of p input image) (take have input) n adds k.full ∙ ap Some (sym k.is)
-  turn_rests n (step.Onward q) input' front bytes e k =
-      let l = take have input in
-      let adds = ap (λ x. (rows_added x image).answer) (sym rows) ∙ added_gives (take end input) image after r a n e in
-      let same : (rows_added (take (cut (take have input)) (take have input)) image).buffer ≡ after = ap (λ x. (rows_added x image).buffer) (sym rows) ∙ sym a.buffer in
+      (r : Outcome ℕ) (q : Result Place RowRefusal) (input' : List ℕ) → check_front image ≡ None → Bytes image → IsOk r
+      → AddsRows (take end l) image r after → Rests p l q input' → Turned (reading_of p input image) l q input' after
+  turn_rests (Err f) q input' front bytes ok a k = let z : ◌≡◌ {A = ℕ} 0 1 = cc in absurd (omega arith)
+  turn_rests (Ok n) (Err f) input' front bytes ok a k =
+      let adds = ap (λ x. (rows_added x image).answer) (sym rows) ∙ sym a.answer in
+      turn_full (reading_of p input image) l n adds k.full ∙ ap Some (sym k.is)
+  turn_rests (Ok n) (Ok q) input' front bytes ok a k =
+      let adds = ap (λ x. (rows_added x image).answer) (sym rows) ∙ sym a.answer in
+      let same : (rows_added (take (cut l) l) image).buffer ≡ after = ap (λ x. (rows_added x image).buffer) (sym rows) ∙ sym a.buffer in
       record {
         none_refused = turn_goes (reading_of p input image) l n adds k.few;
-        accepted = ap check_front a.buffer ∙ (added_accepted image front bytes (take end input)).0;
+        accepted = ap check_front a.buffer ∙ (added_accepted image front bytes (take end l)).0;
         few = omega (arith, ap (λ (x : Place). x.kept) k.place, k.few);
         next = turned_is (reading_of p input image) l
             ∙ ap (λ (x : Place). record { at = x.at; row = x.row; kept = drop (cut l) l; buffer = (rows_added (take (cut l) l) image).buffer }) (sym k.place)
@@ -109,35 +89,25 @@ module _ (p : Place) (input image after : List ℕ) (have end : ℕ) (r : Outcom
 
 -- ---- the end of the input
 
-module _ (p : Place) (input image after : List ℕ) (r : Outcome ℕ) (front : check_front image ≡ None) (a : AddsRows (take p.kept input) image r after) where
-  pub ends_fault :
-      (f : Refusal) → r ≡ Err f
-      → reads (reading_of p input image) [] ≡ record { output = []; errors = row_line (refused_row p.at p.row (take p.kept input) f) }
-  ends_fault f e = reads_refused (reading_of p input image) f (added_refuses (take p.kept input) image after r a f e)
+module _ (p : Place) (input image after : List ℕ) (front : check_front image ≡ None) where
+  pub last_inside : {r : Outcome ℕ} (f : Refusal) → AddsRows (take p.kept input) image r after → r ≡ Err f → f.place < length (take p.kept input)
+  last_inside f a e = added_place image front (take p.kept input) f (sym a.answer ∙ e)
 
-  pub last_inside : (f : Refusal) → r ≡ Err f → f.place < length (take p.kept input)
-  last_inside f e = added_place image front (take p.kept input) f (added_refuses (take p.kept input) image after r a f e)
-
-  pub ends_image : (n : ℕ) → Bytes image → r ≡ Ok n → Image (reading_of p input image) n after
-  ends_image n bytes e =
+  -- the refusal of the last row is told for the whole text
+  pub ends_told :
+      {P : Refusal → RowRefusal → Type 0} (r : Outcome ℕ) (q : Result ℕ RowRefusal) → Bytes image
+      → AddsRows (take p.kept input) image r after → ((f : Refusal) (g : RowRefusal) → P f g → g ≡ refused_row p.at p.row (take p.kept input) f)
+      → MatchResult r (λ n. q ≡ Ok n) (λ f. IsErrAnd q (P f)) → Ended (reading_of p input image) q after
+  ends_told (Ok n) q bytes a told h =
       let t = take p.kept input in
-      let q = reads_image (reading_of p input image) n front (added_gives t image after r a n e) in
-      let size : n ≡ word_at after 1 = q.0 ∙ ap (λ x. word_at x 1) (sym a.buffer) in
+      let reading = reads_image (reading_of p input image) n front (sym a.answer) in
+      let size : n ≡ word_at after 1 = reading.0 ∙ ap (λ x. word_at x 1) (sym a.buffer) in
       let accepted : check_front after ≡ None = ap check_front a.buffer ∙ (added_accepted image front bytes t).0 in
-      record {
+      subst (λ x. Ended (reading_of p input image) x after) (sym h)
+      (record {
         fits = omega (arith, size, front_fits after accepted);
-        is = q.1 ∙ ap (λ x. record { output = take n x; errors = [] }) (sym a.buffer);
-      }
-
--- by what it came to
-pub ends_row : (s : Reading) (e : Ending) (image : List ℕ) (f : RowRefusal) → e ≡ ending.Fault f → Ended s e image → reads s [] ≡ record { output = []; errors = row_line f }
-ends_row s e image f q k = subst (λ x. Ended s x image) q k
-
-pub ends_length : (s : Reading) (e : Ending) (image : List ℕ) (n : ℕ) → e ≡ ending.Image n → Ended s e image → Image s n image
-ends_length s e image n q k = subst (λ x. Ended s x image) q k
-
-pub turns_fault : (s : Reading) (l : List ℕ) (r : Step) (input image : List ℕ) (f : RowRefusal) → r ≡ step.Fault f → Turned s l r input image → turn_fault s l ≡ Some f
-turns_fault s l r input image f q k = subst (λ x. Turned s l x input image) q k
-
-pub turns_on : (s : Reading) (l : List ℕ) (r : Step) (input image : List ℕ) (p : Place) → r ≡ step.Onward p → Turned s l r input image → Goes s l p input image
-turns_on s l r input image p q k = subst (λ x. Turned s l x input image) q k
+        is = reading.1 ∙ ap (λ x. record { output = take n x; errors = [] }) (sym a.buffer);
+      })
+  ends_told (Err f) (Ok n) bytes a told h = absurd h
+  ends_told (Err f) (Err g) bytes a told h =
+      reads_refused (reading_of p input image) f (sym a.answer) ∙ ap (λ x. record { output = []; errors = row_line x }) (sym (told f g h))

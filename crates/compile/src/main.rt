@@ -10,6 +10,7 @@ mod feeds; // feeds.rt: line feeds in the bytes that have come
 mod line; // line.rt: the line of a refused row
 mod turn; // turn.rt: a turn, and the end of the input
 mod sink; // sink.rt: standard output and standard error
+mod stop; // stop.rt: why there is no image
 mod run; // run.rt: one turn after the other
 
 use crate::run::run;
@@ -17,11 +18,14 @@ use crate::run::run;
 fn main(rt: HostRuntime) {
     let mut image = io::large_buffer();
     let _ = extend::build(b"", &mut image);
-    run(
+    let done = run(
         &rt,
         &mut rt.stdin(),
         &mut rt.stdout(),
         &mut rt.stderr(),
         &mut image,
     );
+    if let Err(fault) = done {
+        let _ = eprintln!(rt; "compile: {fault}");
+    }
 }

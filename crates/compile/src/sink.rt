@@ -3,23 +3,24 @@ ghost use Rattle.compile.specs.Inner.Due.{DueOutput, DueErrors};
 
 use std::io::Write;
 use std::time::Clock;
+use streams::{Fault, write_all};
 
 // Writes an image that is due, all of it.
-pub(crate) fn write_image<R, O>(rt: &R, stdout: &mut O, bytes: &[u8])
+pub(crate) fn write_image<R, O>(rt: &R, stdout: &mut O, bytes: &[u8]) -> Result<(), Fault>
 where
-    R: Clock + Eprint,
+    R: Clock,
     O: Write,
     requires { DueOutput bytes.now }
 {
-    streams::write_all(rt, stdout, b"compile: standard output", bytes);
+    write_all(rt, stdout, bytes).map_err(Fault::Output)
 }
 
 // Writes the line of a refused row that is due, all of it.
-pub(crate) fn write_line<R, E>(rt: &R, stderr: &mut E, bytes: &[u8])
+pub(crate) fn write_line<R, E>(rt: &R, stderr: &mut E, bytes: &[u8]) -> Result<(), Fault>
 where
-    R: Clock + Eprint,
+    R: Clock,
     E: Write,
     requires { DueErrors bytes.now }
 {
-    streams::write_all(rt, stderr, b"compile: standard error", bytes);
+    write_all(rt, stderr, bytes).map_err(Fault::Errors)
 }

@@ -1,28 +1,23 @@
 -- What the reads have brought, and what is due for it. Assumes nothing.
 --     gathered_first, gathered_read, gathered_more   no byte; a read that leaves those that were there; and one that brings more
 --     due_ended, due_full             the end of the input, and a full space
---     took_whole                      what was read, where no error ended it
 --     due_line, due_image             what the conversion answered
 --     new_fits                        the new image stands at the front of its buffer
 use Prim.Native.Nat.{ℕ, ◌+◌, ◌≤◌, ◌<◌}
 use native.Mathlib.Omega.{arith}
 use mathlib.Core.Path.{◌≡◌, refl, sym, subst, ap, ◌∙◌}
-use Rattle.std.specs.Prelude.{None, Ok}
+use Rattle.std.specs.Prelude.{None, Ok, Err}
 use mathlib.Core.List.{List, [], ◌∷◌, ◌++◌, append_assoc, append-nil}
 use lib.ListN.{length, take, drop}
 use lib.Seq.{take-add, length-take-le}
 use Rattle.format.specs.declared.Refusal.{Refusal}
-use Rattle.std.specs.Prelude.{Err}
 use Rattle.format.proofs.Chain.{outcome_gives, outcome_refused}
 use Rattle.conversion.specs.Convert.{converted_image, convert_fault, Converts}
 use Rattle.conversion.proofs.Buffers.{fault_parts, past_stays}
 use Rattle.lines.specs.Lines.{line}
 use Rattle.lines.specs.Converted.{input_space, convert_output, gathers}
 use Rattle.lines.proofs.Converted.{output_new, output_refused, gathers_ended, gathers_on, gathers_full}
-use Rattle.convert.specs.declared.source.Taken.{Taken}
-use Rattle.convert.specs.declared.source.Taken.TheVariants as taken
 use Rattle.convert.specs.Inner.Due.{Due, DueOutput, DueErrors, Gathered}
-use Rattle.convert.specs.Inner.Input.{Whole, Took}
 use Rattle.format.specs.Answers.{Outcome}
 
 -- ---- reads
@@ -61,9 +56,6 @@ module _ (kept : List ℕ) (g : Gathered kept) where
 
   pub due_full : input_space ≤ length kept → Due (convert_output kept)
   due_full h = Due.full g.brought (λ more. g.onward more ∙ gathers_full kept more h)
-
-pub took_whole : (r : Taken) (space : List ℕ) (n : ℕ) → r ≡ taken.Bytes n → Took r space → Whole n space
-took_whole r space n e k = subst (λ (x : Taken). Took x space) e k
 
 -- ---- what the conversion answered
 

@@ -6,18 +6,30 @@
 // input that cannot be read, or an output that cannot be written, ends the program, which says so on standard error.
 #![tactic(auto)]
 
-mod line; // line.rt: the line of a refused image
 mod source; // source.rt: standard input
 mod sink; // sink.rt: standard output and standard error
 mod answer; // answer.rt: what is written for the bytes that were read
 
 use crate::answer::answer;
-use crate::source::{Taken, read_input};
+use crate::source::read_input;
+use std::io::{Read, Write};
+use std::time::Clock;
+use streams::Fault;
+
+fn run<R, I, O, E>(rt: &R, stdin: &mut I, stdout: &mut O, stderr: &mut E) -> Result<(), Fault>
+where
+    R: Clock,
+    I: Read,
+    O: Write,
+    E: Write,
+{
+    let mut space = io::large_buffer();
+    let n = read_input(rt, stdin, &mut space)?;
+    answer(rt, stdout, stderr, &space[..n])
+}
 
 fn main(rt: HostRuntime) {
-    let mut space = io::large_buffer();
-    let Taken::Bytes(n) = read_input(&rt, &mut rt.stdin(), &mut space) else {
-        return;
-    };
-    answer(&rt, &mut rt.stdout(), &mut rt.stderr(), &space[..n]);
+    if let Err(fault) = run(&rt, &mut rt.stdin(), &mut rt.stdout(), &mut rt.stderr()) {
+        let _ = eprintln!(rt; "convert: {fault}");
+    }
 }

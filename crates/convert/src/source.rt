@@ -1,39 +1,28 @@
 // Standard input.
-ghost use Rattle.std.specs.Prelude.{◌≡◌, length};
-ghost use Rattle.convert.specs.Inner.Input.{Took};
+ghost use Rattle.std.specs.Prelude.{◌≡◌, length, IfOk};
+ghost use Rattle.convert.specs.Inner.Input.{Whole};
 
 use std::io::Read;
 use std::time::Clock;
-use streams::{Got, read_between};
+use streams::{Fault, read_between};
 
-// What was read: so many bytes, or an error ended it.
-#[derive(Clone, Copy)]
-pub(crate) enum Taken {
-    Bytes(usize),
-    Failed,
-}
+// There is space for so many bytes of an input.
+const SPACE: usize = 65536;
 
-// Reads to the end of the input, or until the space is full.
-pub(crate) fn read_input<R, I>(rt: &R, stdin: &mut I, space: &mut [u8]) -> Taken
+// Reads to the end of the input, or until the space is full, and tells how many bytes there are.
+pub(crate) fn read_input<R, I>(rt: &R, stdin: &mut I, space: &mut [u8]) -> Result<usize, Fault>
 where
-    R: Clock + Eprint,
+    R: Clock,
     I: Read,
-    requires { 65536 ≡ length space.old }
-    ensures { Took result space.new }
+    requires { SPACE ≡ length space.old }
+    ensures { IfOk result (λ n. Whole n space.new) }
 {
     let mut have: usize = 0;
-    while have < 65536 {
-        match read_between(rt, stdin, b"convert: standard input", space, have, 65536) {
-            Got::Bytes(n) => {
-                have += n;
-            }
-            Got::Ended => {
-                return Taken::Bytes(have);
-            }
-            Got::Failed => {
-                return Taken::Failed;
-            }
+    while have < SPACE {
+        match read_between(rt, stdin, space, have, SPACE)? {
+            Some(n) => have += n,
+            None => return Ok(have),
         }
     }
-    Taken::Bytes(have)
+    Ok(have)
 }

@@ -1,12 +1,13 @@
 // The lines of whole queries, of a refusal, and of what is left of the input.
 ghost use Rattle.std.specs.Prelude.{◌*◌, ◌≤◌, length};
 ghost use Rattle.format.specs.Check.{Accepted};
-ghost use Rattle.lines.specs.Lines.{line, lines};
+ghost use Rattle.lines.specs.Lines.{lines};
 ghost use Rattle.lines.specs.Output.{ending};
 ghost use Rattle.streams.specs.Put.{Front};
 
-use crate::line::{put_line, put_pair};
-use format::Refusal;
+use crate::line::put_line;
+use format::{Cause, Refusal};
+use streams::put_refusal;
 
 // Puts the lines of the input's whole queries at the front of the output, one behind the other, and tells how many bytes they
 // are. All are decided in one call, whose numbers stand in the slots that are lent for them. A line has at most 44 bytes, fewer
@@ -22,18 +23,10 @@ pub(crate) fn put_answers(
 {
     let rows = decide::decide_all(image, input, numbers);
     let mut end: usize = 0;
-    for k in 0..rows {
-        end = put_line(numbers[k], output, end);
+    for number in &numbers[..rows] {
+        end = put_line(*number, output, end);
     }
     end
-}
-
-// The line of a refusal.
-pub(crate) fn put_refusal(f: Refusal, output: &mut [u8]) -> usize
-    requires { 44 ≤ length output.old }
-    ensures { Front output.new result (line (Err f)) }
-{
-    put_pair(b'R', f.number as usize, f.place, output, 0)
 }
 
 // The last line, where the input has ended and these bytes are left as a query.
@@ -44,11 +37,9 @@ pub(crate) fn put_ending(left: &[u8], output: &mut [u8]) -> usize
     if left.len() % 12 == 0 {
         return 0;
     }
-    put_refusal(
-        Refusal {
-            number: 15,
-            place: 0,
-        },
-        output,
-    )
+    let cut = Refusal {
+        number: Cause::BytesLeft as u8,
+        place: 0,
+    };
+    put_refusal(cut, output, 0)
 }

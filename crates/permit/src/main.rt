@@ -12,25 +12,28 @@ mod answers; // answers.rt: the lines of queries and of what is left
 mod serve; // serve.rt: one turn after the other
 
 use crate::serve::{refuse, serve};
-use crate::source::{Stop, read_image};
+use crate::source::{Taken, read_image};
+use std::io::{Read, Write};
+use std::time::Clock;
+use streams::Fault;
 
-fn main(rt: HostRuntime) {
-    let mut stdin = rt.stdin();
-    let mut stdout = rt.stdout();
+fn run<R, I, O>(rt: &R, stdin: &mut I, stdout: &mut O) -> Result<(), Fault>
+where
+    R: Clock,
+    I: Read,
+    O: Write,
+{
     let mut space = io::large_buffer();
-    let taken = read_image(&rt, &mut stdin, &mut space);
-    let why = taken.why;
-    if let Stop::Failed = why {
-        return;
-    }
-    let have = taken.have;
+    let (Taken::Whole(have) | Taken::Cut(have)) = read_image(rt, stdin, &mut space)?;
     let image = image::leading(&space[..have]);
     match image::check(image) {
-        Err(f) => {
-            refuse(&rt, &mut stdout, f);
-        }
-        Ok(()) => {
-            serve(&rt, &mut stdin, &mut stdout, image);
-        }
+        Err(f) => refuse(rt, stdout, f),
+        Ok(()) => serve(rt, stdin, stdout, image),
+    }
+}
+
+fn main(rt: HostRuntime) {
+    if let Err(fault) = run(&rt, &mut rt.stdin(), &mut rt.stdout()) {
+        let _ = eprintln!(rt; "permit: {fault}");
     }
 }

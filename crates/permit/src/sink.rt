@@ -3,13 +3,14 @@ ghost use Rattle.permit.specs.Inner.Turn.{Due};
 
 use std::io::Write;
 use std::time::Clock;
+use streams::Fault;
 
-// Writes what is due, all of it, and tells that it did.
-pub(crate) fn write_due<R, O>(rt: &R, stdout: &mut O, bytes: &[u8]) -> bool
+// Writes what is due, all of it.
+pub(crate) fn write_due<R, O>(rt: &R, stdout: &mut O, bytes: &[u8]) -> Result<(), Fault>
 where
-    R: Clock + Eprint,
+    R: Clock,
     O: Write,
     requires { Due bytes.now }
 {
-    streams::write_all(rt, stdout, b"permit: standard output", bytes)
+    streams::write_all(rt, stdout, bytes).map_err(Fault::Output)
 }

@@ -1,34 +1,34 @@
 -- What a read or a write came to, and what an error of the system means.
---     brought_by z most    what the answer z says, where room for so many bytes was lent
+--     brought_by a most    what the answer a of `read` says, where room for so many bytes was lent
 --     try_again e          the error says that the call may be made again: EINTR, EAGAIN
---     Brings most g       what is known of a read: 1 to so many bytes, where there are any
---     ReadBetween from to l g after   and of one between two places of l: what stands before and behind stays. Where they are
+--     Brings most r       what is known of a read: 1 to so many bytes, where there are any
+--     ReadBetween from to l r after   and of one between two places of l: what stands before and behind stays. Where they are
 --                                     not there in this order, it fails and all stays
 --     Writes many r       what is known of a write of so many bytes: one of none is done
-use Rattle.std.specs.Prelude.{ℕ, zero, suc, ◌-◌, ◌≤◌, ◌<◌, min, ◌≡◌, Bool, true, false, ◌||◌, List, length, take, drop, ℤ, pos, negsuc, eqb}
-use Rattle.streams.specs.declared.Got.{Got}
-use Rattle.streams.specs.declared.Got.TheVariants as got
+use Rattle.std.specs.Prelude.{ℕ, zero, suc, ◌-◌, ◌≤◌, ◌<◌, min, ◌≡◌, Bool, false, ◌||◌, List, length, take, drop, ℤ, pos, negsuc, eqb, Option, None, Some, Result, Ok, Err, IsOk, IsErr}
+use Rattle.std.specs.declared.io.Error.{Error}
+use Rattle.streams.specs.declared.fault.Fault.{Fault}
 
-abbrev pub brought_by : ℤ → ℕ → Got
-brought_by (pos zero) most = got.Ended
-brought_by (pos (suc n)) most = got.Bytes (min (suc n) most)
-brought_by (negsuc k) most = got.Failed
+abbrev pub brought_by : Result ℕ Error → ℕ → Result (Option ℕ) Error
+brought_by (Ok zero) most = Ok None
+brought_by (Ok (suc n)) most = Ok (Some (min (suc n) most))
+brought_by (Err e) most = Err e
 
 abbrev pub try_again : ℤ → Bool
 try_again (pos e) = eqb e 4 || eqb e 11
 try_again (negsuc k) = false
 
-abbrev pub Brings : ℕ → Got → Type 0
-Brings most (got.Bytes n) = (0 < n) × (n ≤ most)
-Brings most got.Ended = Unit
-Brings most got.Failed = Unit
+abbrev pub Brings : ℕ → Result (Option ℕ) Fault → Type 0
+Brings most (Ok (Some n)) = (0 < n) × (n ≤ most)
+Brings most (Ok None) = Unit
+Brings most (Err e) = Unit
 
-pub record ReadBetween (from to : ℕ) (l : List ℕ) (g : Got) (after : List ℕ) : Type 0 where
-  pub brings : Brings (to - from) g
+pub record ReadBetween (from to : ℕ) (l : List ℕ) (r : Result (Option ℕ) Fault) (after : List ℕ) : Type 0 where
+  pub brings : Brings (to - from) r
   pub before : take from after ≡ take from l
   pub behind : drop to after ≡ drop to l
-  pub crossed : to < from → (g ≡ got.Failed) × (after ≡ l)
-  pub past : length l < to → (g ≡ got.Failed) × (after ≡ l)
+  pub crossed : to < from → IsErr r × (after ≡ l)
+  pub past : length l < to → IsErr r × (after ≡ l)
 
-pub record Writes (many : ℕ) (r : Bool) : Type 0 where
-  pub none_left : many ≡ 0 → r ≡ true
+pub record Writes {E : Type 0} (many : ℕ) (r : Result Unit E) : Type 0 where
+  pub none_left : many ≡ 0 → IsOk r

@@ -1,5 +1,5 @@
 // A read or a write that failed: whether to make it again.
-ghost use Rattle.std.specs.Prelude.{◌≡◌, IfSome};
+ghost use Rattle.std.specs.Prelude.{◌≡◌, IfSome, is_ok};
 ghost use Rattle.std.specs.IoError.{raw_os_error};
 ghost use Rattle.streams.specs.Input.{try_again};
 
@@ -16,10 +16,7 @@ const EAGAIN: i32 = 11;
 fn is_again(error: i32) -> bool
     ensures { result ≡ try_again error }
 {
-    if error == EINTR {
-        return true;
-    }
-    error == EAGAIN
+    error == EINTR || error == EAGAIN
 }
 
 // The same of an error that a reader or a writer gives, which has the system's number if the system gave it.
@@ -32,18 +29,14 @@ fn is_passing(error: &io::Error) -> bool
     }
 }
 
-// Waits a millisecond.
-fn wait<R: Clock>(rt: &R) {
-    thread::sleep(rt, Duration::from_millis(1));
-}
-
-// After a call that failed with this error: waits a little and tells that the call may be made again, or tells that it may not.
-pub(crate) fn retry<R: Clock>(rt: &R, error: &io::Error) -> bool
-    ensures { IfSome (raw_os_error error.now) (λ e. result ≡ try_again e) }
+// After a call that failed with this error: waits a millisecond where the call may be made again, and gives the error back where
+// it may not.
+pub(crate) fn retry<R: Clock>(rt: &R, error: io::Error) -> io::Result<()>
+    ensures { IfSome (raw_os_error error) (λ e. is_ok result ≡ try_again e) }
 {
-    if is_passing(error) {
-        wait(rt);
-        return true;
+    if !is_passing(&error) {
+        return Err(error);
     }
-    false
+    thread::sleep(rt, Duration::from_millis(1));
+    Ok(())
 }

@@ -3,21 +3,14 @@
 #![tactic(auto)]
 
 mod again; // again.rt: a call that is made again
-mod fault; // fault.rt: what is said of a call that failed
+mod fault; // fault.rt: a stream that failed
 mod source; // source.rt: a read
 mod sink; // sink.rt: a write
 mod number; // number.rt: bytes and numbers, from a place of a buffer on
 mod rest; // rest.rt: what is left of the bytes that have come
 
-pub use number::{put_byte, put_field};
+pub use fault::Fault;
+pub use number::{put_byte, put_field, put_line, put_refusal};
 pub use rest::keep_rest;
 pub use sink::write_all;
 pub use source::{read_between, read_some};
-
-// What a read brought: some bytes, the end of the input, or an error.
-#[derive(Clone, Copy)]
-pub enum Got {
-    Bytes(usize),
-    Ended,
-    Failed,
-}

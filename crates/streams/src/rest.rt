@@ -7,13 +7,7 @@ ghost use Rattle.streams.specs.Put.{kept_rest};
 pub fn keep_rest(buffer: &mut [u8], from: usize, to: usize)
     ensures { buffer.new ≡ kept_rest from to buffer.old }
 {
-    if buffer.len() < to {
-        return;
-    }
-    if to < from {
-        return;
-    }
-    for k in 0..to - from {
-        buffer[k] = buffer[from + k];
+    if to <= buffer.len() && from <= to {
+        buffer.copy_within(from..to, 0);
     }
 }

@@ -1,59 +1,40 @@
 // A write.
-ghost use Rattle.std.specs.Prelude.{◌≤◌, length};
+ghost use Rattle.std.specs.Prelude.{◌≤◌, ◌<◌, length, IfOk};
 ghost use Rattle.streams.specs.Input.{Writes};
 
 use crate::again::retry;
-use crate::fault::say;
 use std::io;
 use std::io::{ErrorKind, Write};
 use std::time::Clock;
 
-// Writes all of the bytes and tells that it did, or says on standard error what could not be written, and why. A write that
-// takes nothing is one that failed.
-pub fn write_all<R, O>(rt: &R, output: &mut O, what: &[u8], bytes: &[u8]) -> bool
+// Writes all of the bytes. std's `write_all` makes a call again that was interrupted, and not one that would wait.
+pub fn write_all<R, O>(rt: &R, output: &mut O, bytes: &[u8]) -> io::Result<()>
 where
-    R: Clock + Eprint,
+    R: Clock,
     O: Write,
     ensures { Writes (length bytes.now) result }
 {
-    if bytes.len() == 0 {
-        return true;
-    }
     let mut rest = bytes;
-    for _ in 0..u64::MAX {
-        let done = write_some(rt, output, what, rest);
-        if done == 0 {
-            return false;
-        }
-        if done == rest.len() {
-            return true;
-        }
+    while !rest.is_empty() {
+        let done = write_some(rt, output, rest)?;
         rest = &rest[done..];
     }
-    false
+    Ok(())
 }
 
-// Writes once and tells how many bytes were taken. Where it is none, it says so on standard error, and why.
-fn write_some<R, O>(rt: &R, output: &mut O, what: &[u8], bytes: &[u8]) -> usize
+// Writes once and tells how many bytes were taken. A write that takes none is one that failed.
+fn write_some<R, O>(rt: &R, output: &mut O, bytes: &[u8]) -> io::Result<usize>
 where
-    R: Clock + Eprint,
+    R: Clock,
     O: Write,
-    ensures { result ≤ length bytes.now }
+    ensures { IfOk result (λ n. (0 < n) × (n ≤ length bytes.now)) }
 {
     for _ in 0..u64::MAX {
         match output.write(bytes) {
-            Ok(0) => {
-                say(rt, what, &io::Error::from(ErrorKind::WriteZero));
-                return 0;
-            }
-            Ok(done) => return done,
-            Err(error) => {
-                if !retry(rt, &error) {
-                    say(rt, what, &error);
-                    return 0;
-                }
-            }
+            Ok(0) => return Err(ErrorKind::WriteZero.into()),
+            Ok(done) => return Ok(done),
+            Err(error) => retry(rt, error)?,
         }
     }
-    0
+    Err(ErrorKind::TimedOut.into())
 }

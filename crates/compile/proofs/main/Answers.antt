@@ -3,5 +3,5 @@ use Rattle.std.proofs.Common.{arith}
 use Rattle.compile.proofs.Reached.{starts_built}
 use Rattle.compile.proofs.main.Goals as goal
 
-pub run-requires : goal.run-requires
-run-requires c = starts_built _ _ _ (omega arith) c.build.ensures
+pub run-done-requires : goal.run-done-requires
+run-done-requires c = starts_built _ _ _ (omega arith) c.build.ensures

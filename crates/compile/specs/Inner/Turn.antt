@@ -4,16 +4,11 @@
 --                                the front of the input, or fill the space
 --     Turned s l r input image   a turn on the bytes l; input and image after it: a refused row, or the reading goes on
 --     Ended s r image            the end of the input: a refused row, or an image at the front of its buffer
-use Rattle.std.specs.Prelude.{ℕ, ◌+◌, ◌≤◌, ◌<◌, ◌≡◌, List, [], length, take, drop}
-use Rattle.std.specs.Prelude.{None, Some}
+use Rattle.std.specs.Prelude.{ℕ, ◌+◌, ◌≤◌, ◌<◌, ◌≡◌, List, [], length, take, drop, Result, Ok, Err, None, Some}
 use Rattle.format.specs.Check.{check_front}
 use Rattle.lines.specs.declared.RowRefusal.{RowRefusal}
 use Rattle.lines.specs.Compiled.{feeds, Reading, row_line, cut, turn_fault, turned, reads}
 use Rattle.compile.specs.declared.turn.Place.{Place}
-use Rattle.compile.specs.declared.turn.Step.{Step}
-use Rattle.compile.specs.declared.turn.Step.TheVariants as step
-use Rattle.compile.specs.declared.turn.Ending.{Ending}
-use Rattle.compile.specs.declared.turn.Ending.TheVariants as ending
 
 abbrev pub reading_of : Place → List ℕ → List ℕ → Reading
 reading_of p input image = record { at = p.at; row = p.row; kept = take p.kept input; buffer = image }
@@ -27,9 +22,9 @@ pub record Filled (p : Place) (l : List ℕ) (f : RowRefusal) : Type 0 where
   pub full : 65536 ≤ length (drop (cut l) l)
   pub is : f ≡ record { number = 18; place = p.at + cut l; row = p.row + feeds l }
 
-abbrev pub Rests : Place → List ℕ → Step → List ℕ → Type 0
-Rests p l (step.Onward q) input = Kept p l q input
-Rests p l (step.Fault f) input = Filled p l f
+abbrev pub Rests : Place → List ℕ → Result Place RowRefusal → List ℕ → Type 0
+Rests p l (Ok q) input = Kept p l q input
+Rests p l (Err f) input = Filled p l f
 
 pub record Goes (s : Reading) (l : List ℕ) (p : Place) (input image : List ℕ) : Type 0 where
   pub none_refused : turn_fault s l ≡ None
@@ -37,14 +32,14 @@ pub record Goes (s : Reading) (l : List ℕ) (p : Place) (input image : List ℕ
   pub few : p.kept < 65536
   pub next : turned s l ≡ reading_of p input image
 
-abbrev pub Turned : Reading → List ℕ → Step → List ℕ → List ℕ → Type 0
-Turned s l (step.Onward p) input image = Goes s l p input image
-Turned s l (step.Fault f) input image = turn_fault s l ≡ Some f
+abbrev pub Turned : Reading → List ℕ → Result Place RowRefusal → List ℕ → List ℕ → Type 0
+Turned s l (Ok p) input image = Goes s l p input image
+Turned s l (Err f) input image = turn_fault s l ≡ Some f
 
 pub record Image (s : Reading) (n : ℕ) (image : List ℕ) : Type 0 where
   pub fits : n ≤ length image
   pub is : reads s [] ≡ record { output = take n image; errors = [] }
 
-abbrev pub Ended : Reading → Ending → List ℕ → Type 0
-Ended s (ending.Image n) image = Image s n image
-Ended s (ending.Fault f) image = reads s [] ≡ record { output = []; errors = row_line f }
+abbrev pub Ended : Reading → Result ℕ RowRefusal → List ℕ → Type 0
+Ended s (Ok n) image = Image s n image
+Ended s (Err f) image = reads s [] ≡ record { output = []; errors = row_line f }

@@ -20,5 +20,5 @@ overflow_sub-result c =
 pub returns : goal.returns
 returns c =
     let inside : c.args.end ≤ c.args.have = omega (arith, (cut_is (take c.args.have c.args.input.now)).most, length-take-le c.args.have c.args.input.now (omega arith)) in
-    rests_kept c.args.p c.args.input.now c.args.have c.args.end _ (omega arith) c.requires.2 c.count_feeds.ensures.0 _ (omega arith) c.if-have-end-eq65536.false
+    rests_kept c.args.p c.args.input.now c.args.have c.args.end _ (omega arith) c.requires.2 c.count_feeds.ensures.0 _ (omega arith) c.if-have-end-eq-SPACE.false
     (kept_bytes c.args.input.now c.args.end c.args.have _ inside (omega arith) c.keep_rest.ensures)

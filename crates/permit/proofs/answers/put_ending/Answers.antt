@@ -1,3 +1,5 @@
+use Rattle.std.proofs.Common.{arith}
+use Rattle.streams.proofs.Puts.{front_put}
 use Rattle.permit.proofs.Laws.{ending_none, ending_some}
 use Rattle.permit.proofs.answers.put_ending.Goals as goal
 
@@ -5,4 +7,4 @@ pub returns-then-left-eq0 : goal.returns-then-left-eq0
 returns-then-left-eq0 c = ending_none _ _ c.if-left-eq0.true
 
 pub returns : goal.returns
-returns c = ending_some _ _ _ c.if-left-eq0.false c.put_refusal.ensures
+returns c = ending_some _ _ _ c.if-left-eq0.false (front_put (omega arith) c.put_refusal.ensures)

@@ -1,13 +1,14 @@
 use Rattle.std.proofs.Common.{arith}
+use Rattle.streams.proofs.Inputs.{bytes_brought}
 use Rattle.permit.proofs.Inputs.{size_more}
 use Rattle.permit.proofs.source.read_image.Goals as goal
 
 pub loop-have-preserved : goal.loop-have-preserved
 loop-have-preserved g c =
-    let Some = c.in-Bytes.ensures.brings in
+    let some = bytes_brought _ _ _ c.in-Some.is c.in_ok-n.ensures.brings in
     let size = c.image_size-size.ensures in
     record {
-      few = omega (arith, Some, size.1);
+      few = omega (arith, some, size.1);
       long = omega arith;
-      told = size_more c.loop-have.space c.read_between.new.buffer c.loop-have.have _ (omega arith) c.read_between.ensures.before (omega arith) (omega (arith, Some, size.1)) (omega (arith, Some, size.0));
+      told = size_more c.loop-have.space c.read_between.new.buffer c.loop-have.have _ (omega arith) c.in_ok-n.ensures.before (omega arith) (omega (arith, some, size.1)) (omega (arith, some, size.0));
     }

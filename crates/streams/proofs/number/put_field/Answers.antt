@@ -2,14 +2,8 @@
 use Rattle.std.proofs.Common.{◌+◌, [], ◌∷◌, ◌∙◌, ap, arith}
 use Rattle.lines.specs.Lines.{decimal}
 use Rattle.streams.specs.Put.{placed}
-use Rattle.streams.proofs.Puts.{placed_one, placed_then, puts_room, puts_none}
+use Rattle.streams.proofs.Puts.{placed_one, placed_then, puts_room}
 use Rattle.streams.proofs.number.put_field.Goals as goal
-
-pub returns-then-output-lt21 : goal.returns-then-output-lt21
-returns-then-output-lt21 c = puts_none _ _ _ _ (omega arith)
-
-pub returns-then-output-at : goal.returns-then-output-at
-returns-then-output-at c = puts_none _ _ _ _ (omega arith)
 
 pub returns : goal.returns
 returns c =

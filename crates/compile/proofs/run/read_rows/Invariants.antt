@@ -4,7 +4,7 @@ use Rattle.std.specs.Prelude.{None}
 use Rattle.format.specs.Check.{check_front}
 use Rattle.compile.specs.Inner.Turn.{reading_of}
 use Rattle.compile.specs.Inner.Due.{Reached}
-use Rattle.compile.proofs.run.run.Given as goal
+use Rattle.compile.proofs.run.read_rows.Given as goal
 
 abbrev pub invariant-loop-turn : goal.invariant-loop-turn
 invariant-loop-turn g l = record {
