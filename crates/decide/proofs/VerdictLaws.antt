@@ -8,16 +8,19 @@
 --     any_named_lem              all rules, by their records from the first on
 --     names_not, names_allow what a rule at a place names
 --     refused_not            a refused image is not accepted
-use Prim.Native.Nat.{ℕ, ◌+◌, ◌/◌, ◌%◌, ◌≤◌, ◌<◌}
+use Prim.Native.Nat.{ℕ, zero, suc, ◌+◌, ◌≤◌, ◌<◌}
 use native.Mathlib.Omega.{arith}
 use mathlib.Core.Path.{◌≡◌, refl, sym, subst, ap, ◌∙◌}
 use mathlib.Core.Bool.{Bool, true, false}
 use Rattle.std.specs.Prelude.{Some}
+use Rattle.std.proofs.lemmas.Option.{none-some}
+use mir.Val.{bool_byte}
+use Rattle.std.specs.Prelude.{Option, Some, None, IfSome}
 use mathlib.Core.List.{List, [], ◌∷◌, map}
-use lib.ListN.{length, get_or, set, replicate, get_or-eq_default}
-use lib.Seq.{get_or-set_same, get_or-set_other, set_out}
-use lib.Dec.{eqb, ltb, leb}
-use borrow.Author.Tests.{eq-eqb, eqb-true, eqb-false, ltb-true, ltb-false, leb-false}
+use lib.ListN.{length, get_or, set, replicate, length-set}
+use lib.Seq.{get_or-set_same, get_or-set_other}
+use lib.Dec.{eqb, leb}
+use borrow.Author.Tests.{eq-eqb, eqb-true, eqb-false, leb-false}
 use Rattle.format.specs.declared.Section.TheVariants.{Rules, Constraints}
 use Rattle.format.specs.Format.{count_of}
 use Rattle.format.specs.Policy.{policy_of, records_at, start_of, place_of}
@@ -32,18 +35,15 @@ use Rattle.decision.specs.Switches.{NoSwitches}
 use Rattle.decision.proofs.Search.{by_test, any_of_none}
 use Rattle.decision.proofs.Switches.{plain_rules}
 use Rattle.decide.specs.declared.verdicts.Held.{Held}
+use Rattle.decide.specs.declared.verdicts.Verdict.{Verdict}
 use Rattle.decide.specs.Inner.Parts.{constraint_in}
-use Rattle.decide.specs.Inner.Kept.{bit}
 use Rattle.decide.specs.Inner.Rules.{allow_at}
 use Rattle.decide.specs.Inner.Verdicts.{verdict_of, KeptVerdicts, KeptBehind, Written, names_switch, any_named}
-use Rattle.decide.specs.Inner.Verdicts.{Knows, turned, Turned, KeptFor, Recalled, Tables, Left, RowTables}
+use Rattle.decide.specs.Inner.Verdicts.{unasked, said, front_of, behind_of, verdict_at, Turns, Turned, first_held}
+use Rattle.decide.specs.Inner.Verdicts.{KeptUnder, KeptFor, Recalled, Tables, Left, RowTables}
 use Rattle.decide.proofs.ArrayLaws.{blank, by_set}
-use Rattle.decide.proofs.KeptLaws.{bit_two}
 
 -- ---- what is known of the switches
-
-knows_nothing : (l : List ℕ) (s : ℕ) → s < 2 → Knows l s
-knows_nothing l s h = record { unnamed = λ e. absurd (omega arith); named = λ e. absurd (omega arith) }
 
 -- a list as it is
 same_map : {A : Type 0} (xs : List A) → map (λ x. x) xs ≡ xs
@@ -64,207 +64,163 @@ no_switches l e r m k =
 
 -- ---- what is kept
 
-bit_most : (b : Bool) → bit b ≤ 1
-unfolding bit
-bit_most true = omega arith
-bit_most false = omega arith
+-- what a number says
+pub said_none : (n : ℕ) → said n ≡ None → n ≡ 0
+unfolding said
+said_none zero e = refl
+said_none (suc n) e = absurd (none-some (eqb (suc n) 2) (sym e))
+
+pub said_zero : (n : ℕ) → n ≡ 0 → said n ≡ None
+unfolding said
+said_zero n e = rw e refl
+
+pub said_more : (n : ℕ) → (n ≡ 0 → ⊥) → said n ≡ Some (eqb n 2)
+unfolding said
+said_more zero h = absurd (h refl)
+said_more (suc n) h = refl
+
+pub said_found : (n : ℕ) (b : Bool) → n ≡ 1 + bool_byte b → said n ≡ Some b
+unfolding said
+said_found n true e = rw e refl
+said_found n false e = rw e refl
+
+pub byte_most : (b : Bool) → bool_byte b ≤ 1
+byte_most true = omega arith
+byte_most false = omega arith
+
+-- nothing is said
+silent : (v : Verdict) → v ≡ unasked → (front_of v ≡ None) × (behind_of v ≡ None)
+unfolding said
+silent v e = (ap front_of e, ap behind_of e)
+
+if_none : {X : Type 0} (P : X → Type 0) (o : Option X) → o ≡ None → IfSome o P
+if_none P None e = tt
+if_none P (Some x) e = absurd (none-some x (sym e))
+
+if_some : {X : Type 0} (P : X → Type 0) (o : Option X) (x : X) → o ≡ Some x → P x → IfSome o P
+if_some P o x e p = subst (λ o. IfSome o P) (sym e) p
 
 module _ (l : List ℕ) (w : ℕ) where
-  pub front_none : KeptVerdicts l w (replicate 256 0)
-  front_none = record { is = λ n m e. absurd (omega (arith, e, blank {A = ℕ} 0 256 n)) }
+  pub front_blank : (vs : List Verdict) → ((n : ℕ) → verdict_at vs n ≡ unasked) → KeptVerdicts l w vs
+  front_blank vs z = record { is = λ n m. if_none _ _ (silent (verdict_at vs n) (z n)).0 }
 
-  behind_none : KeptBehind l w (replicate 256 0)
-  behind_none = record { is = λ n m e. absurd (omega (arith, e, blank {A = ℕ} 0 256 n)) }
+  behind_blank : (vs : List Verdict) → ((n : ℕ) → verdict_at vs n ≡ unasked) → KeptBehind l w vs
+  behind_blank vs z = record { is = λ n m. if_none _ _ (silent (verdict_at vs n) (z n)).1 }
 
-  module _ (vs : List ℕ) (k : KeptVerdicts l w vs) where
+  pub front_none : KeptVerdicts l w (replicate 256 unasked)
+  front_none = front_blank (replicate 256 unasked) (blank unasked 256)
+
+  module _ (vs : List Verdict) (k : KeptVerdicts l w vs) where
     pub written_same : Written l w vs vs
     written_same = record { front = k; behind = λ n. refl }
 
     -- what is read back, and one more kept
-    module _ (n : ℕ) where
-      pub front_says : n < 256 → 0 < get_or vs n 0 % 4 → eqb (get_or vs n 0 % 4) 2 ≡ verdict_of l w n
-      front_says m h = ap (λ x. eqb x 2) (k.is n m h) ∙ bit_two (verdict_of l w n)
+    module _ (n : ℕ) (b : Bool) where
+      pub front_says : n < 256 → front_of (verdict_at vs n) ≡ Some b → b ≡ verdict_of l w n
+      front_says m e = subst (λ o. IfSome o (λ b. b ≡ verdict_of l w n)) e (k.is n m)
 
-      pub front_adds : (b : Bool) → b ≡ verdict_of l w n → get_or vs n 0 % 4 ≡ 0
-          → Written l w vs (set vs n (get_or vs n 0 + (bit b + 1)))
-      front_adds b e z =
-          let v : ℕ = get_or vs n 0 + (bit b + 1) in
-          let lo : v % 4 ≡ bit b + 1 = omega (arith, z, bit_most b) in
+      pub front_adds : b ≡ verdict_of l w n → (v : Verdict) → (front_of v ≡ Some b) × (behind_of v ≡ behind_of (verdict_at vs n))
+          → Written l w vs (set vs n v)
+      front_adds e v f =
           record {
             front = record {
-              is = by_set 0 (λ (j x : ℕ). j < 256 → 0 < x % 4 → x % 4 ≡ bit (verdict_of l w j) + 1) vs n v k.is
-                  (λ m h. lo ∙ ap (λ x. bit x + 1) e);
+              is = by_set unasked (λ (j : ℕ) (x : Verdict). j < 256 → IfSome (front_of x) (λ b. b ≡ verdict_of l w j)) vs n v k.is
+                  (λ m. if_some (λ b. b ≡ verdict_of l w n) (front_of v) b f.0 e);
             };
-            behind = by_set 0 (λ (j x : ℕ). x / 4 ≡ get_or vs j 0 / 4) vs n v (λ j. refl) (omega (arith, z, bit_most b));
+            behind = by_set unasked (λ (j : ℕ) (x : Verdict). behind_of x ≡ behind_of (verdict_at vs j)) vs n v (λ j. refl) f.1;
           }
 
-  pub written_after : (us vs ws : List ℕ) → Written l w us vs → Written l w vs ws → Written l w us ws
+  pub written_after : (us vs ws : List Verdict) → Written l w us vs → Written l w vs ws → Written l w us ws
   written_after us vs ws f g = record { front = g.front; behind = λ n. g.behind n ∙ f.behind n }
 
-  pub left_same : (vs : List ℕ) (ms ns : List Bool) → Tables l w vs ms ns → Left l w vs vs ms ns
+  pub left_same : (vs : List Verdict) (ms ns : List Bool) → Tables l w vs ms ns → Left l w vs vs ms ns
   left_same vs ms ns t = record { tables = t; behind = λ n. refl }
 
 -- ---- front and back changed
 
-front_back : (v : ℕ) → v / 4 < 4 → (turned true v % 4 ≡ v / 4) × (turned true v / 4 ≡ v % 4)
-unfolding turned
-front_back v h = (omega (arith, h), omega (arith, h))
-
-front_away : (v : ℕ) → (turned false v % 4 ≡ 0) × (turned false v / 4 ≡ v % 4)
-unfolding turned
-front_away v = (omega arith, omega arith)
-
-behind_small : (l : List ℕ) (w : ℕ) (vs : List ℕ) → KeptBehind l w vs → (n : ℕ) → n < 256 → get_or vs n 0 / 4 < 4
-behind_small l w vs k n m =
-    by_test (ltb 0 (get_or vs n 0 / 4))
-    (λ t. omega (arith, k.is n m (ltb-true 0 (get_or vs n 0 / 4) t), bit_most (verdict_of l w n)))
-    (λ f. omega (arith, ltb-false 0 (get_or vs n 0 / 4) f))
-
-module _ (l : List ℕ) (w o : ℕ) (us vs : List ℕ) (f : KeptVerdicts l w us) (g : KeptBehind l o us) where
-  changed : (n : ℕ) → n < 256 → (turned true (get_or us n 0) % 4 ≡ get_or us n 0 / 4)
-      × (turned true (get_or us n 0) / 4 ≡ get_or us n 0 % 4)
-  changed n m = front_back (get_or us n 0) (behind_small l o us g n m)
-
+module _ (l : List ℕ) (w o : ℕ) (us vs : List Verdict) (f : KeptVerdicts l w us) (g : KeptBehind l o us) where
   turned_back : Turned true us vs → KeptVerdicts l o vs × KeptBehind l w vs
   turned_back t = (
-    record {
-      is = λ n m h. let e : get_or vs n 0 % 4 ≡ get_or us n 0 / 4 = ap (λ x. x % 4) (t n m) ∙ (changed n m).0 in
-          e ∙ g.is n m (subst (λ x. 0 < x) e h);
-    },
-    record {
-      is = λ n m h. let e : get_or vs n 0 / 4 ≡ get_or us n 0 % 4 = ap (λ x. x / 4) (t n m) ∙ (changed n m).1 in
-          e ∙ f.is n m (subst (λ x. 0 < x) e h);
-    },
+    record { is = λ n m. subst (λ x. IfSome x (λ b. b ≡ verdict_of l o n)) (sym (t n m).front) (g.is n m) },
+    record { is = λ n m. subst (λ x. IfSome x (λ b. b ≡ verdict_of l w n)) (sym (t n m).behind) (f.is n m) },
   )
 
   turned_away : (w' : ℕ) → Turned false us vs → KeptVerdicts l w' vs × KeptBehind l w vs
   turned_away w' t = (
-    record { is = λ n m h. absurd (omega (arith, h, ap (λ x. x % 4) (t n m) ∙ (front_away (get_or us n 0)).0)) },
-    record {
-      is = λ n m h. let e : get_or vs n 0 / 4 ≡ get_or us n 0 % 4 =
-          ap (λ x. x / 4) (t n m) ∙ (front_away (get_or us n 0)).1 in e ∙ f.is n m (subst (λ x. 0 < x) e h);
-    },
+    record { is = λ n m. if_none _ _ (t n m).front },
+    record { is = λ n m. subst (λ x. IfSome x (λ b. b ≡ verdict_of l w n)) (sym (t n m).behind) (f.is n m) },
   )
 
 -- the table is turned before a number, and as it was from there on
-pub record Turning (back : Bool) (us vs : List ℕ) (n : ℕ) : Type 0 where
-  pub few : n ≤ 256
-  pub done : (j : ℕ) → j < n → get_or vs j 0 ≡ turned back (get_or us j 0)
-  pub rest : (j : ℕ) → n ≤ j → get_or vs j 0 ≡ get_or us j 0
+pub record Turning (back : Bool) (us vs : List Verdict) (n : ℕ) : Type 0 where
+  pub all : length vs ≡ length us
+  pub done : (j : ℕ) → j < n → Turns back (verdict_at us j) (verdict_at vs j)
+  pub rest : (j : ℕ) → n ≤ j → verdict_at vs j ≡ verdict_at us j
 
-turned_none : (back : Bool) → turned back 0 ≡ 0
-unfolding turned
-turned_none true = refl
-turned_none false = refl
-
-pub turning_next : (back : Bool) (us vs : List ℕ) (n v : ℕ) → Turning back us vs n → n < 256 → v ≡ turned back (get_or vs n 0)
-    → Turning back us (set vs n v) (n + 1)
+pub turning_next : (back : Bool) (us vs : List Verdict) (n : ℕ) (v : Verdict) → Turning back us vs n → n < length vs
+    → Turns back (verdict_at vs n) v → Turning back us (set vs n v) (n + 1)
 turning_next back us vs n v t m e =
     record {
-      few = omega (arith, m);
+      all = length-set vs n v ∙ t.all;
       done = λ j h. by_test (eqb j n)
-          (λ p. subst (λ (i : ℕ). get_or (set vs n v) i 0 ≡ turned back (get_or us i 0)) (sym (eqb-true j n p)) now_is)
-          (λ p. other j (eqb-false j n p) ∙ t.done j (omega (arith, h, eqb-false j n p)));
+          (λ p. subst (λ (i : ℕ). Turns back (verdict_at us i) (verdict_at (set vs n v) i)) (sym (eqb-true j n p)) now_is)
+          (λ p. subst (Turns back (verdict_at us j)) (sym (other j (eqb-false j n p)))
+          (t.done j (omega (arith, h, eqb-false j n p))));
       rest = λ j h. other j (λ p. absurd (omega (arith, h, p))) ∙ t.rest j (omega (arith, h));
     }
   where
-    other : (j : ℕ) → (j ≡ n → ⊥) → get_or (set vs n v) j 0 ≡ get_or vs j 0
-    other j p = get_or-set_other vs n j v 0 p
+    other : (j : ℕ) → (j ≡ n → ⊥) → verdict_at (set vs n v) j ≡ verdict_at vs j
+    other j p = get_or-set_other vs n j v unasked p
 
-    was : get_or vs n 0 ≡ get_or us n 0
-    was = t.rest n (omega arith)
-
-    now_is : get_or (set vs n v) n 0 ≡ turned back (get_or us n 0)
-    now_is = by_test (ltb n (length vs)) (λ p. get_or-set_same vs n v 0 (ltb-true n (length vs) p) ∙ e ∙ ap (turned back) was)
-        (λ p. past (ltb-false n (length vs) p))
-      where
-        past : length vs ≤ n → get_or (set vs n v) n 0 ≡ turned back (get_or us n 0)
-        past h =
-            let z : get_or vs n 0 ≡ 0 = get_or-eq_default vs 0 h in
-            ap (λ (ys : List ℕ). get_or ys n 0) (set_out vs n v h) ∙ z ∙ sym (turned_none back)
-            ∙ ap (turned back) (sym z ∙ was)
+    now_is : Turns back (verdict_at us n) (verdict_at (set vs n v) n)
+    now_is = subst (Turns back (verdict_at us n)) (sym (get_or-set_same vs n v unasked m))
+        (subst (λ (u : Verdict). Turns back u v) (t.rest n (omega arith)) e)
 
 -- ---- made right for a word
 
-pub kept_fresh : (l : List ℕ) (h : Held) → h.known ≡ 0 → KeptFor l h (replicate 256 0)
-kept_fresh l h e =
-    record {
-      front = λ _. front_none l h.word;
-      behind = λ _. behind_none l h.other;
-      nothing = λ _ n. blank 0 256 n;
-      knows = λ _. knows_nothing l h.known (omega (arith, e));
-    }
+pub kept_fresh : (l : List ℕ) (h : Option Held) → h ≡ None → KeptFor l h (replicate 256 unasked)
+kept_fresh l h e = subst (λ (o : Option Held). KeptFor l o (replicate 256 unasked)) (sym e) (blank unasked 256)
 
 module _ (l : List ℕ) (w : ℕ) where
-  abbrev holds : ℕ → ℕ → Held
-  holds o k = record { word = w; other = o; known = k }
+  -- nothing was kept, so what is kept is right for every word
+  pub recalled_first : (vs : List Verdict) → ((n : ℕ) → verdict_at vs n ≡ unasked) → Recalled l w (first_held w) vs
+  recalled_first vs z =
+      record { kept = λ _. record { front = front_blank l w vs z; behind = behind_blank l w vs z; named = tt }; word = refl }
 
-  module _ (h : Held) (vs : List ℕ) (k : KeptFor l h vs) where
-    -- nothing was kept, so what is kept is right for every word
-    pub recalled_first : h.known ≡ 0 → Recalled l w (holds w 1) vs
-    recalled_first z =
-        record {
-          kept = record {
-            front = λ _. record { is = λ n m e. absurd (omega (arith, e, k.nothing z n)) };
-            behind = λ _. record { is = λ n m e. absurd (omega (arith, e, k.nothing z n)) };
-            nothing = λ e. absurd (omega arith);
-            knows = λ _. knows_nothing l 1 (omega arith);
-          };
-          word = refl;
-          some = omega arith;
-        }
+  pub recalled_none : (vs : List Verdict) (o : Option Held) → KeptFor l o vs → o ≡ None → Recalled l w (first_held w) vs
+  recalled_none vs o k e = recalled_first vs (subst (λ (h : Option Held). KeptFor l h vs) e k)
 
+  module _ (h : Held) (vs : List Verdict) (k : KeptUnder l h vs) (named : Bool) (asked : named ≡ any_named l) where
     -- no rule names a switch, so every word gives the same
-    pub recalled_plain : Accepted l → any_named l ≡ false → Recalled l w (holds h.other 2) vs
-    recalled_plain a e =
+    pub recalled_plain : named ≡ false → Recalled l w (record { word = w; other = h.other; named = Some named }) vs
+    recalled_plain none =
         record {
-          kept = record {
-            front = λ _. record {
-              is = λ n m p. (k.front a).is n m p
-                  ∙ ap (λ (rs : List Rule). bit (broken rs (constraint_in l (place_of l Constraints n))) + 1)
-                  (plain_rules (policy_of l) h.word w (no_switches l e));
+          kept = λ _. record {
+            front = record {
+              is = λ n m. subst (λ (rs : List Rule). IfSome (front_of (verdict_at vs n))
+                  (λ b. b ≡ broken rs (constraint_in l (place_of l Constraints n))))
+                  (plain_rules (policy_of l) h.word w (no_switches l (sym asked ∙ none))) (k.front.is n m);
             };
             behind = k.behind;
-            nothing = λ z. absurd (omega arith);
-            knows = λ _. record { unnamed = λ _. e; named = λ z. absurd (omega arith) };
+            named = asked;
           };
           word = refl;
-          some = omega arith;
         }
 
     -- what was in front goes behind; what was behind is this word's, or goes
-    pub recalled_turned : Accepted l → any_named l ≡ true → (b : Bool) → b ≡ eqb h.other w → (ws : List ℕ) → Turned b vs ws
-        → Recalled l w (holds h.word 3) ws
-    recalled_turned a e b t ws p =
-        let r = go b t p in
-        record {
-          kept = record {
-            front = λ _. r.0;
-            behind = λ _. r.1;
-            nothing = λ z. absurd (omega arith);
-            knows = λ _. record { unnamed = λ z. absurd (omega arith); named = λ _. e };
-          };
-          word = refl;
-          some = omega arith;
-        }
+    pub recalled_turned : (ws : List Verdict) → Turned (eqb h.other w) vs ws
+        → Recalled l w (record { word = w; other = h.word; named = Some named }) ws
+    recalled_turned ws p =
+        let r = go (eqb h.other w) refl p in
+        record { kept = λ _. record { front = r.0; behind = r.1; named = asked }; word = refl }
       where
         go : (b : Bool) → b ≡ eqb h.other w → Turned b vs ws → KeptVerdicts l w ws × KeptBehind l h.word ws
         go true t p = subst (λ (x : ℕ). KeptVerdicts l x ws × KeptBehind l h.word ws) (eqb-true h.other w (sym t))
-            (turned_back l h.word h.other vs ws (k.front a) (k.behind a) p)
-        go false t p = turned_away l h.word h.other vs ws (k.front a) (k.behind a) w p
+            (turned_back l h.word h.other vs ws k.front k.behind p)
+        go false t p = turned_away l h.word h.other vs ws k.front k.behind w p
 
-  pub recalled_refused : (vs : List ℕ) → (Accepted l → ⊥) → Recalled l w (holds w 1) vs
-  recalled_refused vs n =
-      record {
-        kept = record {
-          front = λ a. absurd (n a);
-          behind = λ a. absurd (n a);
-          nothing = λ e. absurd (omega arith);
-          knows = λ a. absurd (n a);
-        };
-        word = refl;
-        some = omega arith;
-      }
+  pub recalled_refused : (vs : List Verdict) → (Accepted l → ⊥) → Recalled l w (first_held w) vs
+  recalled_refused vs n = record { kept = λ a. absurd (n a); word = refl }
 
 -- a refused image is not accepted
 pub refused_not : (l : List ℕ) (f : Refusal) → check l ≡ Some f → Accepted l → ⊥
@@ -272,23 +228,24 @@ refused_not l f e a = (let z : ◌≡◌ {A = ℕ} 0 1 = cc in omega arith)
 
 -- ---- what a query is lent, and what it leaves
 
-module _ (l : List ℕ) (w : ℕ) (h : Held) (vs : List ℕ) (r : Recalled l w h vs) where
-  pub tables_for : (h' : Held) (vs' : List ℕ) (ms ns : List Bool) → RowTables l h' vs' ms ns → Tables l w vs ms ns
+module _ (l : List ℕ) (w : ℕ) (h : Held) (vs : List Verdict) (r : Recalled l w h vs) where
+  pub tables_for : (h' : Option Held) (vs' : List Verdict) (ms ns : List Bool) → RowTables l h' vs' ms ns → Tables l w vs ms ns
   tables_for h' vs' ms ns t =
       record {
-        verdicts = λ a. subst (λ (x : ℕ). KeptVerdicts l x vs) r.word (r.kept.front a);
+        verdicts = λ a. subst (λ (x : ℕ). KeptVerdicts l x vs) r.word (r.kept a).front;
         source = t.source;
         dest = t.dest;
       }
 
-  pub rows_after : (vs' : List ℕ) (ms ns : List Bool) → Left l w vs vs' ms ns → RowTables l h vs' ms ns
+  pub rows_after : (vs' : List Verdict) (ms ns : List Bool) → Left l w vs vs' ms ns → RowTables l (Some h) vs' ms ns
   rows_after vs' ms ns t =
       record {
-        verdicts = record {
-          front = λ a. subst (λ (x : ℕ). KeptVerdicts l x vs') (sym r.word) (t.tables.verdicts a);
-          behind = λ a. record { is = λ n m p. t.behind n ∙ (r.kept.behind a).is n m (subst (λ x. 0 < x) (t.behind n) p) };
-          nothing = λ z. absurd (omega (arith, z, r.some));
-          knows = r.kept.knows;
+        verdicts = λ a. record {
+          front = subst (λ (x : ℕ). KeptVerdicts l x vs') (sym r.word) (t.tables.verdicts a);
+          behind = record {
+            is = λ n m. subst (λ x. IfSome x (λ b. b ≡ verdict_of l h.other n)) (sym (t.behind n)) ((r.kept a).behind.is n m);
+          };
+          named = (r.kept a).named;
         };
         source = t.tables.source;
         dest = t.tables.dest;

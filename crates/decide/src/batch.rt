@@ -1,11 +1,12 @@
 // A run: many queries on one policy, each decided as the single query is. The image is checked once, and what does not depend
 // on the row is found once: the groups' places, and what the rules say of each constraint, under each of two words.
-ghost use Rattle.std.specs.Prelude.{◌≡◌, ◌+◌, ◌*◌, ◌<◌, length, eqb};
+ghost use Rattle.std.specs.Prelude.{◌≡◌, ◌*◌, length, eqb};
 ghost use Rattle.runs.specs.Runs.{run_of, answers_after};
 ghost use Rattle.runs.specs.Numbers.{word_from, numbers_run, codes_after};
 ghost use Rattle.runs.specs.Inner.Progress.{row_at};
 
-use crate::steps::{begin, begin_queries, decide_row};
+use crate::steps::{Begun, begin, begin_queries, decide_row};
+use crate::verdicts::Verdict;
 use decision::{Answer, Query};
 use numbers::number;
 use runs::Run;
@@ -16,16 +17,18 @@ pub fn run(image: &[u8], queries: &[Query], answers: &mut [Answer]) -> Run
     ensures { (result ≡ run_of image.now queries.now (length answers.old))
         × (answers.new ≡ answers_after image.now queries.now answers.old) }
 {
-    let begun = begin_queries(image, queries.len(), answers.len());
-    let rows = begun.rows;
-    let mut progress = begun.progress;
-    let sections = begun.sections;
-    let groups = begun.groups;
-    let mut verdicts = [0u8; 256];
+    let Begun {
+        rows,
+        mut progress,
+        sections,
+        groups,
+    } = begin_queries(image, queries.len(), answers.len());
+    let mut verdicts = [Verdict::UNASKED; 256];
     let mut source = [false; 1024];
     let mut dest = [false; 1024];
-    let mut i = 0;
-    while i < rows {
+    // by number, as a proof knows nothing of what a loop over a zip of `iter_mut` writes
+    let slots = &mut answers[..rows];
+    for (i, slot) in slots.iter_mut().enumerate() {
         let s = decide_row(
             image,
             &groups,
@@ -37,9 +40,8 @@ pub fn run(image: &[u8], queries: &[Query], answers: &mut [Answer]) -> Run
             progress,
             i,
         );
-        answers[i] = s.answer;
+        *slot = s.answer;
         progress = s.progress;
-        i += 1;
     }
     progress.run
 }
@@ -48,20 +50,19 @@ pub fn run(image: &[u8], queries: &[Query], answers: &mut [Answer]) -> Run
 fn word_of(high: u16, low: u16) -> u32
     ensures { result ≡ word_from high low }
 {
-    high as u32 * 65536 + low as u32
+    u32::from(high) * 65536 + u32::from(low)
 }
 
-// Row i of a list of numbers, six for each row.
-fn row_at(numbers: &[u16], i: usize) -> Query
-    requires { 6 * i + 5 < length numbers.now }
-    ensures { result ≡ row_at numbers.now i }
+// The query in a row of six numbers.
+fn query_of(row: &[u16; 6]) -> Query
+    ensures { result ≡ row_at row.now 0 }
 {
     Query {
-        source: numbers[6 * i],
-        dest: numbers[6 * i + 1],
-        class: numbers[6 * i + 2],
-        action: numbers[6 * i + 3],
-        switches: word_of(numbers[6 * i + 4], numbers[6 * i + 5]),
+        source: row[0],
+        dest: row[1],
+        class: row[2],
+        action: row[3],
+        switches: word_of(row[4], row[5]),
     }
 }
 
@@ -69,29 +70,29 @@ fn row_at(numbers: &[u16], i: usize) -> Query
 fn six_each(numbers: usize, slots: usize) -> bool
     ensures { result ≡ eqb numbers (6 * slots) }
 {
-    if numbers % 6 != 0 {
-        return false;
-    }
-    numbers / 6 == slots
+    numbers % 6 == 0 && numbers / 6 == slots
 }
 
-// The same run over numbers: six for each row, its word's halves last, and one for each answer.
+// The same run over numbers: six for each row, its word's halves last, and one for each answer. One walk for both runs would take
+// two closures, for a row's query and an answer's slot, and its contract would have to say what these answer.
 pub fn run_numbers(image: &[u8], queries: &[u16], answers: &mut [u64]) -> Run
     ensures { (result ≡ numbers_run image.now queries.now (length answers.old))
         × (answers.new ≡ codes_after image.now queries.now answers.old) }
 {
+    let rows: &[[u16; 6]] = queries.as_chunks().0;
     let fits = six_each(queries.len(), answers.len());
-    let begun = begin(image, queries.len() / 6, fits);
-    let rows = begun.rows;
-    let mut progress = begun.progress;
-    let sections = begun.sections;
-    let groups = begun.groups;
-    let mut verdicts = [0u8; 256];
+    let Begun {
+        rows: count,
+        mut progress,
+        sections,
+        groups,
+    } = begin(image, rows.len(), fits);
+    let mut verdicts = [Verdict::UNASKED; 256];
     let mut source = [false; 1024];
     let mut dest = [false; 1024];
-    let mut i: usize = 0;
-    while i < rows {
-        let q = row_at(queries, i);
+    let slots = &mut answers[..count];
+    for (i, slot) in slots.iter_mut().enumerate() {
+        let q = query_of(&rows[i]);
         let s = decide_row(
             image,
             &groups,
@@ -103,10 +104,8 @@ pub fn run_numbers(image: &[u8], queries: &[u16], answers: &mut [u64]) -> Run
             progress,
             i,
         );
-        let a = s.answer;
-        answers[i] = number(a);
+        *slot = number(s.answer);
         progress = s.progress;
-        i += 1;
     }
     progress.run
 }

@@ -8,7 +8,7 @@ ghost use Rattle.decide.specs.Inner.Rules.{first_constraint};
 
 use crate::kept::Side;
 use crate::policy::Policy;
-use crate::verdicts::keep_verdict;
+use crate::verdicts::Verdict;
 use crate::word::{wide, wide_word, word_in};
 use decision::Query;
 use format::header;
@@ -76,7 +76,7 @@ impl Policy<'_> {
         dest: &mut Side,
         n: usize,
         at: usize,
-        verdicts: &mut [u8; 256],
+        verdicts: &mut [Verdict; 256],
     ) -> bool
         requires { Sides self.image.now q source.old dest.old
             × NthConstraint self.image.now n at × KeptVerdicts self.image.now q.switches verdicts.old }
@@ -98,13 +98,12 @@ impl Policy<'_> {
         if !self.inside(at + 8, q.dest, dest) {
             return false;
         }
-        let k = verdicts[n] % 4;
-        if 0 < k {
-            return k == 2;
+        if let Some(broken) = verdicts[n].front() {
+            return broken;
         }
-        let found = self.predicate_broken(at, q.switches);
-        keep_verdict(verdicts, n, found);
-        found
+        let broken = self.predicate_broken(at, q.switches);
+        verdicts[n] = verdicts[n].with_front(broken);
+        broken
     }
 
     // The lowest constraint that applies to the query and fails.
@@ -113,7 +112,7 @@ impl Policy<'_> {
         q: Query,
         source: &mut Side,
         dest: &mut Side,
-        verdicts: &mut [u8; 256],
+        verdicts: &mut [Verdict; 256],
     ) -> Option<usize>
         requires { Sides self.image.now q source.old dest.old
             × KeptVerdicts self.image.now q.switches verdicts.old }

@@ -9,6 +9,7 @@ ghost use Rattle.decide.specs.Inner.Verdicts.{KeptVerdicts, Written, Tables, Lef
 use crate::kept::Side;
 use crate::policy::Policy;
 use crate::sets::unmark_type;
+use crate::verdicts::Verdict;
 use crate::word::{wide_word, word_in};
 use decision::{Answer, Decision, Query};
 use format::{Cause, Refusal, Starts, header};
@@ -22,7 +23,7 @@ impl Policy<'_> {
         q: Query,
         source: &mut Side,
         dest: &mut Side,
-        verdicts: &mut [u8; 256],
+        verdicts: &mut [Verdict; 256],
     ) -> Decision
         requires { Sides self.image.now q source.old dest.old × KeptVerdicts self.image.now q.switches verdicts.old }
         ensures { Leaves (deciding.decide (policy_of self.entry.image.now) q)
@@ -42,7 +43,7 @@ impl Policy<'_> {
     fn judge(
         self,
         q: Query,
-        verdicts: &mut [u8; 256],
+        verdicts: &mut [Verdict; 256],
         source: &mut [bool; 1024],
         dest: &mut [bool; 1024],
     ) -> Decision
@@ -80,7 +81,7 @@ pub(crate) fn decide_surveyed(
     groups: &[u16; 256],
     sections: Result<Starts, Refusal>,
     q: Query,
-    verdicts: &mut [u8; 256],
+    verdicts: &mut [Verdict; 256],
     source: &mut [bool; 1024],
     dest: &mut [bool; 1024],
 ) -> Answer
@@ -109,7 +110,7 @@ pub(crate) fn decide_surveyed(
 pub fn decide(image: &[u8], q: Query) -> Answer
     ensures { result ≡ deciding.answer image.now q }
 {
-    let mut verdicts = [0u8; 256];
+    let mut verdicts = [Verdict::UNASKED; 256];
     let mut source = [false; 1024];
     let mut dest = [false; 1024];
     let mut groups = [0u16; 256];

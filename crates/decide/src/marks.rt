@@ -3,19 +3,15 @@ ghost use Rattle.std.specs.Prelude.{◌≡◌, ◌+◌, ◌*◌, ◌≤◌, leng
 ghost use Rattle.decide.specs.Inner.Marks.{mark_all, any_is, fully_marked, both_below};
 ghost use Rattle.format.specs.Inner.Places.{words_at, Rising};
 
-use crate::word::word_in;
+use crate::word::{pairs, word, word_in};
 
 // Marks the members of a part.
 pub(crate) fn mark(image: &[u8], from: usize, count: usize, marks: &mut [bool; 1024])
     requires { (from + 2 * count ≤ length image.now) × Rising 0 (words_at image.now count from) }
     ensures { marks.new ≡ mark_all marks.old (words_at image.now count from) }
 {
-    let mut at = from;
-    let mut left = count;
-    while 0 < left {
-        marks[word_in(image, at)] = true;
-        at += 2;
-        left -= 1;
+    for member in pairs(image, from, count) {
+        marks[word(member)] = true;
     }
 }
 
@@ -30,6 +26,7 @@ pub(crate) fn any_is(
     requires { (from + 2 * count ≤ length image.now) × Rising 0 (words_at image.now count from) }
     ensures { result ≡ any_is marks.now value (words_at image.now count from) }
 {
+    // by places: a loop over `pairs` takes a sixth longer where rosters, companions and separations ask for members
     let mut at = from;
     let mut left = count;
     while 0 < left {
@@ -54,15 +51,11 @@ pub(crate) fn fully_marked(
     requires { (from + 2 * count ≤ length image.now) × Rising 0 (words_at image.now count from) }
     ensures { result ≡ fully_marked marks.now size (words_at image.now count from) }
 {
-    let mut at = from;
-    let mut left = count;
-    let mut hits: usize = 0;
-    while 0 < left {
-        if marks[word_in(image, at)] {
+    let mut hits = 0;
+    for member in pairs(image, from, count) {
+        if marks[word(member)] {
             hits += 1;
         }
-        at += 2;
-        left -= 1;
     }
     hits == size
 }
@@ -72,10 +65,8 @@ pub(crate) fn any_both(a: &[bool; 1024], b: &[bool; 1024]) -> bool
     ensures { result ≡ both_below a.now b.now 1024 }
 {
     let mut found = false;
-    let mut i: usize = 0;
-    while i < 1024 {
-        found = found | (a[i] & b[i]);
-        i += 1;
+    for (x, y) in a.iter().zip(b) {
+        found |= *x & *y;
     }
     found
 }

@@ -4,7 +4,6 @@ ghost use Rattle.decide.specs.Inner.Parts.{RuleHere};
 ghost use Rattle.decide.specs.Inner.Rules.{allow_at, live_at};
 
 use crate::condition::is_on;
-use crate::word::wide;
 
 // Whether the rule at a place is an allow rule.
 pub(crate) fn is_allow(image: &[u8], at: usize) -> bool
@@ -19,10 +18,7 @@ pub(crate) fn is_live(image: &[u8], at: usize, switches: u32) -> bool
     requires { RuleHere image.now at }
     ensures { result ≡ live_at image.now switches at }
 {
-    if !is_allow(image, at) {
-        return false;
-    }
-    is_on(switches, image[at + 10])
+    is_allow(image, at) && is_on(switches, image[at + 10])
 }
 
 // The place past the rule at a place. One that is known to be an allow rule has 11 bytes, and its length need not be read.
@@ -33,5 +29,5 @@ pub(crate) fn past(image: &[u8], at: usize, allow: bool) -> usize
     if allow {
         return at + 11;
     }
-    at + wide(image[at])
+    at + usize::from(image[at])
 }

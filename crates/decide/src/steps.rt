@@ -7,7 +7,7 @@ ghost use Rattle.decide.specs.Inner.Verdicts.{RowTables};
 ghost use Rattle.decide.specs.Inner.Steps.{Begins, Stepped};
 
 use crate::engine::decide_surveyed;
-use crate::verdicts::{Held, recall};
+use crate::verdicts::{Held, Verdict, recall};
 use decision::{Answer, Decision, Query};
 use format::{Cause, Refusal, Starts};
 use image::survey;
@@ -17,7 +17,7 @@ use runs::Run;
 #[derive(Clone, Copy)]
 pub(crate) struct Progress {
     pub run: Run,
-    pub held: Held,
+    pub held: Option<Held>,
 }
 
 // What a run begins with: how many rows are decided, what it comes to before the first of them, and the policy as the check
@@ -73,14 +73,7 @@ pub(crate) fn begin(image: &[u8], rows: usize, fits: bool) -> Begun
     let run = opening(sections, rows, fits);
     Begun {
         rows: decided(run, rows),
-        progress: Progress {
-            run,
-            held: Held {
-                word: 0,
-                other: 0,
-                known: 0,
-            },
-        },
+        progress: Progress { run, held: None },
         sections,
         groups,
     }
@@ -112,7 +105,7 @@ pub(crate) fn decide_row(
     groups: &[u16; 256],
     sections: Result<Starts, Refusal>,
     q: Query,
-    verdicts: &mut [u8; 256],
+    verdicts: &mut [Verdict; 256],
     source: &mut [bool; 1024],
     dest: &mut [bool; 1024],
     progress: Progress,
@@ -130,7 +123,7 @@ pub(crate) fn decide_row(
         answer,
         progress: Progress {
             run: next(run, i, answer),
-            held,
+            held: Some(held),
         },
     }
 }

@@ -1,24 +1,58 @@
-// What the rules say of constraints, kept from row to row in a table of 256: 1 for a predicate that they do not break, 2 for one
-// that they do, 0 where they were not asked. Two switch words have their verdicts in it: in front, as a number's remainder by 4,
-// those of the last row's word, and behind, as its quotient, those of the word before.
-ghost use Rattle.std.specs.Prelude.{◌≡◌, ◌+◌, ◌%◌, ◌<◌, get_or, set};
+// What the rules say of constraints, kept from row to row in a table of 256, for two switch words: in front for that of the last
+// row, and behind for that of the word before.
+ghost use Rattle.std.specs.Prelude.{◌≡◌};
 ghost use Rattle.format.specs.Policy.{record_at};
 ghost use Rattle.decide.specs.Inner.Parts.{Ready, RuleHere, Surveyed};
 ghost use Rattle.decide.specs.Inner.Rules.{allow_at};
-ghost use Rattle.decide.specs.Inner.Kept.{bit};
-ghost use Rattle.decide.specs.Inner.Verdicts.{names_switch, any_named, Knows, turned, Turned, KeptFor, Recalled};
+ghost use Rattle.decide.specs.Inner.Verdicts.{names_switch, any_named, Turned, first_held, KeptFor, Recalled};
 
 use crate::rules::{is_allow, past};
 use crate::word::word_in;
 use format::{Refusal, Starts, header};
 
-// The word that the verdicts in front are right for, and that of those behind; and what is known of the switches: 0 nothing yet,
-// and no verdict is kept; 1 no more than the words; 2 that the rules name no switch; 3 that they do.
+// What the rules say of one constraint, under each of the two words: whether they break its predicate, where they were asked.
+// Each is 0 for nothing, 1 for no or 2 for yes, that in front the remainder by 4 and that behind the quotient: two Options take
+// four bytes, and a decision on the sample a tenth longer.
+#[derive(Clone, Copy)]
+pub(crate) struct Verdict(u8);
+
+impl Verdict {
+    ghost use Rattle.decide.specs.Inner.Verdicts.{front_of, behind_of, Turns};
+
+    pub(crate) const UNASKED: Verdict = Verdict(0);
+
+    // What is known in front.
+    pub(crate) fn front(self) -> Option<bool>
+        ensures { result ≡ front_of self }
+    {
+        let said = self.0 % 4;
+        if said == 0 { None } else { Some(said == 2) }
+    }
+
+    // The same with one more in front, where there is none.
+    pub(crate) fn with_front(self, broken: bool) -> Verdict
+        requires { front_of self ≡ None }
+        ensures { (front_of result ≡ Some broken) × (behind_of result ≡ behind_of self) }
+    {
+        Verdict(self.0 + 1 + u8::from(broken))
+    }
+
+    // What stands in front put behind, and in front what stands behind, or nothing.
+    fn turned(self, back: bool) -> Verdict
+        ensures { Turns back self result }
+    {
+        let front = if back { self.0 / 4 % 4 } else { 0 };
+        Verdict(self.0 % 4 * 4 + front)
+    }
+}
+
+// The word that the verdicts in front are right for, and that of those behind; and whether a rule names a switch, once the rules
+// were asked. Before the first row there is none.
 #[derive(Clone, Copy)]
 pub(crate) struct Held {
     pub word: u32,
     pub other: u32,
-    pub known: u8,
+    pub named: Option<bool>,
 }
 
 // Whether the rule at a place names a switch.
@@ -26,10 +60,7 @@ fn is_switched(image: &[u8], at: usize, allow: bool) -> bool
     requires { RuleHere image.now at × (allow ≡ allow_at image.now at) }
     ensures { result ≡ names_switch (record_at image.now at) }
 {
-    if !allow {
-        return false;
-    }
-    1 < image[at + 10]
+    allow && 1 < image[at + 10]
 }
 
 // Whether a rule of the policy names a switch.
@@ -39,108 +70,69 @@ fn any_switched(image: &[u8], groups: &[u16; 256], s: Starts) -> bool
 {
     let count = word_in(image, header::RULES_AT);
     let mut at = s.rules;
-    let mut n: usize = 0;
-    while n < count {
+    for _n in 0..count {
         let allow = is_allow(image, at);
         if is_switched(image, at, allow) {
             return true;
         }
         at = past(image, at, allow);
-        n += 1;
     }
     false
 }
 
-// The same, by what is known of the switches.
-fn is_named(image: &[u8], groups: &[u16; 256], s: Starts, state: u8) -> bool
-    requires { Ready image.now groups.now s × Knows image.now state }
-    ensures { result ≡ any_named image.now }
-{
-    if state == 2 {
-        return false;
-    }
-    if state == 3 {
-        return true;
-    }
-    any_switched(image, groups, s)
-}
-
-// A verdict put in front, where there is none.
-fn with_verdict(v: u8, found: bool) -> u8
-    requires { v % 4 ≡ 0 }
-    ensures { result ≡ v + (bit found + 1) }
-{
-    if found {
-        return v + 2;
-    }
-    v + 1
-}
-
-// The same in the table.
-pub(crate) fn keep_verdict(verdicts: &mut [u8; 256], n: usize, found: bool)
-    requires { (n < 256) × (get_or verdicts.old n 0 % 4 ≡ 0) }
-    ensures { verdicts.new ≡ set verdicts.old n (get_or verdicts.old n 0 + (bit found + 1)) }
-{
-    verdicts[n] = with_verdict(verdicts[n], found);
-}
-
-// What stands in front put behind, and in front what stands behind, or nothing.
-fn turned_at(v: u8, back: bool) -> u8
-    ensures { result ≡ turned back v }
-{
-    if back {
-        return v % 4 * 4 + v / 4;
-    }
-    v % 4 * 4
-}
-
-// The same of the whole table.
-fn turn(verdicts: &mut [u8; 256], back: bool)
+// What stands in front put behind in the whole table, and in front what stands behind, or nothing.
+fn turn(verdicts: &mut [Verdict; 256], back: bool)
     ensures { Turned back verdicts.old verdicts.new }
 {
-    let mut n: usize = 0;
-    while n < 256 {
-        verdicts[n] = turned_at(verdicts[n], back);
-        n += 1;
+    for v in verdicts.iter_mut() {
+        *v = v.turned(back);
     }
 }
 
-// Makes the verdicts in front right for a word, on an accepted policy. Where they are kept under another one, they stay if no rule
-// names a switch, which the rules are asked at most once; else they go behind, and those there come in front, if they are this
-// word's.
+// Where no verdict is kept, they are right for every word.
+fn first_held(switches: u32) -> Held
+    ensures { result ≡ first_held switches }
+{
+    Held {
+        word: switches,
+        other: switches,
+        named: None,
+    }
+}
+
+// Makes the verdicts in front right for a word, on an accepted policy. Where they are kept under another one, they stay if no
+// rule names a switch, which the rules are asked at most once; else they go behind, and those there come in front, if they are
+// this word's.
 fn recall_at(
     image: &[u8],
     groups: &[u16; 256],
     s: Starts,
-    verdicts: &mut [u8; 256],
-    held: Held,
+    verdicts: &mut [Verdict; 256],
+    held: Option<Held>,
     switches: u32,
 ) -> Held
     requires { Ready image.now groups.now s × KeptFor image.now held verdicts.old }
     ensures { Recalled image.now switches result verdicts.new }
 {
-    if held.known == 0 {
-        return Held {
-            word: switches,
-            other: switches,
-            known: 1,
-        };
-    }
+    let Some(held) = held else {
+        return first_held(switches);
+    };
     if held.word == switches {
         return held;
     }
-    if is_named(image, groups, s, held.known) {
+    let named = match held.named {
+        Some(named) => named,
+        None => any_switched(image, groups, s),
+    };
+    let mut other = held.other;
+    if named {
         turn(verdicts, held.other == switches);
-        return Held {
-            word: switches,
-            other: held.word,
-            known: 3,
-        };
+        other = held.word;
     }
     Held {
         word: switches,
-        other: held.other,
-        known: 2,
+        other,
+        named: Some(named),
     }
 }
 
@@ -149,19 +141,15 @@ pub(crate) fn recall(
     image: &[u8],
     groups: &[u16; 256],
     sections: Result<Starts, Refusal>,
-    verdicts: &mut [u8; 256],
-    held: Held,
+    verdicts: &mut [Verdict; 256],
+    held: Option<Held>,
     switches: u32,
 ) -> Held
     requires { Surveyed image.now groups.now sections × KeptFor image.now held verdicts.old }
     ensures { Recalled image.now switches result verdicts.new }
 {
     match sections {
-        Err(_) => Held {
-            word: switches,
-            other: switches,
-            known: 1,
-        },
+        Err(_) => first_held(switches),
         Ok(s) => recall_at(image, groups, s, verdicts, held, switches),
     }
 }

@@ -113,7 +113,7 @@ pub slots_stay : SlotsStay
 slots_stay l b slots = (slots_many l b slots, slot_stays l b slots)
 
 -- the query of a row, from its 12 bytes
-query_row : (b : List ℕ) (k : ℕ) → query_at b (12 * k) ≡ query_at (row_at b k) 0
+pub query_row : (b : List ℕ) (k : ℕ) → query_at b (12 * k) ≡ query_at (row_at b k) 0
 query_row b k =
     let word : (i : ℕ) → i + 1 < 12 → word_at b (12 * k + i) ≡ word_at (row_at b k) i = λ i h. sym (word_take 12 (drop (12 * k) b) i h ∙ word_drop (12 * k) b i) in
     let start : 12 * k ≡ 12 * k + 0 = omega arith in

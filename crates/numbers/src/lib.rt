@@ -10,16 +10,18 @@ use format::Refusal;
 use runs::Run;
 
 // The number whose parts are 0, a kind, and two more, each in its low 16 bits.
+#[tactic(auto, unfolding(decision::specs::Numbers::parts_of))]
 pub fn parts(kind: u16, high: usize, low: usize) -> u64
     ensures { result ≡ parts_of kind high low }
 {
-    (kind as usize * 4294967296 + high % 65536 * 65536 + low % 65536) as u64
+    u64::from(kind) * 4294967296 + (high % 65536 * 65536 + low % 65536) as u64
 }
 
+#[tactic(auto, unfolding(decision::specs::Numbers::refusal_code))]
 pub fn refused(f: Refusal) -> u64
     ensures { result ≡ refusal_code f }
 {
-    parts(2, f.number as usize, f.place)
+    parts(2, usize::from(f.number), f.place)
 }
 
 // How near a rule came: no rule has the number 65535, which says that there are no rules.

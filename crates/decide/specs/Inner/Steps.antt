@@ -1,7 +1,7 @@
 -- What the steps of a run answer.
 --     Begins l n f b   what a run of n rows begins with, where f is its refusal
 --     Stepped l q r i s   what row i comes to, where the run was r before
-use Rattle.std.specs.Prelude.{ℕ, ◌≡◌, List}
+use Rattle.std.specs.Prelude.{ℕ, ◌≡◌, List, None}
 use Rattle.std.specs.Prelude.{Option}
 use Rattle.format.specs.declared.Refusal.{Refusal}
 use Rattle.decision.specs.declared.Query.{Query}
@@ -14,7 +14,7 @@ use Rattle.decide.specs.Inner.Parts.{Surveyed}
 pub record Begins (l : List ℕ) (n : ℕ) (f : Option Refusal) (b : Begun) : Type 0 where
   pub rows : b.rows ≡ rows_for (run_said f) n
   pub run : b.progress.run ≡ run_said f
-  pub fresh : b.progress.held.known ≡ 0
+  pub fresh : b.progress.held ≡ None
   pub surveyed : Surveyed l b.groups b.sections
 
 pub record Stepped (l : List ℕ) (q : Query) (r : Run) (i : ℕ) (s : Step) : Type 0 where

@@ -1,43 +1,43 @@
 -- `fully_marked` meets its contract: the hits so far and those among what is left are all hits. Assumes nothing.
 use native.Mathlib.Omega.{arith}
-use Prim.Native.Nat.{suc, ◌-◌}
 use mathlib.Core.Path.{◌≡◌, ap}
-use Rattle.format.specs.Inner.Places.{words_at}
 use lib.Dec.{eqb}
+use Rattle.format.specs.Inner.Places.{words_at}
 use Rattle.decide.specs.Inner.Marks.{tallied, fully_marked}
-use Rattle.decide.proofs.MarkLaws.{walk_small, walk_rest, tally_end, tally_yes, tally_no, hits_on, hits_off}
+use Rattle.decide.proofs.MarkLaws.{pair_in, pair_is, pair_basic, pairs_end, tally_hit, tally_miss, tally_done, hits_on, hits_off}
 use Rattle.decide.proofs.marks.fully_marked.Goals as goal
-use Rattle.decide.proofs.marks.fully_marked.Goals.{then-marks-word_in, else-marks-word_in}
+use Rattle.decide.proofs.marks.fully_marked.Goals.{then-marks-word, else-marks-word}
 
-pub loop-left-init : goal.loop-left-init
-loop-left-init c = (c.requires.0, c.requires.1, omega arith, omega arith)
+pub bounds-marks-word : goal.bounds-marks-word
+bounds-marks-word c =
+    pair_basic _ _ _ _ c.pairs-member-items.ensures c.loop-member.member-index c.loop-member-test.true _
+    c.word.ensures c.requires.1
 
-pub bounds-marks-word_in : goal.bounds-marks-word_in
-bounds-marks-word_in c = let L = c.loop-left in
-    let e : L.left ≡ suc (L.left - 1) = omega arith in omega (arith, walk_small _ _ _ _ e L.invariant.1, c.word_in.ensures.0)
-
-pub loop-left-preserved : goal.loop-left-preserved
-loop-left-preserved c = let L = c.loop-left in let e : L.left ≡ suc (L.left - 1) = omega arith in
-    elim c.if-marks-word_in.branch [
-      | then-marks-word_in w ↦ (
-        omega arith,
-        walk_rest _ _ _ _ e L.invariant.1,
-        hits_on L.hits _ _ L.invariant.2 (tally_yes _ _ _ _ _ e _ c.word_in.ensures.0 w.if-marks-word_in.true) w.hits-is,
+pub loop-member-preserved : goal.loop-member-preserved
+loop-member-preserved c =
+    let i = c.loop-member.member-index in
+    let are = c.pairs-member-items.ensures in
+    let e = c.word.ensures in
+    let more = pair_in _ _ _ _ are i c.loop-member-test.true _ e in
+    let is = pair_is _ _ _ _ are i c.loop-member-test.true _ e in
+    let L = c.loop-member in
+    elim c.if-marks-word.branch [
+      | then-marks-word w ↦ (
+        hits_on L.hits _ _ L.invariant.0 (tally_hit _ i _ more _ is w.if-marks-word.true) w.hits-is,
         omega arith,
       )
-      | else-marks-word_in w ↦ (
-        omega arith,
-        walk_rest _ _ _ _ e L.invariant.1,
-        hits_off L.hits _ _ L.invariant.2 (tally_no _ _ _ _ _ e _ c.word_in.ensures.0 w.if-marks-word_in.false) w.hits-is,
+      | else-marks-word w ↦ (
+        hits_off L.hits _ _ L.invariant.0 (tally_miss _ i _ more _ is w.if-marks-word.false) w.hits-is,
         omega arith,
       )
     ]
 
 pub returns : goal.returns
 unfolding fully_marked
-returns c = let a = c.args in
-    let L = c.loop-left in
-    let n : L.left ≡ 0 = omega arith in
+returns c =
+    let a = c.args in
+    let L = c.loop-member in
+    let end = pairs_end _ _ _ _ c.pairs-member-items.ensures _ c.loop-member-test.false in
     let e : L.hits ≡ tallied a.marks.now (words_at a.image.now a.count a.from) =
-    omega (arith, L.invariant.2, tally_end a.marks.now a.image.now L.at L.left n) in
+    omega (arith, L.invariant.0, tally_done _ L.member-index a.marks.now end) in
     ap (λ n. eqb n a.size) e

@@ -1,26 +1,24 @@
 -- `mark` meets its contract: what is left to mark, on top of what is marked, is all. Assumes nothing.
-use native.Mathlib.Omega.{arith}
-use Prim.Native.Nat.{suc, ◌-◌}
-use mathlib.Core.Path.{◌≡◌, refl, sym, ◌∙◌}
-use Rattle.decide.proofs.MarkLaws.{walk_small, walk_rest, mark_end, mark_next}
+use mathlib.Core.Path.{sym, ◌∙◌}
 use lib.ListN.{length-set}
+use Rattle.decide.proofs.MarkLaws.{pair_in, pair_is, pair_basic, pairs_end, mark_more, mark_done}
 use Rattle.decide.proofs.marks.mark.Goals as goal
 
-pub loop-left-init : goal.loop-left-init
-loop-left-init c = (c.requires.0, c.requires.1, refl, refl)
+pub bounds-marks-word : goal.bounds-marks-word
+bounds-marks-word c =
+    pair_basic _ _ _ _ c.pairs-member-items.ensures c.loop-member.member-index c.loop-member-test.true _
+    c.word.ensures c.requires.1
 
-pub bounds-marks-word_in : goal.bounds-marks-word_in
-bounds-marks-word_in c = let L = c.loop-left in
-    let e : L.left ≡ suc (L.left - 1) = omega arith in omega (arith, walk_small _ _ _ _ e L.invariant.1, c.word_in.ensures.0)
-
-pub loop-left-preserved : goal.loop-left-preserved
-loop-left-preserved c = let L = c.loop-left in
-    let e : L.left ≡ suc (L.left - 1) = omega arith in (
-      omega arith,
-      walk_rest _ _ _ _ e L.invariant.1,
-      L.invariant.2 ∙ mark_next _ _ _ _ _ e _ c.word_in.ensures.0,
-      simp length-set L.invariant.3,
-    )
+pub loop-member-preserved : goal.loop-member-preserved
+loop-member-preserved c =
+    let i = c.loop-member.member-index in
+    let are = c.pairs-member-items.ensures in
+    let e = c.word.ensures in
+    let more = pair_in _ _ _ _ are i c.loop-member-test.true _ e in
+    let is = pair_is _ _ _ _ are i c.loop-member-test.true _ e in
+    (c.loop-member.invariant.0 ∙ mark_more _ i _ more _ is, simp length-set c.loop-member.invariant.1)
 
 pub returns : goal.returns
-returns c = sym (c.loop-left.invariant.2 ∙ mark_end _ _ _ _ (omega arith))
+returns c =
+    let L = c.loop-member in
+    sym (L.invariant.0 ∙ mark_done _ L.member-index _ (pairs_end _ _ _ _ c.pairs-member-items.ensures _ c.loop-member-test.false))

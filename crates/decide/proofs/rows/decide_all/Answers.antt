@@ -1,52 +1,48 @@
 -- `decide_all` meets its contract: k slots are filled. Assumes nothing.
 use native.Mathlib.Omega.{arith}
-use mathlib.Core.Path.{refl}
-use lib.ListN.{length-set}
+use Prim.Native.Nat.{◌<◌, ◌/◌}
+use mathlib.Core.Path.{refl, ap, ◌∙◌}
+use lib.ListN.{length}
+use Rattle.std.proofs.lemmas.List.{length-take}
+use Rattle.decision.specs.Decide.{answer}
+use Rattle.decision.specs.Numbers.{decision_code}
 use Rattle.image.proofs.SurveyLaws.{survey_placed}
-use Rattle.decide.proofs.VerdictLaws.{kept_fresh}
-use Rattle.decide.proofs.RowLaws.{rows_next, rows_end}
+use Rattle.decide.specs.Inner.Verdicts.{unasked}
+use Rattle.decide.proofs.ArrayLaws.{blank}
+use Rattle.decide.proofs.RowLaws.{rows_next, row_query, rows_end}
 use Rattle.decide.proofs.rows.decide_all.Goals as goal
 
 pub loop-k-init : goal.loop-k-init
 loop-k-init c =
     record {
-      few = omega arith;
-      rows = omega arith;
-      all = refl;
-      same = refl;
       are = refl;
-      kept = record { verdicts = kept_fresh _ _ refl; source = refl; dest = refl };
-    }
-
-pub returns-then-rows-k : goal.returns-then-rows-k
-returns-then-rows-k c = let L = c.loop-k in
-    record {
-      value = omega (arith, L.invariant.rows, L.invariant.few);
-      answers_after = rows_end _ _ _ L.answers L.k (omega (arith, L.invariant.rows, L.invariant.few)) L.invariant.are;
+      kept = record { verdicts = blank unasked 256; source = refl; dest = refl };
     }
 
 pub row-r-requires : goal.row-r-requires
 row-r-requires c = let k = c.survey-sections.ensures in
-    (record { sections = k.sections; placed = survey_placed _ _ _ _ k }, c.loop-k.invariant.kept, omega arith)
-
-pub bounds-answers-k : goal.bounds-answers-k
-bounds-answers-k c = let L = c.loop-k in omega (arith, L.invariant.all, L.invariant.same)
+    (record { sections = k.sections; placed = survey_placed _ _ _ _ k }, c.loop-k.invariant.kept)
 
 pub loop-k-preserved : goal.loop-k-preserved
-loop-k-preserved c = let L = c.loop-k in
+loop-k-preserved c =
+    let l = c.args.image.now in
+    let b = c.args.queries.now in
+    let L = c.loop-k in
     let r = c.row-r.ensures in
+    let h : L.k < length b / 12 =
+    omega (arith, length-take c.min-count.result c.args.answers.now, c.as_chunks.ensures.front_len) in
+    let q = row_query l b c.args.answers.now _ _ L.k c.as_chunks.ensures.front h in
     record {
-      few = omega arith;
-      rows = omega arith;
-      all = L.invariant.all;
-      same = simp length-set (omega (arith, L.invariant.same));
-      are = rows_next _ _ _ _ L.k _ (omega arith) (omega (arith, L.invariant.all)) r.0 L.invariant.are;
+      are = rows_next l b _ _ L.k _ h c.loop-k-test.true (r.0 ∙ ap (λ q. decision_code (answer l q)) q) L.invariant.are;
       kept = r.1;
     }
 
 pub returns : goal.returns
-returns c = let L = c.loop-k in
+returns c =
+    let L = c.loop-k in
+    let long = length-take c.min-count.result c.args.answers.now in
+    let rows = c.as_chunks.ensures.front_len in
     record {
-      value = omega (arith, L.invariant.same, L.invariant.rows);
-      answers_after = rows_end _ _ _ L.answers L.k (omega (arith, L.invariant.rows, L.invariant.all)) L.invariant.are;
+      value = omega (arith, rows);
+      answers_after = rows_end _ _ _ L.slots L.k _ (omega (arith, rows)) (omega (arith, long)) L.invariant.are;
     }

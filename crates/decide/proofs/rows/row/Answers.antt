@@ -11,7 +11,7 @@ decide_surveyed-answer-requires c = let p = c.requires in (p.0, tables_for _ _ _
 pub returns : goal.returns
 returns c =
     let r = c.decide_surveyed-answer.ensures in
-    let q = c.query_at-q.ensures in (
+    let q = c.query_in-q.ensures in (
       c.number.ensures ∙ ap decision_code (r.is ∙ ap (answer c.args.image.now) q),
       rows_after _ _ _ _ c.recall-held.ensures _ _ _ r.kept,
     )

@@ -12,7 +12,7 @@ pub bounds-image-at : goal.bounds-image-at
 bounds-image-at c = let h = c.requires.0 in omega (arith, h.long, h.here.inside)
 
 pub overflow_add-result-2 : goal.overflow_add-result-2
-overflow_add-result-2 c = let h = c.requires.0 in omega (arith, h.here.inside, h.here.size, c.wide.ensures.0)
+overflow_add-result-2 c = let h = c.requires.0 in omega (arith, h.here.inside, h.here.size, c.from.ensures)
 
 pub returns : goal.returns
-returns c = omega (arith, c.wide.ensures.0)
+returns c = omega (arith, c.from.ensures)

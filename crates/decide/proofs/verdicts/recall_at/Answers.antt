@@ -1,19 +1,35 @@
 -- `recall_at` meets its contract: nothing was kept, or it is right, or front and back change, or no rule names a switch.
 -- Assumes nothing.
-use mathlib.Core.Path.{refl, sym, ◌∙◌}
-use Rattle.decide.proofs.VerdictLaws.{recalled_first, recalled_plain, recalled_turned}
+use mathlib.Core.Path.{◌≡◌, sym, subst, ◌∙◌}
+use Rattle.std.specs.Prelude.{IfSome}
+use Rattle.decide.specs.declared.verdicts.Held.{Held}
+use Rattle.decide.specs.Inner.Verdicts.{any_named, KeptFor, Recalled}
+use Rattle.decide.proofs.VerdictLaws.{recalled_none, recalled_plain, recalled_turned}
 use Rattle.decide.proofs.verdicts.recall_at.Goals as goal
+use Rattle.decide.proofs.verdicts.recall_at.Goals.{in-Some-named, in-None}
 
-pub returns-then-held-eq0 : goal.returns-then-held-eq0
-returns-then-held-eq0 c = recalled_first _ _ _ _ c.requires.1 c.if-held-eq0.true
+pub returns-then-named : goal.returns-then-named
+returns-then-named c =
+    let p = c.requires in
+    let k = subst (λ h. KeptFor c.args.image.now h c.args.verdicts.now) c.in-Some.is p.1 p.0.known.accepted in
+    let asked : c.match-held-2.named ≡ any_named c.args.image.now = elim c.match-held-2.branch [
+      | in-Some-named w ↦ w.named-is ∙ subst (λ o. IfSome o (λ b. b ≡ any_named c.args.image.now)) w.in-Some-named.is k.named
+      | in-None w ↦ w.named-is ∙ w.any_switched-named.ensures
+    ] in
+    recalled_turned _ _ _ _ k _ asked _ c.turn.ensures
 
-pub is_named-requires : goal.is_named-requires
-is_named-requires c = let p = c.requires in (p.0, p.1.knows p.0.known.accepted)
+pub returns-else-named : goal.returns-else-named
+returns-else-named c =
+    let p = c.requires in
+    let k = subst (λ h. KeptFor c.args.image.now h c.args.verdicts.now) c.in-Some.is p.1 p.0.known.accepted in
+    let asked : c.match-held-2.named ≡ any_named c.args.image.now = elim c.match-held-2.branch [
+      | in-Some-named w ↦ w.named-is ∙ subst (λ o. IfSome o (λ b. b ≡ any_named c.args.image.now)) w.in-Some-named.is k.named
+      | in-None w ↦ w.named-is ∙ w.any_switched-named.ensures
+    ] in
+    recalled_plain _ _ _ _ k _ asked c.if-named.false
 
-pub returns-then-is_named : goal.returns-then-is_named
-returns-then-is_named c = let p = c.requires in
-    recalled_turned _ _ _ _ p.1 p.0.known.accepted (sym c.is_named.ensures ∙ c.if-is_named.true) _ refl _ c.turn.ensures
-
-pub returns : goal.returns
-returns c = let p = c.requires in
-    recalled_plain _ _ _ _ p.1 p.0.known.accepted (sym c.is_named.ensures ∙ c.if-is_named.false)
+pub returns-in_default : goal.returns-in_default
+returns-in_default c =
+    let l = c.args.image.now in
+    subst (λ (h : Held). Recalled l c.args.switches h c.args.verdicts.now) (sym c.first_held.ensures)
+    (recalled_none l c.args.switches c.args.verdicts.now c.args.held c.requires.1 c.in_default.is)

@@ -1,5 +1,4 @@
 -- `constraint_fails` meets its contract: a test that fails settles it, and the predicate has the last word. Assumes nothing.
-use native.Mathlib.Omega.{arith}
 use Prim.Native.Nat.{◌+◌}
 use mathlib.Core.Path.{◌≡◌, sym, ap, ◌∙◌}
 use Rattle.format.specs.Bytes.{word_at}
@@ -67,8 +66,8 @@ returns-then-not-inside-2 c =
       kept = (record { source = c.inside.ensures.kept; dest = c.inside-2.ensures.kept }, written_same _ _ _ c.requires.2);
     }
 
-pub returns-then-k-gt0 : goal.returns-then-k-gt0
-returns-then-k-gt0 c =
+pub returns-in-Some : goal.returns-in-Some
+returns-in-Some c =
     let same_class : word_at c.args.self.image.now (c.args.at + 2) ≡ c.args.q.class =
     sym c.word_in.ensures.0 ∙ c.if-word_in-wide_word.false ∙ c.wide_word.ensures in
     let same_action : word_at c.args.self.image.now (c.args.at + 4) ≡ c.args.q.action =
@@ -87,7 +86,7 @@ returns-then-k-gt0 c =
     (second_told ∙ c.if-not-inside-2.false)
     ∙ by_place in
     record {
-      is = front_says _ _ _ c.requires.2 _ c.requires.1.few c.if-k-gt0.true ∙ sym by_rules;
+      is = front_says _ _ _ c.requires.2 _ _ c.requires.1.few (sym c.front.ensures ∙ c.in-Some.is) ∙ sym by_rules;
       kept = (
         record { source = c.inside.ensures.kept; dest = c.inside-2.ensures.kept },
         written_same _ _ _ c.requires.2,
@@ -113,11 +112,11 @@ returns c =
     fails_broken _ _ _ c.requires.1.here _ same_class same_action (first_told ∙ c.if-not-inside.false)
     (second_told ∙ c.if-not-inside-2.false)
     ∙ by_place in
-    let e = c.predicate_broken-found.ensures ∙ by_place in
+    let e = c.predicate_broken-broken.ensures ∙ by_place in
     record {
       is = e ∙ sym by_rules;
       kept = (
         record { source = c.inside.ensures.kept; dest = c.inside-2.ensures.kept },
-        rw c.keep_verdict.ensures (front_adds _ _ _ c.requires.2 _ _ e (omega (arith, c.if-k-gt0.false))),
+        front_adds _ _ _ c.requires.2 _ _ e _ c.with_front.ensures,
       );
     }
