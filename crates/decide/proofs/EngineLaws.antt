@@ -13,16 +13,17 @@ use Rattle.format.specs.Policy.{policy_of}
 use Rattle.format.specs.Check.{Accepted}
 use Rattle.format.specs.Claims.{IsType}
 use Rattle.std.specs.Prelude.{Ok, Err}
-use Rattle.format.specs.Answers.{outcome}
+use Rattle.format.specs.declared.Starts.{Starts}
+use Rattle.format.specs.Answers.{outcome, Outcome}
 use Rattle.decision.specs.declared.Query.{Query}
 use Rattle.decision.specs.Decide as deciding
 use Rattle.decision.specs.Decide.{first_at, covers, fails, nearest}
-use Rattle.decide.specs.Inner.Parts.{rules_in, request_in, set_in}
+use Rattle.decide.specs.Inner.Parts.{rules_in, request_in, set_in, Ready, Surveyed}
 use Rattle.decide.specs.Inner.Marks.{no_marks, mark_all, Marked}
 use Rattle.decide.specs.Inner.Rules.{first_rule, first_constraint}
 use Rattle.decide.specs.Inner.Nearer.{Uncovered}
 use Rattle.decision.proofs.Search.{first_at_none}
-use Rattle.format.proofs.Chain.{or_else_next, or_else_first, need_none, need_some}
+use Rattle.format.proofs.Chain.{or_else_next, or_else_first, need_none, need_some, outcome_gives}
 use Rattle.decide.proofs.TypeLaws.{set_rising}
 use Rattle.decide.proofs.MarkedLaws.{marked_of}
 
@@ -80,6 +81,12 @@ marked_type l ms size t w c ok is e f =
     let e' : ms ≡ mark_all (replicate 1024 false) S = e ∙ ap (λ x. mark_all (replicate 1024 false) (set_in l x)) is in
     let f' : size ≡ length S = f ∙ ap (λ x. length (set_in l x)) is in
     subst (λ n. Marked S ms n) (sym f') (subst (λ m. Marked S m (length S)) (sym e') (marked_of S (set_rising l w c ok)))
+
+-- where the check gave sections, the policy is accepted
+pub surveyed_ready : (l ps : List ℕ) (x : Outcome Starts) (s : Starts) → Surveyed l ps x → x ≡ Ok s → Ready l ps s
+surveyed_ready l ps x s p e =
+    let k = outcome_gives _ _ (sym e ∙ p.sections) in
+    record { known = record { accepted = k.0; placed = p.placed k.0 }; starting = k.1 }
 
 module _ {A : Type 0} (f : Option Refusal) (a : A) where
   pub outcome_some : (x : Refusal) → f ≡ Some x → Err x ≡ outcome f a

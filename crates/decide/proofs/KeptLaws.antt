@@ -5,8 +5,9 @@ use mathlib.Core.Bool.{Bool, true, false, not, cond}
 use mathlib.Core.List.{List}
 use native.Mathlib.Omega.{arith}
 use lib.ListN.{get_or, set, replicate}
-use lib.Dec.{eqb, ltb}
-use borrow.Author.Tests.{lt-ltb, le-ltb, ltb-true, ltb-false, eqb-true, ne_eqb, not-true}
+use lib.Dec.{ltb}
+use denote.Enum.Bare.{sameb}
+use borrow.Author.Tests.{lt-ltb, le-ltb, ltb-true, ltb-false, ne_eqb, not-true}
 use Rattle.format.specs.declared.Section.TheVariants.{Groups}
 use Rattle.format.specs.Format.{count_of}
 use Rattle.format.specs.Check.{Accepted}
@@ -14,76 +15,112 @@ use Rattle.format.specs.Claims.{IsType}
 use Rattle.format.proofs.Images.{group_count}
 use Rattle.decision.proofs.Filled.{types_filled}
 use Rattle.decision.specs.Sets.{within}
+use Rattle.decide.specs.declared.kept.Kept.{Kept}
+use Rattle.decide.specs.declared.kept.Kept.TheVariants.{Unasked, No, Yes}
+use Rattle.decide.specs.contracts.kept.Kept.{the_type}
 use Rattle.decide.specs.declared.kept.Side.{Side}
 use Rattle.decide.specs.Inner.Parts.{set_in, group_set}
 use Rattle.decide.specs.Inner.Marks.{tallied, fully_marked}
-use Rattle.decide.specs.Inner.Kept.{bit, Kept, KeptTest, outside_in, keep_outside, SideOf}
+use Rattle.decide.specs.Inner.Kept.{said, says_no, KeptOf, KeptTest, outside_in, keep_outside, SideOf}
 use Rattle.decide.proofs.ArrayLaws.{blank, by_set}
 use Rattle.decide.proofs.TypeLaws.{set_basic, set_rising}
 use Rattle.decide.proofs.SetLaws.{full_within}
 
--- nothing is kept at first
-pub kept_none : (f : ℕ → ℕ) (n : ℕ) → Kept f (replicate n 0)
-kept_none f n = record { is = λ g e. absurd (omega (arith, e, blank {A = ℕ} 0 n g)) }
+-- an answer that is kept is one answer
+unasked_none : {P : Type 0} (b : Bool) → Unasked ≡ said b → P
+unfolding said
+unasked_none true e = absurd (cc)
+unasked_none false e = absurd (cc)
 
--- one more kept
-pub kept_more : (f : ℕ → ℕ) (table : List ℕ) (n v : ℕ) → Kept f table → v ≡ f n + 1 → Kept f (set table n v)
-kept_more f table n v k e = record { is = by_set 0 (λ (j x : ℕ). 0 < x → x ≡ f j + 1) table n v k.is (λ z. e) }
+said_same : (a b : Bool) → said a ≡ said b → a ≡ b
+unfolding said
+said_same true true e = refl
+said_same true false e = absurd (cc)
+said_same false true e = absurd (cc)
+said_same false false e = refl
+
+-- nothing is kept at first
+pub kept_none : (f : ℕ → Bool) (n : ℕ) → KeptOf f (replicate n Unasked)
+kept_none f n = record { is = λ g b e. unasked_none b (sym (blank Unasked n g) ∙ e) }
+
+-- whether no is kept
+pub no_says : (k : Kept) → k ≡ No → true ≡ says_no k
+unfolding says_no
+no_says k e = ap says_no (sym e)
+
+says_no_is : (k : Kept) → says_no k ≡ true → k ≡ No
+unfolding says_no
+says_no_is Unasked e = absurd (cc)
+says_no_is No e = refl
+says_no_is Yes e = absurd (cc)
+
+pub says_no_not : (k : Kept) → (k ≡ No → ⊥) → false ≡ says_no k
+unfolding says_no
+says_no_not Unasked n = refl
+says_no_not No n = absurd (n refl)
+says_no_not Yes n = refl
 
 -- ---- of a test
 
-pub bit_two : (b : Bool) → eqb (bit b + 1) 2 ≡ b
-unfolding bit
-bit_two true = refl
-bit_two false = refl
-
-bit_one : (b : Bool) → 1 ≡ bit b + 1 → b ≡ false
-unfolding bit
-bit_one true e = absurd (omega arith)
-bit_one false e = refl
-
-module _ (f : ℕ → Bool) (table : List ℕ) (k : Kept (λ n. bit (f n)) table) (n : ℕ) where
+module _ (f : ℕ → Bool) (table : List Kept) (k : KeptOf f table) (n : ℕ) where
   -- what is read back
-  pub kept_says : 0 < get_or table n 0 → eqb (get_or table n 0) 2 ≡ f n
-  kept_says h = ap (λ x. eqb x 2) (k.is n h) ∙ bit_two (f n)
+  pub kept_yes : get_or table n Unasked ≡ Yes → true ≡ f n
+  unfolding said
+  kept_yes e = sym (k.is n true e)
 
-  pub kept_adds : (b : Bool) → b ≡ f n → Kept (λ n. bit (f n)) (set table n (bit b + 1))
-  kept_adds b e = kept_more (λ n. bit (f n)) table n (bit b + 1) k (ap (λ x. bit x + 1) e)
+  kept_no : get_or table n Unasked ≡ No → false ≡ f n
+  unfolding said
+  kept_no e = sym (k.is n false e)
+
+  pub kept_says : (b : Bool) → true ≡ not (sameb the_type (get_or table n Unasked) Unasked)
+      → b ≡ sameb the_type (get_or table n Unasked) Yes → b ≡ f n
+  kept_says b u e = go (get_or table n Unasked) refl u e
+    where
+      go : (v : Kept) → get_or table n Unasked ≡ v → true ≡ not (sameb the_type v Unasked) → b ≡ sameb the_type v Yes → b ≡ f n
+      go Unasked i u e = absurd (cc)
+      go No i u e = e ∙ kept_no i
+      go Yes i u e = e ∙ kept_yes i
+
+  -- one more kept
+  pub kept_adds : (b : Bool) → b ≡ f n → KeptOf f (set table n (said b))
+  kept_adds b e = record {
+    is = by_set Unasked (λ (j : ℕ) (x : Kept). (a : Bool) → x ≡ said a → f j ≡ a) table n (said b) k.is
+        (λ a s. sym e ∙ said_same b a s);
+  }
 
 -- ---- a type that a set is known not to be within
 
-module _ (ms : List Bool) (kept : List ℕ) (t : ℕ) where
+module _ (ms : List Bool) (kept : List Kept) (t : ℕ) where
   pub outside_basic : t < 32768 → outside_in ms kept t ≡ not (get_or ms t false)
   unfolding outside_in
   outside_basic h = simp (lt-ltb t 32768 h)
 
-  pub outside_group : 32768 ≤ t → outside_in ms kept t ≡ eqb (get_or kept (t - 32768) 0) 1
+  pub outside_group : 32768 ≤ t → outside_in ms kept t ≡ says_no (get_or kept (t - 32768) Unasked)
   unfolding outside_in
   outside_group h = simp (le-ltb t 32768 h)
 
-module _ (kept : List ℕ) (t : ℕ) where
+module _ (kept : List Kept) (t : ℕ) where
   pub keep_basic : t < 32768 → keep_outside kept t ≡ kept
   unfolding keep_outside
   keep_basic h = simp (lt-ltb t 32768 h)
 
-  pub keep_group : 32768 ≤ t → keep_outside kept t ≡ set kept (t - 32768) 1
+  pub keep_group : 32768 ≤ t → keep_outside kept t ≡ set kept (t - 32768) No
   unfolding keep_outside
   keep_group h = simp (le-ltb t 32768 h)
 
-module _ (f : List ℕ → Bool) (l kept : List ℕ) (k : KeptTest f l kept) (t w : ℕ) (is : t ≡ w) where
+module _ (f : List ℕ → Bool) (l : List ℕ) (kept : List Kept) (k : KeptTest f l kept) (t w : ℕ) (is : t ≡ w) where
   same_set_lem : 32768 ≤ t → group_set l (t - 32768) ≡ set_in l w
   same_set_lem h = let r : 32768 + (t - 32768) ≡ w = omega arith in ap (set_in l) r
 
-  kept_tells : 32768 ≤ t → eqb (get_or kept (t - 32768) 0) 1 ≡ true → f (set_in l w) ≡ false
-  kept_tells h e =
-      let one : get_or kept (t - 32768) 0 ≡ 1 = eqb-true (get_or kept (t - 32768) 0) 1 e in
-      ap f (sym (same_set_lem h)) ∙ bit_one (f (group_set l (t - 32768))) (sym one ∙ k.is (t - 32768) (omega (arith, one)))
+  kept_tells : 32768 ≤ t → says_no (get_or kept (t - 32768) Unasked) ≡ true → f (set_in l w) ≡ false
+  kept_tells h e = ap f (sym (same_set_lem h))
+      ∙ sym (kept_no (λ g. f (group_set l g)) kept k (t - 32768) (says_no_is (get_or kept (t - 32768) Unasked) e))
 
   pub outside_kept : f (set_in l w) ≡ false → KeptTest f l (keep_outside kept t)
-  unfolding keep_outside bit
+  unfolding keep_outside said
   outside_kept n = go (ltb t 32768) refl
     where
-      go : (b : Bool) → ltb t 32768 ≡ b → KeptTest f l (cond b kept (set kept (t - 32768) 1))
+      go : (b : Bool) → ltb t 32768 ≡ b → KeptTest f l (cond b kept (set kept (t - 32768) No))
       go true h = k
       go false h = kept_adds (λ g. f (group_set l g)) kept k (t - 32768) false
           (sym (ap f (same_set_lem (ltb-false t 32768 h)) ∙ n))
@@ -111,7 +148,7 @@ outside_tells {l} {t} {s} d c x w i is e = go (ltb x 32768) refl e
     filled : 0 < s.size
     filled = omega (arith, d.marked.many, types_filled l c t (subst (λ (n : ℕ). IsType n t) (sym (group_count l)) d.type))
 
-    go : (b : Bool) → ltb x 32768 ≡ b → cond b (not (get_or s.marks.now x false)) (eqb (get_or s.kept (x - 32768) 0) 1) ≡ true
+    go : (b : Bool) → ltb x 32768 ≡ b → cond b (not (get_or s.marks.now x false)) (says_no (get_or s.kept (x - 32768) Unasked)) ≡ true
         → within (set_in l t) (set_in l w) ≡ false
     go true h e =
         sym (side_within d c w i)

@@ -2,13 +2,14 @@
 --     Small xs         basic types
 --     marked_get       a number is marked where it was, or is in the set
 --     marked_of        a set and its marks
-use Prim.Native.Nat.{ℕ, zero, suc, ◌+◌, ◌*◌, ◌<◌}
+use native.Mathlib.Numerals.{add-one}
+use Prim.Native.Nat.{ℕ, zero, suc, ◌+◌, ◌*◌, ◌<◌, ◌≤◌}
 use mathlib.Core.Path.{◌≡◌, refl, sym, subst, ap, ◌∙◌}
 use mathlib.Core.Bool.{Bool, true, false, or-true, or-false, ◌||◌}
 use mathlib.Core.List.{List, [], ◌∷◌, ◌++◌}
 use native.Mathlib.Omega.{arith}
-use lib.ListN.{length, get_or, set, replicate, length-set, length-replicate}
-use lib.Seq.{get_or-set_same, get_or-set_other}
+use lib.ListN.{length, get_or, set, replicate, length-set, length-replicate, drop, drop_of_length-le}
+use lib.Seq.{get_or-set_same, get_or-set_other, drop-cons}
 use lib.Dec.{eqb}
 use borrow.Author.Tests.{eqb-true, eqb-false}
 use Rattle.format.specs.declared.Section.TheVariants.{Groups}
@@ -73,17 +74,18 @@ module _ (l : List ℕ) (from count : ℕ) (S : List ℕ) (s : Spans l from coun
   pub span_size : count ≡ length S
   span_size = sym (words_at_length l count from) ∙ ap length s.are
 
--- the sets of n types from a place on
-module _ (ms : List Bool) (l : List ℕ) (at n : ℕ) where
-  pub union_end : n ≡ 0 → mark_all ms (union_of (groups_in l) (words_at l n at)) ≡ ms
+-- the sets of the types of a list that are left
+module _ (gs : List (List ℕ)) (ws : List ℕ) (i : ℕ) (ms : List Bool) where
+  pub union_done : length ws ≤ i → mark_all ms (union_of gs (drop i ws)) ≡ ms
   unfolding mark_all union_of
-  union_end e = rw (words_at_none l n at e)
+  union_done h = rw (drop_of_length-le ws h) refl
 
-  pub union_next : (k : ℕ) → n ≡ suc k → mark_all ms (union_of (groups_in l) (words_at l n at))
-      ≡ mark_all (mark_all ms (set_of (groups_in l) (word_at l at))) (union_of (groups_in l) (words_at l k (at + 2)))
+  pub union_more : (t : ℕ) → i < length ws → t ≡ get_or ws i 0
+      → mark_all ms (union_of gs (drop i ws)) ≡ mark_all (mark_all ms (set_of gs t)) (union_of gs (drop (i + 1) ws))
   unfolding union_of
-  union_next k e = rw (words_at_next l n at k e)
-      (mark_append ms (set_of (groups_in l) (word_at l at)) (union_of (groups_in l) (words_at l k (at + 2))))
+  union_more t h is =
+      let here : drop i ws ≡ t ∷ drop (i + 1) ws = drop-cons ws i 0 h ∙ ap (λ x. x ∷ drop (suc i) ws) (sym is) ∙ ap (λ k. t ∷ drop k ws) (sym (add-one i)) in
+      ap (λ l. mark_all ms (union_of gs l)) here ∙ mark_append ms (set_of gs t) (union_of gs (drop (i + 1) ws))
 
 pub types_next : (P : ℕ → Type 0) (at n k : ℕ) → n ≡ suc k → ((i : ℕ) → i < n → P (at + 2 * i))
     → P at × ((i : ℕ) → i < k → P (at + 2 + 2 * i))

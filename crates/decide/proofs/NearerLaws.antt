@@ -33,6 +33,7 @@ use Rattle.decision.proofs.Search.{by_test, any_of_none}
 use Rattle.decision.proofs.Nearness.{nearest_same}
 use Rattle.decision.specs.declared.Near.{Near}
 use Rattle.decide.specs.Inner.Parts.{rules_in, request_in, set_in, set_at}
+use Rattle.decide.specs.declared.kept.Kept.{Kept}
 use Rattle.decide.specs.Inner.Kept.{outside_in}
 use Rattle.decide.specs.Inner.Rules.{allow_at}
 use Rattle.decide.specs.Inner.Nearer.{Uncovered, off_at, other_class_at, class_stops, stops_at, short_steps, Counts, near_of, AtNearest}
@@ -79,7 +80,7 @@ module _ (l : List ℕ) (at : ℕ) where
         go true h k = false_not_true k
         go false h k = (ltb-false most 3 h, k)
 
-module _ (l : List ℕ) (at : ℕ) (ms : List Bool) (kept : List ℕ) (passed most : ℕ) where
+module _ (l : List ℕ) (at : ℕ) (ms : List Bool) (kept : List Kept) (passed most : ℕ) where
   pub stops_few : most < passed → stops_at l at ms kept passed most ≡ false
   unfolding stops_at
   stops_few h = simp (lt-ltb most passed h)

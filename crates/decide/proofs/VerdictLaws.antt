@@ -2,7 +2,7 @@
 --     front_none, front_says, front_adds   in front: nothing at first, what is read back, and one more kept
 --     written_same, written_after, left_same   what stands behind stays
 --     Turning, turning_next  the table turned before a number, and one number further
---     kept_fresh             none is kept at first
+--     tables_first, rows_first   none is kept at first
 --     recalled_first, recalled_plain, recalled_turned, recalled_refused   made right for a word, one for each way that it is
 --     tables_for, rows_after   what a query is lent, and what it leaves for the next row
 --     any_named_lem              all rules, by their records from the first on
@@ -35,12 +35,13 @@ use Rattle.decision.specs.Switches.{NoSwitches}
 use Rattle.decision.proofs.Search.{by_test, any_of_none}
 use Rattle.decision.proofs.Switches.{plain_rules}
 use Rattle.decide.specs.declared.verdicts.Held.{Held}
+use Rattle.decide.specs.declared.verdicts.Tables.{Tables}
 use Rattle.decide.specs.declared.verdicts.Verdict.{Verdict}
 use Rattle.decide.specs.Inner.Parts.{constraint_in}
 use Rattle.decide.specs.Inner.Rules.{allow_at}
 use Rattle.decide.specs.Inner.Verdicts.{verdict_of, KeptVerdicts, KeptBehind, Written, names_switch, any_named}
 use Rattle.decide.specs.Inner.Verdicts.{unasked, said, front_of, behind_of, verdict_at, Turns, Turned, first_held}
-use Rattle.decide.specs.Inner.Verdicts.{KeptUnder, KeptFor, Recalled, Tables, Left, RowTables}
+use Rattle.decide.specs.Inner.Verdicts.{KeptUnder, KeptFor, Recalled, no_tables, TablesFor, Left, RowTables}
 use Rattle.decide.proofs.ArrayLaws.{blank, by_set}
 
 -- ---- what is known of the switches
@@ -133,8 +134,12 @@ module _ (l : List ℕ) (w : ℕ) where
   pub written_after : (us vs ws : List Verdict) → Written l w us vs → Written l w vs ws → Written l w us ws
   written_after us vs ws f g = record { front = g.front; behind = λ n. g.behind n ∙ f.behind n }
 
-  pub left_same : (vs : List Verdict) (ms ns : List Bool) → Tables l w vs ms ns → Left l w vs vs ms ns
-  left_same vs ms ns t = record { tables = t; behind = λ n. refl }
+  pub left_same : (t : Tables) → TablesFor l w t → Left l w t t
+  left_same t k = record { tables = k; behind = λ n. refl }
+
+  -- the tables of a first query
+  pub tables_first : (t : Tables) → t ≡ no_tables → TablesFor l w t
+  tables_first t e = subst (TablesFor l w) (sym e) (record { verdicts = λ _. front_none; source = refl; dest = refl })
 
 -- ---- front and back changed
 
@@ -178,8 +183,11 @@ turning_next back us vs n v t m e =
 
 -- ---- made right for a word
 
-pub kept_fresh : (l : List ℕ) (h : Option Held) → h ≡ None → KeptFor l h (replicate 256 unasked)
-kept_fresh l h e = subst (λ (o : Option Held). KeptFor l o (replicate 256 unasked)) (sym e) (blank unasked 256)
+pub rows_first : (l : List ℕ) (h : Option Held) (t : Tables) → h ≡ None → t ≡ no_tables → RowTables l h t
+rows_first l h t e f =
+    subst (RowTables l h) (sym f)
+    (subst (λ (o : Option Held). RowTables l o no_tables) (sym e)
+    (record { verdicts = blank unasked 256; source = refl; dest = refl }))
 
 module _ (l : List ℕ) (w : ℕ) where
   -- nothing was kept, so what is kept is right for every word
@@ -228,27 +236,28 @@ refused_not l f e a = (let z : ◌≡◌ {A = ℕ} 0 1 = cc in omega arith)
 
 -- ---- what a query is lent, and what it leaves
 
-module _ (l : List ℕ) (w : ℕ) (h : Held) (vs : List Verdict) (r : Recalled l w h vs) where
-  pub tables_for : (h' : Option Held) (vs' : List Verdict) (ms ns : List Bool) → RowTables l h' vs' ms ns → Tables l w vs ms ns
-  tables_for h' vs' ms ns t =
+module _ (l : List ℕ) (w : ℕ) (h : Held) where
+  pub tables_for : (vs : List Verdict) → Recalled l w h vs → (o : Option Held) (t : Tables) → RowTables l o t
+      → TablesFor l w (record t { verdicts = vs })
+  tables_for vs r o t k =
       record {
         verdicts = λ a. subst (λ (x : ℕ). KeptVerdicts l x vs) r.word (r.kept a).front;
-        source = t.source;
-        dest = t.dest;
+        source = k.source;
+        dest = k.dest;
       }
 
-  pub rows_after : (vs' : List Verdict) (ms ns : List Bool) → Left l w vs vs' ms ns → RowTables l (Some h) vs' ms ns
-  rows_after vs' ms ns t =
+  pub rows_after : (t u : Tables) → Recalled l w h t.verdicts → Left l w t u → RowTables l (Some h) u
+  rows_after t u r k =
       record {
         verdicts = λ a. record {
-          front = subst (λ (x : ℕ). KeptVerdicts l x vs') (sym r.word) (t.tables.verdicts a);
+          front = subst (λ (x : ℕ). KeptVerdicts l x u.verdicts) (sym r.word) (k.tables.verdicts a);
           behind = record {
-            is = λ n m. subst (λ x. IfSome x (λ b. b ≡ verdict_of l h.other n)) (sym (t.behind n)) ((r.kept a).behind.is n m);
+            is = λ n m. subst (λ x. IfSome x (λ b. b ≡ verdict_of l h.other n)) (sym (k.behind n)) ((r.kept a).behind.is n m);
           };
           named = (r.kept a).named;
         };
-        source = t.tables.source;
-        dest = t.tables.dest;
+        source = k.tables.source;
+        dest = k.tables.dest;
       }
 
 -- ---- the rule at a place

@@ -5,8 +5,9 @@ ghost use Rattle.runs.specs.Runs.{run_of, answers_after};
 ghost use Rattle.runs.specs.Numbers.{word_from, numbers_run, codes_after};
 ghost use Rattle.runs.specs.Inner.Progress.{row_at};
 
-use crate::steps::{Begun, begin, begin_queries, decide_row};
-use crate::verdicts::Verdict;
+use crate::policy::Survey;
+use crate::steps::{Begun, begin, begin_queries};
+use crate::verdicts::Tables;
 use decision::{Answer, Query};
 use numbers::number;
 use runs::Run;
@@ -23,23 +24,16 @@ pub fn run(image: &[u8], queries: &[Query], answers: &mut [Answer]) -> Run
         sections,
         groups,
     } = begin_queries(image, queries.len(), answers.len());
-    let mut verdicts = [Verdict::UNASKED; 256];
-    let mut source = [false; 1024];
-    let mut dest = [false; 1024];
+    let surveyed = Survey {
+        image,
+        groups: &groups,
+        sections,
+    };
+    let mut tables = Tables::new();
     // by number, as a proof knows nothing of what a loop over a zip of `iter_mut` writes
     let slots = &mut answers[..rows];
     for (i, slot) in slots.iter_mut().enumerate() {
-        let s = decide_row(
-            image,
-            &groups,
-            sections,
-            queries[i],
-            &mut verdicts,
-            &mut source,
-            &mut dest,
-            progress,
-            i,
-        );
+        let s = surveyed.decide_row(queries[i], &mut tables, progress, i);
         *slot = s.answer;
         progress = s.progress;
     }
@@ -87,23 +81,16 @@ pub fn run_numbers(image: &[u8], queries: &[u16], answers: &mut [u64]) -> Run
         sections,
         groups,
     } = begin(image, rows.len(), fits);
-    let mut verdicts = [Verdict::UNASKED; 256];
-    let mut source = [false; 1024];
-    let mut dest = [false; 1024];
+    let surveyed = Survey {
+        image,
+        groups: &groups,
+        sections,
+    };
+    let mut tables = Tables::new();
     let slots = &mut answers[..count];
     for (i, slot) in slots.iter_mut().enumerate() {
         let q = query_of(&rows[i]);
-        let s = decide_row(
-            image,
-            &groups,
-            sections,
-            q,
-            &mut verdicts,
-            &mut source,
-            &mut dest,
-            progress,
-            i,
-        );
+        let s = surveyed.decide_row(q, &mut tables, progress, i);
         *slot = number(s.answer);
         progress = s.progress;
     }

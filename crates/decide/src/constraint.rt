@@ -9,7 +9,7 @@ ghost use Rattle.decide.specs.Inner.Rules.{first_constraint};
 use crate::kept::Side;
 use crate::policy::Policy;
 use crate::verdicts::Verdict;
-use crate::word::{wide, wide_word, word_in};
+use crate::word::word_in;
 use decision::Query;
 use format::header;
 
@@ -34,7 +34,7 @@ impl Policy<'_> {
         let mut second = [false; 1024];
         self.mark_at(at + 8, &mut second);
         let mut list = [false; 1024];
-        let types = (wide(self.image[at]) - 11) / 2;
+        let types = (usize::from(self.image[at]) - 11) / 2;
         self.mark_types(at + 11, types, &mut list);
         self.any_rule(&second, &list, false, switches)
     }
@@ -86,10 +86,10 @@ impl Policy<'_> {
             (Sides self.entry.image.now q source.new dest.new
             × Written self.entry.image.now q.switches verdicts.old verdicts.new) result }
     {
-        if word_in(self.image, at + 2) != wide_word(q.class) {
+        if word_in(self.image, at + 2) != usize::from(q.class) {
             return false;
         }
-        if word_in(self.image, at + 4) != wide_word(q.action) {
+        if word_in(self.image, at + 4) != usize::from(q.action) {
             return false;
         }
         if !self.inside(at + 6, q.source, source) {
@@ -125,7 +125,7 @@ impl Policy<'_> {
             if self.constraint_fails(q, source, dest, n, at, verdicts) {
                 return Some(n);
             }
-            at += wide(self.image[at]);
+            at += usize::from(self.image[at]);
         }
         None
     }

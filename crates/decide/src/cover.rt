@@ -9,7 +9,7 @@ use crate::condition::is_on;
 use crate::kept::Side;
 use crate::policy::Policy;
 use crate::rules::{is_allow, past};
-use crate::word::{wide, wide_word, word_in};
+use crate::word::word_in;
 use decision::Query;
 use format::header;
 
@@ -22,16 +22,16 @@ fn may(image: &[u8], at: usize, allow: bool, q: Query) -> bool
     if !allow {
         return true;
     }
-    if wide(image[at + 7]) != wide_word(q.class) % 256 {
+    if usize::from(image[at + 7]) != usize::from(q.class) % 256 {
         return false;
     }
     if !is_on(q.switches, image[at + 10]) {
         return false;
     }
-    if word_in(image, at + 6) != wide_word(q.class) {
+    if word_in(image, at + 6) != usize::from(q.class) {
         return false;
     }
-    word_in(image, at + 8) == wide_word(q.action)
+    word_in(image, at + 8) == usize::from(q.action)
 }
 
 impl Policy<'_> {

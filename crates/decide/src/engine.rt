@@ -2,17 +2,16 @@
 ghost use Rattle.std.specs.Prelude.{◌≡◌};
 ghost use Rattle.format.specs.Policy.{policy_of};
 ghost use Rattle.decision.specs.Decide as deciding;
-ghost use Rattle.decide.specs.Inner.Parts.{Surveyed};
 ghost use Rattle.decide.specs.Inner.Kept.{Sides, Leaves};
-ghost use Rattle.decide.specs.Inner.Verdicts.{KeptVerdicts, Written, Tables, Left};
+ghost use Rattle.decide.specs.Inner.Verdicts.{KeptVerdicts, Written, TablesFor, Left};
 
-use crate::kept::Side;
-use crate::policy::Policy;
+use crate::kept::{Kept, Side};
+use crate::policy::{Policy, Survey};
 use crate::sets::unmark_type;
-use crate::verdicts::Verdict;
-use crate::word::{wide_word, word_in};
+use crate::verdicts::{Tables, Verdict};
+use crate::word::word_in;
 use decision::{Answer, Decision, Query};
-use format::{Cause, Refusal, Starts, header};
+use format::{Cause, header};
 use image::{is_type, survey};
 
 impl Policy<'_> {
@@ -40,88 +39,68 @@ impl Policy<'_> {
 
     // The decision of an accepted policy on a query of its types. The marks are taken off again, which costs less than 1,024 new
     // ones for each query.
-    fn judge(
-        self,
-        q: Query,
-        verdicts: &mut [Verdict; 256],
-        source: &mut [bool; 1024],
-        dest: &mut [bool; 1024],
-    ) -> Decision
-        requires { deciding.Valid self.image.now q
-            × Tables self.image.now q.switches verdicts.old source.old dest.old }
+    fn judge(self, q: Query, tables: &mut Tables) -> Decision
+        requires { deciding.Valid self.image.now q × TablesFor self.image.now q.switches tables.old }
         ensures { Leaves (deciding.decide (policy_of self.entry.image.now) q)
-            (Left self.entry.image.now q.switches verdicts.old verdicts.new source.new dest.new)
-            result }
+            (Left self.entry.image.now q.switches tables.old tables.new) result }
     {
-        let from = wide_word(q.source);
-        let to = wide_word(q.dest);
-        let sources = self.mark_type(from, source);
-        let dests = self.mark_type(to, dest);
+        let from = usize::from(q.source);
+        let to = usize::from(q.dest);
+        let sources = self.mark_type(from, &mut tables.source);
+        let dests = self.mark_type(to, &mut tables.dest);
         let mut source_side = Side {
-            marks: source,
+            marks: &tables.source,
             size: sources,
-            kept: [0u8; 256],
+            kept: [Kept::Unasked; 256],
         };
         let mut dest_side = Side {
-            marks: dest,
+            marks: &tables.dest,
             size: dests,
-            kept: [0u8; 256],
+            kept: [Kept::Unasked; 256],
         };
-        let answer = self.judge_marked(q, &mut source_side, &mut dest_side, verdicts);
-        unmark_type(from, source);
-        unmark_type(to, dest);
+        let answer = self.judge_marked(q, &mut source_side, &mut dest_side, &mut tables.verdicts);
+        unmark_type(from, &mut tables.source);
+        unmark_type(to, &mut tables.dest);
         answer
     }
 }
 
-// The engine's answer on an image that `survey` has checked, with what it gave. Three tables are lent from
-// query to query: what is found of constraints, in front under this query's word, and marks, of which none is set.
-pub(crate) fn decide_surveyed(
-    image: &[u8],
-    groups: &[u16; 256],
-    sections: Result<Starts, Refusal>,
-    q: Query,
-    verdicts: &mut [Verdict; 256],
-    source: &mut [bool; 1024],
-    dest: &mut [bool; 1024],
-) -> Answer
-    requires { Surveyed image.now groups.now sections × Tables image.now q.switches verdicts.old source.old dest.old }
-    ensures { Leaves (deciding.answer image.now q)
-        (Left image.now q.switches verdicts.old verdicts.new source.new dest.new)
-        result }
-{
-    let starts = sections?;
-    let count = word_in(image, header::GROUPS_AT);
-    if !is_type(count, wide_word(q.source)) {
-        return Err(Cause::Source.at(0));
+impl Survey<'_> {
+    // The engine's answer on an image that was checked. The tables are lent from query to query: the verdicts in front are right
+    // under this query's word.
+    pub(crate) fn answer(self, q: Query, tables: &mut Tables) -> Answer
+        requires { TablesFor self.image.now q.switches tables.old }
+        ensures { Leaves (deciding.answer self.entry.image.now q)
+            (Left self.entry.image.now q.switches tables.old tables.new) result }
+    {
+        let starts = self.sections?;
+        let count = word_in(self.image, header::GROUPS_AT);
+        if !is_type(count, usize::from(q.source)) {
+            return Err(Cause::Source.at(0));
+        }
+        if !is_type(count, usize::from(q.dest)) {
+            return Err(Cause::Destination.at(0));
+        }
+        let policy = Policy {
+            image: self.image,
+            groups: self.groups,
+            starts,
+        };
+        Ok(policy.judge(q, tables))
     }
-    if !is_type(count, wide_word(q.dest)) {
-        return Err(Cause::Destination.at(0));
-    }
-    let policy = Policy {
-        image,
-        groups,
-        starts,
-    };
-    Ok(policy.judge(q, verdicts, source, dest))
 }
 
 // The engine's answer: the decision with its rule and its constraint, or refusals 1 to 9 with the place.
 pub fn decide(image: &[u8], q: Query) -> Answer
     ensures { result ≡ deciding.answer image.now q }
 {
-    let mut verdicts = [Verdict::UNASKED; 256];
-    let mut source = [false; 1024];
-    let mut dest = [false; 1024];
+    let mut tables = Tables::new();
     let mut groups = [0u16; 256];
     let sections = survey(image, &mut groups);
-    decide_surveyed(
+    let surveyed = Survey {
         image,
-        &groups,
+        groups: &groups,
         sections,
-        q,
-        &mut verdicts,
-        &mut source,
-        &mut dest,
-    )
+    };
+    surveyed.answer(q, &mut tables)
 }

@@ -8,10 +8,10 @@ ghost use Rattle.decide.specs.Inner.Rules.{allow_at};
 ghost use Rattle.decide.specs.Inner.Nearer.{off_at, other_class_at, class_stops, stops_at, On, SourceIn, short_steps, Counts};
 
 use crate::condition::is_on;
-use crate::kept::{Side, find_inside};
+use crate::kept::{Kept, Side, find_inside};
 use crate::policy::Policy;
 use crate::rules::is_allow;
-use crate::word::{wide, wide_word, word_in};
+use crate::word::word_in;
 use decision::Query;
 
 // Whether the rule at a place is an allow rule that is off under the query's word.
@@ -33,7 +33,7 @@ fn is_of_other_class(image: &[u8], at: usize, allow: bool, q: Query) -> bool
     if !allow {
         return false;
     }
-    word_in(image, at + 6) != wide_word(q.class)
+    word_in(image, at + 6) != usize::from(q.class)
 }
 
 // Whether the rule at a place passes no more steps than so many, three or more, since its class is another.
@@ -58,7 +58,7 @@ fn is_known_to_stop(image: &[u8], at: usize, side: &Side, passed: usize, most: u
     }
     // a group's number is the low byte
     if 127 < image[at] {
-        return side.kept[wide(image[at + 1])] == 1;
+        return matches!(side.kept[usize::from(image[at + 1])], Kept::No);
     }
     !side.marks[word_in(image, at)]
 }
@@ -95,7 +95,7 @@ impl Policy<'_> {
             return self.steps_past_source(at, q, dest);
         }
         let g = t - 32768;
-        if source.kept[g] == 2 {
+        if source.kept[g] == Kept::Yes {
             return self.steps_past_source(at, q, dest);
         }
         if !find_inside(self.image, self.groups, g, q.source, source) {

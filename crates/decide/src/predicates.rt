@@ -7,6 +7,7 @@ ghost use Rattle.decide.specs.Inner.Marks.{any_is, any_marked};
 ghost use Rattle.decide.specs.Inner.Kept.{KeptTest, Leaves};
 ghost use Rattle.decide.specs.Inner.Rules.{reaching_at, reaching_from};
 
+use crate::kept::Kept;
 use crate::policy::Policy;
 use crate::rules::{is_live, past};
 use crate::word::word_in;
@@ -19,7 +20,7 @@ impl Policy<'_> {
         at: usize,
         live: bool,
         reach: &[bool; 1024],
-        kreach: &mut [u8; 256],
+        kreach: &mut [Kept; 256],
     ) -> bool
         requires { RuleHere self.image.now at × KeptTest (any_marked reach.now) self.image.now kreach.old }
         ensures { Leaves (reaching_at self.entry.image.now reach.now at live)
@@ -42,8 +43,8 @@ impl Policy<'_> {
         ensures { result ≡ any_of (reaching_from reach.now (any_is source.now value)) (rules_in self.entry.image.now switches) }
     {
         let count = word_in(self.image, header::RULES_AT);
-        let mut kreach = [0u8; 256];
-        let mut ksource = [0u8; 256];
+        let mut kreach = [Kept::Unasked; 256];
+        let mut ksource = [Kept::Unasked; 256];
         let mut at = self.starts.rules;
         for _n in 0..count {
             let live = is_live(self.image, at, switches);

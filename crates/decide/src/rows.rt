@@ -3,13 +3,11 @@ ghost use Rattle.std.specs.Prelude.{◌≡◌, length};
 ghost use Rattle.decision.specs.Decide.{answer};
 ghost use Rattle.decision.specs.Numbers.{decision_code};
 ghost use Rattle.decision.specs.Rows.{query_at, rows_in, answered};
-ghost use Rattle.decide.specs.Inner.Parts.{Surveyed};
 ghost use Rattle.decide.specs.Inner.Verdicts.{RowTables};
 
-use crate::engine::decide_surveyed;
-use crate::verdicts::{Held, Verdict, recall};
+use crate::policy::Survey;
+use crate::verdicts::{Held, Tables};
 use decision::Query;
-use format::{Refusal, Starts};
 use image::survey;
 use numbers::number;
 
@@ -34,28 +32,20 @@ pub(crate) struct Told {
     pub held: Held,
 }
 
-// A row.
-fn row(
-    image: &[u8],
-    groups: &[u16; 256],
-    sections: Result<Starts, Refusal>,
-    bytes: &[u8; 12],
-    verdicts: &mut [Verdict; 256],
-    source: &mut [bool; 1024],
-    dest: &mut [bool; 1024],
-    before: Option<Held>,
-) -> Told
-    requires { Surveyed image.now groups.now sections
-        × RowTables image.now before verdicts.old source.old dest.old }
-    ensures { (result.number ≡ decision_code (answer image.now (query_at bytes.now 0)))
-        × RowTables image.now (Some result.held) verdicts.new source.new dest.new }
-{
-    let q = query_in(bytes);
-    let held = recall(image, groups, sections, verdicts, before, q.switches);
-    let answer = decide_surveyed(image, groups, sections, q, verdicts, source, dest);
-    Told {
-        number: number(answer),
-        held,
+impl Survey<'_> {
+    // A row.
+    fn row(self, bytes: &[u8; 12], tables: &mut Tables, before: Option<Held>) -> Told
+        requires { RowTables self.image.now before tables.old }
+        ensures { (result.number ≡ decision_code (answer self.entry.image.now (query_at bytes.now 0)))
+            × RowTables self.entry.image.now (Some result.held) tables.new }
+    {
+        let q = query_in(bytes);
+        let held = self.recall(&mut tables.verdicts, before, q.switches);
+        let answer = self.answer(q, tables);
+        Told {
+            number: number(answer),
+            held,
+        }
     }
 }
 
@@ -70,23 +60,17 @@ pub fn decide_all(image: &[u8], queries: &[u8], answers: &mut [u64]) -> usize
     let count = rows.len().min(answers.len());
     let mut groups = [0u16; 256];
     let sections = survey(image, &mut groups);
-    let mut verdicts = [Verdict::UNASKED; 256];
-    let mut source = [false; 1024];
-    let mut dest = [false; 1024];
+    let surveyed = Survey {
+        image,
+        groups: &groups,
+        sections,
+    };
+    let mut tables = Tables::new();
     let mut held = None;
     // by number, as a proof knows nothing of what a loop over a zip of `iter_mut` writes
     let slots = &mut answers[..count];
     for (k, slot) in slots.iter_mut().enumerate() {
-        let r = row(
-            image,
-            &groups,
-            sections,
-            &rows[k],
-            &mut verdicts,
-            &mut source,
-            &mut dest,
-            held,
-        );
+        let r = surveyed.row(&rows[k], &mut tables, held);
         *slot = r.number;
         held = Some(r.held);
     }

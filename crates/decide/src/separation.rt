@@ -6,6 +6,7 @@ ghost use Rattle.decide.specs.Inner.Parts.{RuleHere, rules_in};
 ghost use Rattle.decide.specs.Inner.Rules.{reaching_from, shares_source};
 ghost use Rattle.decide.specs.Inner.Sources.{Joined, source_at, Gathering};
 
+use crate::kept::Kept;
 use crate::marks::any_both;
 use crate::policy::Policy;
 use crate::rules::{is_live, past};
@@ -19,7 +20,7 @@ impl Policy<'_> {
         at: usize,
         live: bool,
         reach: &[bool; 1024],
-        kreach: &mut [u8; 256],
+        kreach: &mut [Kept; 256],
         marks: &mut [bool; 1024],
         done: &mut [bool; 256],
     )
@@ -47,8 +48,8 @@ impl Policy<'_> {
         let count = word_in(self.image, header::RULES_AT);
         // of the first argument, and of the second: what is kept of groups that meet it, the members of sources that reach it,
         // and the groups among these sources
-        let mut kf = [0u8; 256];
-        let mut ks = [0u8; 256];
+        let mut kf = [Kept::Unasked; 256];
+        let mut ks = [Kept::Unasked; 256];
         let mut a = [false; 1024];
         let mut b = [false; 1024];
         let mut da = [false; 256];

@@ -13,7 +13,7 @@ ghost use Rattle.decide.specs.Inner.Sources.{Joined, has, Marking};
 use crate::marks::mark;
 use crate::policy::Policy;
 use crate::types::group_span;
-use crate::word::word_in;
+use crate::word::{pairs, word, word_in};
 
 impl Policy<'_> {
     // Marks the basic types of a type, and tells how many they are.
@@ -65,12 +65,8 @@ impl Policy<'_> {
         ensures { marks.new
             ≡ mark_all marks.old (union_of (groups_in self.entry.image.now) (words_at self.entry.image.now count from)) }
     {
-        let mut at = from;
-        let mut left = count;
-        while 0 < left {
-            self.mark_type(word_in(self.image, at), marks);
-            at += 2;
-            left -= 1;
+        for field in pairs(self.image, from, count) {
+            self.mark_type(word(field), marks);
         }
     }
 }

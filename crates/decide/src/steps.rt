@@ -2,12 +2,11 @@
 ghost use Rattle.std.specs.Prelude.{◌≡◌};
 ghost use Rattle.runs.specs.Runs.{run_fault, queries_fault};
 ghost use Rattle.runs.specs.Inner.Progress.{open_fault, run_said, rows_for, next_run};
-ghost use Rattle.decide.specs.Inner.Parts.{Surveyed};
 ghost use Rattle.decide.specs.Inner.Verdicts.{RowTables};
 ghost use Rattle.decide.specs.Inner.Steps.{Begins, Stepped};
 
-use crate::engine::decide_surveyed;
-use crate::verdicts::{Held, Verdict, recall};
+use crate::policy::Survey;
+use crate::verdicts::{Held, Tables};
 use decision::{Answer, Decision, Query};
 use format::{Cause, Refusal, Starts};
 use image::survey;
@@ -99,31 +98,28 @@ fn next(run: Run, i: usize, a: Answer) -> Run
     }
 }
 
-// Row i.
-pub(crate) fn decide_row(
-    image: &[u8],
-    groups: &[u16; 256],
-    sections: Result<Starts, Refusal>,
-    q: Query,
-    verdicts: &mut [Verdict; 256],
-    source: &mut [bool; 1024],
-    dest: &mut [bool; 1024],
-    progress: Progress,
-    i: usize,
-) -> Step
-    requires { Surveyed image.now groups.now sections
-        × RowTables image.now progress.held verdicts.old source.old dest.old }
-    ensures { Stepped image.now q progress.run i result
-        × RowTables image.now result.progress.held verdicts.new source.new dest.new }
-{
-    let run = progress.run;
-    let held = recall(image, groups, sections, verdicts, progress.held, q.switches);
-    let answer = decide_surveyed(image, groups, sections, q, verdicts, source, dest);
-    Step {
-        answer,
-        progress: Progress {
-            run: next(run, i, answer),
-            held: Some(held),
-        },
+impl Survey<'_> {
+    // Row i.
+    pub(crate) fn decide_row(
+        self,
+        q: Query,
+        tables: &mut Tables,
+        progress: Progress,
+        i: usize,
+    ) -> Step
+        requires { RowTables self.image.now progress.held tables.old }
+        ensures { Stepped self.entry.image.now q progress.run i result
+            × RowTables self.entry.image.now result.progress.held tables.new }
+    {
+        let run = progress.run;
+        let held = self.recall(&mut tables.verdicts, progress.held, q.switches);
+        let answer = self.answer(q, tables);
+        Step {
+            answer,
+            progress: Progress {
+                run: next(run, i, answer),
+                held: Some(held),
+            },
+        }
     }
 }

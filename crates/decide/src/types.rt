@@ -5,7 +5,7 @@ ghost use Rattle.format.specs.Format.{count_of};
 ghost use Rattle.decide.specs.Inner.Parts.{Known, TypeAt, Spans, group_set, set_at};
 
 use crate::policy::Policy;
-use crate::word::{wide, wide_word, word_in};
+use crate::word::word_in;
 
 // A part of the image that holds basic types, so many from a place on.
 #[derive(Clone, Copy)]
@@ -19,10 +19,10 @@ pub(crate) fn group_span(image: &[u8], groups: &[u16; 256], g: usize) -> Span
     requires { Known image.now groups.now × (g < count_of image.now Groups) }
     ensures { Spans image.now result.from result.count (group_set image.now g) }
 {
-    let at = wide_word(groups[g]);
+    let at = usize::from(groups[g]);
     Span {
         from: at + 2,
-        count: (wide(image[at]) - 2) / 2,
+        count: (usize::from(image[at]) - 2) / 2,
     }
 }
 

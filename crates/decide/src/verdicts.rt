@@ -2,13 +2,14 @@
 // row, and behind for that of the word before.
 ghost use Rattle.std.specs.Prelude.{◌≡◌};
 ghost use Rattle.format.specs.Policy.{record_at};
-ghost use Rattle.decide.specs.Inner.Parts.{Ready, RuleHere, Surveyed};
+ghost use Rattle.decide.specs.Inner.Parts.{RuleHere};
 ghost use Rattle.decide.specs.Inner.Rules.{allow_at};
 ghost use Rattle.decide.specs.Inner.Verdicts.{names_switch, any_named, Turned, first_held, KeptFor, Recalled};
 
+use crate::policy::{Policy, Survey};
 use crate::rules::{is_allow, past};
 use crate::word::word_in;
-use format::{Refusal, Starts, header};
+use format::header;
 
 // What the rules say of one constraint, under each of the two words: whether they break its predicate, where they were asked.
 // Each is 0 for nothing, 1 for no or 2 for yes, that in front the remainder by 4 and that behind the quotient: two Options take
@@ -46,6 +47,29 @@ impl Verdict {
     }
 }
 
+// What is lent from query to query: the verdicts on constraints, and marks for a source and a destination, of which none is set.
+#[derive(Drop)]
+pub(crate) struct Tables {
+    pub verdicts: [Verdict; 256],
+    pub source: [bool; 1024],
+    pub dest: [bool; 1024],
+}
+
+impl Tables {
+    ghost use Rattle.decide.specs.Inner.Verdicts.{no_tables};
+
+    // Those of a first query: nothing is kept.
+    pub(crate) fn new() -> Tables
+        ensures { result ≡ no_tables }
+    {
+        Tables {
+            verdicts: [Verdict::UNASKED; 256],
+            source: [false; 1024],
+            dest: [false; 1024],
+        }
+    }
+}
+
 // The word that the verdicts in front are right for, and that of those behind; and whether a rule names a switch, once the rules
 // were asked. Before the first row there is none.
 #[derive(Clone, Copy)]
@@ -61,23 +85,6 @@ fn is_switched(image: &[u8], at: usize, allow: bool) -> bool
     ensures { result ≡ names_switch (record_at image.now at) }
 {
     allow && 1 < image[at + 10]
-}
-
-// Whether a rule of the policy names a switch.
-fn any_switched(image: &[u8], groups: &[u16; 256], s: Starts) -> bool
-    requires { Ready image.now groups.now s }
-    ensures { result ≡ any_named image.now }
-{
-    let count = word_in(image, header::RULES_AT);
-    let mut at = s.rules;
-    for _n in 0..count {
-        let allow = is_allow(image, at);
-        if is_switched(image, at, allow) {
-            return true;
-        }
-        at = past(image, at, allow);
-    }
-    false
 }
 
 // What stands in front put behind in the whole table, and in front what stands behind, or nothing.
@@ -100,56 +107,73 @@ fn first_held(switches: u32) -> Held
     }
 }
 
-// Makes the verdicts in front right for a word, on an accepted policy. Where they are kept under another one, they stay if no
-// rule names a switch, which the rules are asked at most once; else they go behind, and those there come in front, if they are
-// this word's.
-fn recall_at(
-    image: &[u8],
-    groups: &[u16; 256],
-    s: Starts,
-    verdicts: &mut [Verdict; 256],
-    held: Option<Held>,
-    switches: u32,
-) -> Held
-    requires { Ready image.now groups.now s × KeptFor image.now held verdicts.old }
-    ensures { Recalled image.now switches result verdicts.new }
-{
-    let Some(held) = held else {
-        return first_held(switches);
-    };
-    if held.word == switches {
-        return held;
+impl Policy<'_> {
+    // Whether a rule names a switch.
+    fn any_switched(self) -> bool
+        ensures { result ≡ any_named self.entry.image.now }
+    {
+        let count = word_in(self.image, header::RULES_AT);
+        let mut at = self.starts.rules;
+        for _n in 0..count {
+            let allow = is_allow(self.image, at);
+            if is_switched(self.image, at, allow) {
+                return true;
+            }
+            at = past(self.image, at, allow);
+        }
+        false
     }
-    let named = match held.named {
-        Some(named) => named,
-        None => any_switched(image, groups, s),
-    };
-    let mut other = held.other;
-    if named {
-        turn(verdicts, held.other == switches);
-        other = held.word;
-    }
-    Held {
-        word: switches,
-        other,
-        named: Some(named),
+
+    // Makes the verdicts in front right for a word. Where they are kept under another one, they stay if no rule names a switch,
+    // which the rules are asked at most once; else they go behind, and those there come in front, if they are this word's.
+    fn recall_at(self, verdicts: &mut [Verdict; 256], held: Option<Held>, switches: u32) -> Held
+        requires { KeptFor self.image.now held verdicts.old }
+        ensures { Recalled self.entry.image.now switches result verdicts.new }
+    {
+        let Some(held) = held else {
+            return first_held(switches);
+        };
+        if held.word == switches {
+            return held;
+        }
+        let named = match held.named {
+            Some(named) => named,
+            None => self.any_switched(),
+        };
+        let mut other = held.other;
+        if named {
+            turn(verdicts, held.other == switches);
+            other = held.word;
+        }
+        Held {
+            word: switches,
+            other,
+            named: Some(named),
+        }
     }
 }
 
-// The same on an image that `survey` has checked: nothing is kept of a refused one.
-pub(crate) fn recall(
-    image: &[u8],
-    groups: &[u16; 256],
-    sections: Result<Starts, Refusal>,
-    verdicts: &mut [Verdict; 256],
-    held: Option<Held>,
-    switches: u32,
-) -> Held
-    requires { Surveyed image.now groups.now sections × KeptFor image.now held verdicts.old }
-    ensures { Recalled image.now switches result verdicts.new }
-{
-    match sections {
-        Err(_) => first_held(switches),
-        Ok(s) => recall_at(image, groups, s, verdicts, held, switches),
+impl Survey<'_> {
+    // The same on an image that was checked: nothing is kept of a refused one.
+    pub(crate) fn recall(
+        self,
+        verdicts: &mut [Verdict; 256],
+        held: Option<Held>,
+        switches: u32,
+    ) -> Held
+        requires { KeptFor self.image.now held verdicts.old }
+        ensures { Recalled self.entry.image.now switches result verdicts.new }
+    {
+        match self.sections {
+            Err(_) => first_held(switches),
+            Ok(starts) => {
+                let policy = Policy {
+                    image: self.image,
+                    groups: self.groups,
+                    starts,
+                };
+                policy.recall_at(verdicts, held, switches)
+            }
+        }
     }
 }

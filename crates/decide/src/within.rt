@@ -9,7 +9,7 @@ use crate::halves::is_among;
 use crate::kept::Side;
 use crate::marks::fully_marked;
 use crate::types::{Span, group_span};
-use crate::word::{wide_word, word_in};
+use crate::word::word_in;
 
 // Whether a side, of a type, is within a part. A basic type is looked for. Of a group the ends are compared first, and then its
 // marks are counted. It is no method, since `find_inside` (kept.rt) is none.
@@ -17,7 +17,7 @@ pub(crate) fn is_within(image: &[u8], groups: &[u16; 256], outer: Span, t: u16, 
     requires { Known image.now groups.now × Part image.now outer.from outer.count × SideOf image.now t side.now }
     ensures { result ≡ within (set_in image.now t) (words_at image.now outer.count outer.from) }
 {
-    let inner = wide_word(t);
+    let inner = usize::from(t);
     if inner < 32768 {
         return is_among(image, outer.from, outer.count, inner);
     }

@@ -4,18 +4,6 @@ ghost use Rattle.std.specs.Int.{w16, from_be_bytes};
 ghost use Rattle.format.specs.Bytes.{word_at};
 ghost use Rattle.format.specs.Inner.Places.{words_at};
 
-pub(crate) fn wide(x: u8) -> usize
-    ensures { (result ≡ x) × (result < 256) }
-{
-    usize::from(x)
-}
-
-pub(crate) fn wide_word(x: u16) -> usize
-    ensures { result ≡ x }
-{
-    usize::from(x)
-}
-
 // The 2-byte number at a place that has two bytes: `image::word_at` without its tests, which DECISIONS 12 has the cost of. By
 // `u16::from_be_bytes`, which turns 16 bits round, decisions take up to a tenth longer.
 #[tactic(auto, using(format::proofs::Bytes::word_at_lem))]

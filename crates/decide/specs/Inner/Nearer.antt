@@ -21,6 +21,7 @@ use Rattle.decision.specs.Reading.{Rule, Request, rule_of}
 use Rattle.decision.specs.Decide.{tests, covers, passes, nearest, Nearest}
 use Rattle.decision.specs.Inner.OnePass.{nearest_from}
 use Rattle.decision.specs.declared.Near.{Near}
+use Rattle.decide.specs.declared.kept.Kept.{Kept}
 use Rattle.decide.specs.declared.nearest.Next.{Next}
 use Rattle.decide.specs.Inner.Parts.{RuleHere, rules_in, rule_in, request_in, set_in, set_at}
 use Rattle.decide.specs.Inner.Kept.{outside_in}
@@ -39,7 +40,7 @@ other_class_at l at class = cond (allow_at l at) (not (eqb (word_at l (at + 6)) 
 unfoldable pub class_stops : List ℕ → ℕ → ℕ → ℕ → Bool
 class_stops l at class most = cond (ltb most 3) false (other_class_at l at class)
 
-unfoldable pub stops_at : List ℕ → ℕ → List Bool → List ℕ → ℕ → ℕ → Bool
+unfoldable pub stops_at : List ℕ → ℕ → List Bool → List Kept → ℕ → ℕ → Bool
 stops_at l at ms kept passed most = cond (ltb most passed) false (outside_in ms kept (word_at l at))
 
 unfoldable pub short_steps : Request → Rule → ℕ

@@ -11,6 +11,7 @@ use Rattle.format.specs.declared.Section.TheVariants.{Rules}
 use Rattle.format.specs.Policy.{policy_of}
 use Rattle.decision.specs.Sets.{any_of, is_in}
 use Rattle.decision.specs.Reading.{Rule, rule_of}
+use Rattle.decide.specs.declared.kept.Kept.{Kept}
 use Rattle.decide.specs.Inner.Parts.{rules_in, group_set, set_at}
 use Rattle.decide.specs.Inner.Marks.{any_marked}
 use Rattle.decide.specs.Inner.Kept.{KeptTest}
@@ -33,7 +34,7 @@ pub record Marking (l : List ℕ) (ns done : List Bool) : Type 0 where
   pub all : length ns ≡ 1024
   pub marked : (g : ℕ) → get_or done g false ≡ true → (m : ℕ) → is_in m (group_set l g) ≡ true → get_or ns m false ≡ true
 
-pub record Gathering (l : List ℕ) (ms : List Bool) (kr : List ℕ) (ns done : List Bool) : Type 0 where
+pub record Gathering (l : List ℕ) (ms : List Bool) (kr : List Kept) (ns done : List Bool) : Type 0 where
   pub reach : KeptTest (any_marked ms) l kr
   pub marking : Marking l ns done
 

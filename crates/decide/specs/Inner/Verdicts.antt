@@ -12,9 +12,10 @@
 --     KeptUnder l h vs         what is kept is right for the words of h, and so is what h says of the switches; KeptFor l h vs: it is so
 --                              on an accepted policy, and before the first row nothing is kept
 --     Recalled l w h vs        the same, and the word in front is w
---     Tables l w vs ms ns      what is lent to a query under the word w: verdicts, and marks for a source and a destination, none of
---                              them set; Left l w us vs ms ns: what it leaves of them; RowTables l h vs ms ns: from row to row
-use Rattle.std.specs.Prelude.{ℕ, zero, suc, ◌/◌, ◌%◌, ◌<◌, ◌≡◌, Bool, ◌&&◌, cond, List, get_or, eqb, leb}
+--     no_tables                the tables lent to a first query
+--     TablesFor l w t          the tables t are lent to a query under the word w: verdicts in front, and no mark is set
+--     Left l w t u             what it leaves of them; RowTables l h t: from row to row
+use Rattle.std.specs.Prelude.{ℕ, zero, suc, ◌/◌, ◌%◌, ◌<◌, ◌≡◌, Bool, ◌&&◌, cond, List, get_or, replicate, eqb, leb}
 use Rattle.std.specs.Prelude.{Option, Some, None, MatchOption, IfSome}
 use Rattle.format.specs.declared.Section.TheVariants.{Constraints}
 use Rattle.format.specs.Policy.{policy_of, place_of}
@@ -22,6 +23,7 @@ use Rattle.format.specs.Check.{Accepted}
 use Rattle.decision.specs.Sets.{any_of}
 use Rattle.decision.specs.Decide.{broken}
 use Rattle.decide.specs.declared.verdicts.Held.{Held}
+use Rattle.decide.specs.declared.verdicts.Tables.{Tables}
 use Rattle.decide.specs.declared.verdicts.Verdict.{Verdict}
 use Rattle.decide.specs.Inner.Parts.{rules_in, constraint_in}
 use Rattle.decide.specs.Inner.Marks.{no_marks}
@@ -83,16 +85,19 @@ pub record Recalled (l : List ℕ) (w : ℕ) (h : Held) (vs : List Verdict) : Ty
   pub kept : Accepted l → KeptUnder l h vs
   pub word : h.word ≡ w
 
-pub record Tables (l : List ℕ) (w : ℕ) (vs : List Verdict) (ms ns : List Bool) : Type 0 where
-  pub verdicts : Accepted l → KeptVerdicts l w vs
-  pub source : ms ≡ no_marks
-  pub dest : ns ≡ no_marks
+abbrev pub no_tables : Tables
+no_tables = record { verdicts = replicate 256 unasked; source = no_marks; dest = no_marks }
 
-pub record Left (l : List ℕ) (w : ℕ) (us vs : List Verdict) (ms ns : List Bool) : Type 0 where
-  pub tables : Tables l w vs ms ns
-  pub behind : (n : ℕ) → behind_of (verdict_at vs n) ≡ behind_of (verdict_at us n)
+pub record TablesFor (l : List ℕ) (w : ℕ) (t : Tables) : Type 0 where
+  pub verdicts : Accepted l → KeptVerdicts l w t.verdicts
+  pub source : t.source ≡ no_marks
+  pub dest : t.dest ≡ no_marks
 
-pub record RowTables (l : List ℕ) (h : Option Held) (vs : List Verdict) (ms ns : List Bool) : Type 0 where
-  pub verdicts : KeptFor l h vs
-  pub source : ms ≡ no_marks
-  pub dest : ns ≡ no_marks
+pub record Left (l : List ℕ) (w : ℕ) (t u : Tables) : Type 0 where
+  pub tables : TablesFor l w u
+  pub behind : (n : ℕ) → behind_of (verdict_at u.verdicts n) ≡ behind_of (verdict_at t.verdicts n)
+
+pub record RowTables (l : List ℕ) (h : Option Held) (t : Tables) : Type 0 where
+  pub verdicts : KeptFor l h t.verdicts
+  pub source : t.source ≡ no_marks
+  pub dest : t.dest ≡ no_marks

@@ -11,7 +11,7 @@ use Rattle.runs.proofs.Progress.{out_at, out_none, out_next, rows_most, rows_dec
 use Rattle.decide.specs.declared.steps.Step.{Step}
 use Rattle.decide.specs.Inner.Steps.{Stepped}
 use Rattle.decide.proofs.ArrayLaws.{fill_front}
-use Rattle.decide.proofs.VerdictLaws.{kept_fresh}
+use Rattle.decide.proofs.VerdictLaws.{rows_first}
 use Rattle.decide.proofs.batch.run.Goals as goal
 use Rattle.format.specs.Answers.{Outcome}
 use Rattle.decision.specs.declared.Decision.{Decision}
@@ -62,7 +62,7 @@ loop-i-init c =
     record {
       ran = begun.run ∙ out_none l (queries_fault l (length qs) (length c.args.answers.now)) qs;
       are = refl;
-      kept = record { verdicts = kept_fresh _ _ begun.fresh; source = refl; dest = refl };
+      kept = rows_first _ _ _ begun.fresh c.new-tables.ensures;
     }
 
 pub loop-i-preserved : goal.loop-i-preserved

@@ -12,7 +12,7 @@ use Rattle.runs.proofs.Fill.{fill}
 use Rattle.runs.proofs.Progress.{out_none, ran_numbers, wrote_numbers}
 use Rattle.decide.specs.Inner.Steps.{Stepped}
 use Rattle.decide.proofs.ArrayLaws.{fill_front}
-use Rattle.decide.proofs.VerdictLaws.{kept_fresh}
+use Rattle.decide.proofs.VerdictLaws.{rows_first}
 use Rattle.decide.proofs.NumberLaws.{fault, codes, out, begun_numbers, row_run, row_code_lem, rows_few, row_here}
 use Rattle.decide.proofs.batch.run_numbers.Goals as goal
 
@@ -35,7 +35,7 @@ loop-i-init c =
     record {
       ran = begins.run ∙ out_none _ (fault c.args.image.now c.args.queries.now c.args.answers.now) (rows_of c.args.queries.now);
       are = refl;
-      kept = record { verdicts = kept_fresh _ _ begins.fresh; source = refl; dest = refl };
+      kept = rows_first _ _ _ begins.fresh c.new-tables.ensures;
     }
 
 pub bounds-rows-i : goal.bounds-rows-i
@@ -47,11 +47,11 @@ bounds-rows-i c =
     let long = length-take-le _ c.args.answers.now few.1 in
     omega (arith, long, few.0, rows_many ns, c.as_chunks.ensures.front_len)
 
-pub decide_row-s-requires : goal.decide_row-s-requires
-decide_row-s-requires c =
+pub invariant_of-surveyed : goal.invariant_of-surveyed
+invariant_of-surveyed c =
     let begins = begun_numbers c.args.image.now c.args.queries.now c.args.answers.now _ _ _ c.six_each-fits.ensures
     c.as_chunks.ensures.front_len c.begin-count.ensures in
-    (begins.surveyed, c.loop-i.invariant.kept)
+    record { surveyed = begins.surveyed }
 
 pub loop-i-preserved : goal.loop-i-preserved
 loop-i-preserved c =

@@ -1,12 +1,15 @@
--- `keep` meets its contract: 1 more than the bit is stored. Assumes nothing.
-use mathlib.Core.Path.{refl, sym}
-use Rattle.decide.specs.Inner.Kept.{bit}
+-- `keep` meets its contract. Assumes nothing.
+use mathlib.Core.Path.{refl}
+use Rattle.decide.specs.Inner.Kept.{said}
 use Rattle.decide.proofs.kept.keep.Goals as goal
-
-pub returns-then-found : goal.returns-then-found
-unfolding bit
-returns-then-found c = (sym c.if-found.true, rw c.if-found.true refl)
+use Rattle.decide.proofs.kept.keep.Goals.{then-found, else-found}
 
 pub returns : goal.returns
-unfolding bit
-returns c = (sym c.if-found.false, rw c.if-found.false refl)
+unfolding said
+returns c = (
+  refl,
+  elim c.if-found.branch [
+    | then-found w ↦ rw (w.kept-is, w.if-found.true) refl
+    | else-found w ↦ rw (w.kept-is, w.if-found.false) refl
+  ],
+)

@@ -4,10 +4,11 @@ use Prim.Native.Nat.{◌+◌, ◌<◌}
 use mathlib.Core.Path.{refl, sym, ap, ◌∙◌}
 use mathlib.Core.Bool.{false, not}
 use lib.ListN.{get_or}
-use lib.Dec.{eqb}
 use Rattle.format.specs.Bytes.{word_at}
+use Rattle.decide.specs.declared.kept.Kept.TheVariants.{Unasked}
+use Rattle.decide.specs.Inner.Kept.{says_no}
 use Rattle.decide.proofs.TypeLaws.{type_basic, type_small}
-use Rattle.decide.proofs.KeptLaws.{outside_basic, outside_group}
+use Rattle.decide.proofs.KeptLaws.{no_says, says_no_not, outside_basic, outside_group}
 use Rattle.decide.proofs.NearerLaws.{stops_few, stops_known, high_group, high_basic}
 use Rattle.decide.proofs.passes.is_known_to_stop.Goals as goal
 
@@ -20,10 +21,18 @@ bounds-image-at c = omega (arith, c.requires.1.room)
 pub bounds-image-at-then-image-at-gt127 : goal.bounds-image-at-then-image-at-gt127
 bounds-image-at-then-image-at-gt127 c = omega (arith, c.requires.1.room)
 
-pub returns-then-image-at-gt127 : goal.returns-then-image-at-gt127
-returns-then-image-at-gt127 c =
+pub returns-in-No : goal.returns-in-No
+returns-in-No c =
     let g = high_group _ _ (type_small _ _ _ refl c.requires.0 c.requires.1.is) (omega (arith, c.if-image-at-gt127.true)) in
-    ap (λ i. eqb (get_or c.args.side.now.kept i 0) 1) (c.wide.ensures.0 ∙ sym g.1)
+    no_says _ c.in-No.is
+    ∙ ap (λ i. says_no (get_or c.args.side.now.kept i Unasked)) (c.from.ensures ∙ sym g.1)
+    ∙ sym (stops_known _ _ _ _ _ _ c.if-most-passed.false ∙ outside_group _ _ _ g.0)
+
+pub returns-in_default : goal.returns-in_default
+returns-in_default c =
+    let g = high_group _ _ (type_small _ _ _ refl c.requires.0 c.requires.1.is) (omega (arith, c.if-image-at-gt127.true)) in
+    says_no_not _ c.in_default.not-No
+    ∙ ap (λ i. says_no (get_or c.args.side.now.kept i Unasked)) (c.from.ensures ∙ sym g.1)
     ∙ sym (stops_known _ _ _ _ _ _ c.if-most-passed.false ∙ outside_group _ _ _ g.0)
 
 pub word_in-requires : goal.word_in-requires
@@ -42,6 +51,6 @@ returns c =
     ap (λ i. not (get_or c.args.side.now.marks.now i false)) c.word_in.ensures.0
     ∙ sym (stops_known _ _ _ _ _ _ c.if-most-passed.false ∙ outside_basic _ _ _ basic)
 
-pub bounds-side-wide : goal.bounds-side-wide
-bounds-side-wide c =
-    omega (arith, c.wide.ensures.1)
+pub bounds : goal.bounds
+bounds c =
+    omega (arith, c.from.ensures)

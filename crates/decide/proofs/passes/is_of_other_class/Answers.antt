@@ -10,5 +10,5 @@ returns-then-not-allow c = sym (other_no _ _ (sym c.requires.1 ∙ c.if-not-allo
 
 pub returns : goal.returns
 returns c =
-    ap₂ (λ a b. not (eqb a b)) c.word_in.ensures.0 c.wide_word.ensures
+    ap₂ (λ a b. not (eqb a b)) c.word_in.ensures.0 c.from.ensures
     ∙ sym (other_yes _ _ (sym c.requires.1 ∙ c.if-not-allow.false) _)

@@ -7,8 +7,7 @@ use Rattle.std.proofs.lemmas.List.{length-take}
 use Rattle.decision.specs.Decide.{answer}
 use Rattle.decision.specs.Numbers.{decision_code}
 use Rattle.image.proofs.SurveyLaws.{survey_placed}
-use Rattle.decide.specs.Inner.Verdicts.{unasked}
-use Rattle.decide.proofs.ArrayLaws.{blank}
+use Rattle.decide.proofs.VerdictLaws.{rows_first}
 use Rattle.decide.proofs.RowLaws.{rows_next, row_query, rows_end}
 use Rattle.decide.proofs.rows.decide_all.Goals as goal
 
@@ -16,12 +15,13 @@ pub loop-k-init : goal.loop-k-init
 loop-k-init c =
     record {
       are = refl;
-      kept = record { verdicts = blank unasked 256; source = refl; dest = refl };
+      kept = rows_first _ _ _ refl c.new-tables.ensures;
     }
 
-pub row-r-requires : goal.row-r-requires
-row-r-requires c = let k = c.survey-sections.ensures in
-    (record { sections = k.sections; placed = survey_placed _ _ _ _ k }, c.loop-k.invariant.kept)
+pub invariant_of-surveyed : goal.invariant_of-surveyed
+invariant_of-surveyed c =
+    let k = c.survey-sections.ensures in
+    record { surveyed = record { sections = k.sections; placed = survey_placed _ _ _ _ k } }
 
 pub loop-k-preserved : goal.loop-k-preserved
 loop-k-preserved c =

@@ -15,21 +15,21 @@ bounds-groups-g c = omega (arith, c.requires.1, few_groups _ c.requires.0.accept
 
 pub overflow_add-result : goal.overflow_add-result
 overflow_add-result c =
-    let placed : GroupAt c.args.image.now c.wide_word-at.result (get_or (groups_in c.args.image.now) c.args.g []) =
-    rw c.wide_word-at.ensures (group_placed _ _ _ c.requires.0 c.requires.1) in
+    let placed : GroupAt c.args.image.now c.from-at.result (get_or (groups_in c.args.image.now) c.args.g []) =
+    rw c.from-at.ensures (group_placed _ _ _ c.requires.0 c.requires.1) in
     let g = placed in omega (arith, g.here.some, g.here.inside)
 
 pub bounds-image-at : goal.bounds-image-at
 bounds-image-at c =
-    let placed : GroupAt c.args.image.now c.wide_word-at.result (get_or (groups_in c.args.image.now) c.args.g []) =
-    rw c.wide_word-at.ensures (group_placed _ _ _ c.requires.0 c.requires.1) in
+    let placed : GroupAt c.args.image.now c.from-at.result (get_or (groups_in c.args.image.now) c.args.g []) =
+    rw c.from-at.ensures (group_placed _ _ _ c.requires.0 c.requires.1) in
     let g = placed in omega (arith, g.here.some, g.here.inside)
 
 pub overflow_sub-result : goal.overflow_sub-result
 overflow_sub-result c =
-    let placed : GroupAt c.args.image.now c.wide_word-at.result (get_or (groups_in c.args.image.now) c.args.g []) =
-    rw c.wide_word-at.ensures (group_placed _ _ _ c.requires.0 c.requires.1) in
-    let g = placed in omega (arith, g.here.some, g.here.size, c.wide.ensures.0)
+    let placed : GroupAt c.args.image.now c.from-at.result (get_or (groups_in c.args.image.now) c.args.g []) =
+    rw c.from-at.ensures (group_placed _ _ _ c.requires.0 c.requires.1) in
+    let g = placed in omega (arith, g.here.some, g.here.size, c.from.ensures)
 
 pub returns : goal.returns
-returns c = group_span_is _ _ _ c.requires.0 c.requires.1 _ _ c.wide_word-at.ensures c.wide.ensures.0
+returns c = group_span_is _ _ _ c.requires.0 c.requires.1 _ _ c.from-at.ensures c.from.ensures

@@ -11,20 +11,20 @@ use Rattle.decide.proofs.VerdictLaws.{front_says, front_adds, written_same}
 use Rattle.decide.proofs.ConstraintLaws.{fails_class, fails_action, fails_first, fails_second, fails_broken}
 use Rattle.decide.proofs.policy.Policy.constraint_fails.Goals as goal
 
-pub returns-then-word_in-wide_word : goal.returns-then-word_in-wide_word
-returns-then-word_in-wide_word c = record {
+pub returns-then-word_in-from : goal.returns-then-word_in-from
+returns-then-word_in-from c = record {
   is = sym (fails_class _ _ _ c.requires.1.here _
-      (λ e. c.if-word_in-wide_word.true (c.word_in.ensures.0 ∙ e ∙ sym c.wide_word.ensures)));
+      (λ e. c.if-word_in-from.true (c.word_in.ensures.0 ∙ e ∙ sym c.from.ensures)));
   kept = (c.requires.0, written_same _ _ _ c.requires.2);
 }
 
-pub returns-then-word_in-wide_word-2 : goal.returns-then-word_in-wide_word-2
-returns-then-word_in-wide_word-2 c =
+pub returns-then-word_in-from-2 : goal.returns-then-word_in-from-2
+returns-then-word_in-from-2 c =
     let same_class : word_at c.args.self.image.now (c.args.at + 2) ≡ c.args.q.class =
-    sym c.word_in.ensures.0 ∙ c.if-word_in-wide_word.false ∙ c.wide_word.ensures in
+    sym c.word_in.ensures.0 ∙ c.if-word_in-from.false ∙ c.from.ensures in
     record {
       is = sym (fails_action _ _ _ c.requires.1.here _ same_class
-          (λ e. c.if-word_in-wide_word-2.true (c.word_in-2.ensures.0 ∙ e ∙ sym c.wide_word-2.ensures)));
+          (λ e. c.if-word_in-from-2.true (c.word_in-2.ensures.0 ∙ e ∙ sym c.from-2.ensures)));
       kept = (c.requires.0, written_same _ _ _ c.requires.2);
     }
 
@@ -34,9 +34,9 @@ inside-requires c = (constraint_first _ _ _ c.requires.1.here, c.requires.0.sour
 pub returns-then-not-inside : goal.returns-then-not-inside
 returns-then-not-inside c =
     let same_class : word_at c.args.self.image.now (c.args.at + 2) ≡ c.args.q.class =
-    sym c.word_in.ensures.0 ∙ c.if-word_in-wide_word.false ∙ c.wide_word.ensures in
+    sym c.word_in.ensures.0 ∙ c.if-word_in-from.false ∙ c.from.ensures in
     let same_action : word_at c.args.self.image.now (c.args.at + 4) ≡ c.args.q.action =
-    sym c.word_in-2.ensures.0 ∙ c.if-word_in-wide_word-2.false ∙ c.wide_word-2.ensures in
+    sym c.word_in-2.ensures.0 ∙ c.if-word_in-from-2.false ∙ c.from-2.ensures in
     let first_told : within (set_in c.args.self.image.now c.args.q.source) (set_at c.args.self.image.now (c.args.at + 6))
     ≡ c.inside.result = sym c.inside.ensures.is in
     record {
@@ -50,9 +50,9 @@ inside-requires-2 c = (constraint_second _ _ _ c.requires.1.here, c.requires.0.d
 pub returns-then-not-inside-2 : goal.returns-then-not-inside-2
 returns-then-not-inside-2 c =
     let same_class : word_at c.args.self.image.now (c.args.at + 2) ≡ c.args.q.class =
-    sym c.word_in.ensures.0 ∙ c.if-word_in-wide_word.false ∙ c.wide_word.ensures in
+    sym c.word_in.ensures.0 ∙ c.if-word_in-from.false ∙ c.from.ensures in
     let same_action : word_at c.args.self.image.now (c.args.at + 4) ≡ c.args.q.action =
-    sym c.word_in-2.ensures.0 ∙ c.if-word_in-wide_word-2.false ∙ c.wide_word-2.ensures in
+    sym c.word_in-2.ensures.0 ∙ c.if-word_in-from-2.false ∙ c.from-2.ensures in
     let first_told : within (set_in c.args.self.image.now c.args.q.source) (set_at c.args.self.image.now (c.args.at + 6))
     ≡ c.inside.result = sym c.inside.ensures.is in
     let second_told : within (set_in c.args.self.image.now c.args.q.dest) (set_at c.args.self.image.now (c.args.at + 8))
@@ -69,9 +69,9 @@ returns-then-not-inside-2 c =
 pub returns-in-Some : goal.returns-in-Some
 returns-in-Some c =
     let same_class : word_at c.args.self.image.now (c.args.at + 2) ≡ c.args.q.class =
-    sym c.word_in.ensures.0 ∙ c.if-word_in-wide_word.false ∙ c.wide_word.ensures in
+    sym c.word_in.ensures.0 ∙ c.if-word_in-from.false ∙ c.from.ensures in
     let same_action : word_at c.args.self.image.now (c.args.at + 4) ≡ c.args.q.action =
-    sym c.word_in-2.ensures.0 ∙ c.if-word_in-wide_word-2.false ∙ c.wide_word-2.ensures in
+    sym c.word_in-2.ensures.0 ∙ c.if-word_in-from-2.false ∙ c.from-2.ensures in
     let first_told : within (set_in c.args.self.image.now c.args.q.source) (set_at c.args.self.image.now (c.args.at + 6))
     ≡ c.inside.result = sym c.inside.ensures.is in
     let second_told : within (set_in c.args.self.image.now c.args.q.dest) (set_at c.args.self.image.now (c.args.at + 8))
@@ -99,9 +99,9 @@ returns c =
     ≡ verdict_of c.args.self.image.now c.args.q.switches c.args.n =
     ap (λ x. broken (rules_in c.args.self.image.now c.args.q.switches) (constraint_in c.args.self.image.now x)) c.requires.1.place in
     let same_class : word_at c.args.self.image.now (c.args.at + 2) ≡ c.args.q.class =
-    sym c.word_in.ensures.0 ∙ c.if-word_in-wide_word.false ∙ c.wide_word.ensures in
+    sym c.word_in.ensures.0 ∙ c.if-word_in-from.false ∙ c.from.ensures in
     let same_action : word_at c.args.self.image.now (c.args.at + 4) ≡ c.args.q.action =
-    sym c.word_in-2.ensures.0 ∙ c.if-word_in-wide_word-2.false ∙ c.wide_word-2.ensures in
+    sym c.word_in-2.ensures.0 ∙ c.if-word_in-from-2.false ∙ c.from-2.ensures in
     let first_told : within (set_in c.args.self.image.now c.args.q.source) (set_at c.args.self.image.now (c.args.at + 6))
     ≡ c.inside.result = sym c.inside.ensures.is in
     let second_told : within (set_in c.args.self.image.now c.args.q.dest) (set_at c.args.self.image.now (c.args.at + 8))

@@ -49,14 +49,14 @@ pub overflow_add-at : goal.overflow_add-at
 overflow_add-at c =
     let here : NthConstraint c.args.self.image.now c.loop-n.n c.loop-n.at =
     walk_constraint c.loop-n.invariant.walk (omega arith) c.args.self.ready.known.accepted in
-    let h = here.here in omega (arith, h.here.inside, h.here.size, c.wide-at.ensures.0)
+    let h = here.here in omega (arith, h.here.inside, h.here.size, c.from-at.ensures)
 
 pub loop-n-preserved : goal.loop-n-preserved
 loop-n-preserved c = let L = c.loop-n in
     let k = c.constraint_fails.ensures in
     record {
       walk = first_next _ L.invariant.walk (omega arith) (sym k.is ∙ c.if-constraint_fails.false) _
-          (ap (λ x. L.at + x) c.wide-at.ensures.0);
+          (ap (λ x. L.at + x) c.from-at.ensures);
       kept = (k.kept.0, written_after _ _ _ _ _ L.invariant.kept.1 k.kept.1);
     }
 

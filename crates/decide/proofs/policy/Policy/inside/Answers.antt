@@ -1,6 +1,6 @@
 -- `inside` meets its contract: what is kept of a group is what a walk over it would answer. Assumes nothing.
 use Prim.Native.Nat.{◌-◌}
-use mathlib.Core.Path.{◌≡◌, ap, ◌∙◌}
+use mathlib.Core.Path.{◌≡◌, sym, ap, ◌∙◌}
 use Rattle.decision.specs.Sets.{within}
 use Rattle.decide.specs.Inner.Parts.{Spans, set_in, group_set, set_at}
 use Rattle.decide.specs.Inner.Marks.{fully_marked}
@@ -27,13 +27,13 @@ returns-then-outer-lt32768 c =
 pub bounds-side-g : goal.bounds-side-g
 bounds-side-g c = group_few _ _ _ _ c.args.self.ready.known c.requires.0 c.word_in-outer.ensures.0 c.if-outer-lt32768.false
 
-pub returns-then-k-gt0 : goal.returns-then-k-gt0
-returns-then-k-gt0 c =
+pub returns-then-ne : goal.returns-then-ne
+returns-then-ne c =
     let same : group_set c.args.self.image.now (c.word_in-outer.result - 32768) ≡ set_at c.args.self.image.now c.args.at =
     group_is _ _ _ _ c.args.self.ready.known c.requires.0 c.word_in-outer.ensures.0 c.if-outer-lt32768.false in
     record {
       is = kept_says (λ g. within (set_in c.args.self.image.now c.args.t) (group_set c.args.self.image.now g)) _ c.requires.1.kept
-          _ c.if-k-gt0.true
+          _ _ (sym c.if-ne.true ∙ c.ne.ensures) c.eq.ensures
           ∙ ap (within _) same;
       kept = c.requires.1;
     }

@@ -8,10 +8,10 @@ use Rattle.decide.proofs.EngineLaws.{marks_after, marked_type}
 use Rattle.decide.proofs.policy.Policy.judge.Goals as goal
 
 pub mark_type-sources-requires : goal.mark_type-sources-requires
-mark_type-sources-requires c = subst (IsType _) (sym c.wide_word-from.ensures) (type_is _ _ c.requires.0.0)
+mark_type-sources-requires c = subst (IsType _) (sym c.from-from.ensures) (type_is _ _ c.requires.0.0)
 
 pub mark_type-dests-requires : goal.mark_type-dests-requires
-mark_type-dests-requires c = subst (IsType _) (sym c.wide_word-to.ensures) (type_is _ _ c.requires.0.1)
+mark_type-dests-requires c = subst (IsType _) (sym c.from-to.ensures) (type_is _ _ c.requires.0.1)
 
 pub judge_marked-answer-requires : goal.judge_marked-answer-requires
 judge_marked-answer-requires c =
@@ -20,13 +20,13 @@ judge_marked-answer-requires c =
       record {
         source = record {
           type = type_is _ _ c.requires.0.0;
-          marked = marked_type _ _ _ _ _ c.args.self.ready.known.accepted (type_is _ _ c.requires.0.0) c.wide_word-from.ensures
+          marked = marked_type _ _ _ _ _ c.args.self.ready.known.accepted (type_is _ _ c.requires.0.0) c.from-from.ensures
               (marks_after _ _ _ s.0 c.requires.1.source) s.1;
           kept = kept_none _ 256;
         };
         dest = record {
           type = type_is _ _ c.requires.0.1;
-          marked = marked_type _ _ _ _ _ c.args.self.ready.known.accepted (type_is _ _ c.requires.0.1) c.wide_word-to.ensures
+          marked = marked_type _ _ _ _ _ c.args.self.ready.known.accepted (type_is _ _ c.requires.0.1) c.from-to.ensures
               (marks_after _ _ _ d.0 c.requires.1.dest) d.1;
           kept = kept_none _ 256;
         };
@@ -35,10 +35,10 @@ judge_marked-answer-requires c =
     )
 
 pub unmark_type-requires : goal.unmark_type-requires
-unmark_type-requires c = type_basic _ _ (subst (IsType _) (sym c.wide_word-from.ensures) (type_is _ _ c.requires.0.0))
+unmark_type-requires c = type_basic _ _ (subst (IsType _) (sym c.from-from.ensures) (type_is _ _ c.requires.0.0))
 
 pub unmark_type-requires-2 : goal.unmark_type-requires-2
-unmark_type-requires-2 c = type_basic _ _ (subst (IsType _) (sym c.wide_word-to.ensures) (type_is _ _ c.requires.0.1))
+unmark_type-requires-2 c = type_basic _ _ (subst (IsType _) (sym c.from-to.ensures) (type_is _ _ c.requires.0.1))
 
 pub returns : goal.returns
 returns c =

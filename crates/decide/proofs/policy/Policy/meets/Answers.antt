@@ -1,6 +1,6 @@
 -- `meets` meets its contract: what is kept of a group is what a walk over it would answer. Assumes nothing.
 use Prim.Native.Nat.{◌-◌}
-use mathlib.Core.Path.{◌≡◌, ap, ◌∙◌}
+use mathlib.Core.Path.{◌≡◌, sym, ap, ◌∙◌}
 use Rattle.decide.specs.Inner.Parts.{Spans, group_set, set_at}
 use Rattle.decide.specs.Inner.Marks.{any_is}
 use Rattle.decide.proofs.TypeLaws.{span_basic, span_rising, span_told, group_number, group_few, group_is}
@@ -22,13 +22,13 @@ returns-then-t-lt32768 c =
 pub bounds-kept-g : goal.bounds-kept-g
 bounds-kept-g c = group_few _ _ _ _ c.args.self.ready.known c.requires.0 c.word_in-t.ensures.0 c.if-t-lt32768.false
 
-pub returns-then-k-gt0 : goal.returns-then-k-gt0
-returns-then-k-gt0 c =
+pub returns-then-ne : goal.returns-then-ne
+returns-then-ne c =
     let same : group_set c.args.self.image.now (c.word_in-t.result - 32768) ≡ set_at c.args.self.image.now c.args.at =
     group_is _ _ _ _ c.args.self.ready.known c.requires.0 c.word_in-t.ensures.0 c.if-t-lt32768.false in
     record {
       is = kept_says (λ g. any_is c.args.marks.now c.args.value
-          (group_set c.args.self.image.now g)) _ c.requires.1 _ c.if-k-gt0.true ∙ ap (any_is c.args.marks.now c.args.value) same;
+          (group_set c.args.self.image.now g)) _ c.requires.1 _ _ (sym c.if-ne.true ∙ c.ne.ensures) c.eq.ensures ∙ ap (any_is c.args.marks.now c.args.value) same;
       kept = c.requires.1;
     }
 

@@ -7,10 +7,10 @@ use Rattle.decide.proofs.ConstraintLaws.{marks_small, marks_second, roster_is, l
 use Rattle.decide.proofs.policy.Policy.roster_broken.Goals as goal
 
 pub mark_types-requires : goal.mark_types-requires
-mark_types-requires c = constraint_types _ _ _ c.requires _ c.wide.ensures.0
+mark_types-requires c = constraint_types _ _ _ c.requires _ c.from.ensures
 
 pub returns : goal.returns
-returns c = let w = c.wide.ensures.0 in
+returns c = let w = c.from.ensures in
     c.any_rule.ensures
     ∙ roster_is _ (constraint_in c.args.self.image.now c.args.at) _ _
     (marks_second _ _ _ c.requires c.args.self.ready.known.accepted _ c.mark_at.ensures)

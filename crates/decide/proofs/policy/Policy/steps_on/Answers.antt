@@ -2,12 +2,14 @@
 use native.Mathlib.Omega.{arith}
 use Prim.Native.Nat.{◌+◌, ◌-◌}
 use mathlib.Core.Path.{◌≡◌, sym, ap, ◌∙◌}
-use borrow.Author.Tests.{eq-eqb}
+use lib.ListN.{get_or}
+use borrow.Author.Rules.{rules}
 use Rattle.decision.specs.Sets.{within}
+use Rattle.decide.specs.declared.kept.Kept.TheVariants.{Unasked, Yes}
 use Rattle.decide.specs.Inner.Parts.{set_in, set_at, group_set}
 use Rattle.decide.proofs.TypeLaws.{group_number, group_few, group_is}
 use Rattle.decide.proofs.PartLaws.{rule_source}
-use Rattle.decide.proofs.KeptLaws.{kept_says}
+use Rattle.decide.proofs.KeptLaws.{kept_yes}
 use Rattle.decide.proofs.NearerLaws.{steps_source}
 use Rattle.decide.proofs.policy.Policy.steps_on.Goals as goal
 
@@ -41,17 +43,18 @@ pub bounds-source-g : goal.bounds-source-g
 bounds-source-g c =
     group_few _ _ _ _ c.args.self.ready.known (rule_source _ _ _ c.requires.0.here) c.word_in-t.ensures.0 c.if-t-lt32768.false
 
-pub steps_past_source-requires-then-source-g-eq2 : goal.steps_past_source-requires-then-source-g-eq2
-steps_past_source-requires-then-source-g-eq2 c =
+pub steps_past_source-requires-then-eq : goal.steps_past_source-requires-then-eq
+steps_past_source-requires-then-eq c =
     let same : group_set c.args.self.image.now (c.word_in-t.result - 32768) ≡ set_at c.args.self.image.now (c.args.at + 2) =
     group_is _ _ _ _ c.args.self.ready.known (rule_source _ _ _ c.requires.0.here) c.word_in-t.ensures.0 c.if-t-lt32768.false in
     let F = within (set_in c.args.self.image.now c.args.q.source) in
-    let says = kept_says (λ g. F (group_set c.args.self.image.now g)) c.args.source.now.kept c.requires.1.source.kept
-    (c.word_in-t.result - 32768) (omega (arith, c.if-source-g-eq2.true)) in
-    (c.requires.0, c.requires.1.dest, sym (ap F same) ∙ sym says ∙ eq-eqb _ 2 c.if-source-g-eq2.true)
+    let yes : get_or c.args.source.now.kept (c.word_in-t.result - 32768) Unasked ≡ Yes = search rules in
+    let says = kept_yes (λ g. F (group_set c.args.self.image.now g)) c.args.source.now.kept c.requires.1.source.kept
+    (c.word_in-t.result - 32768) yes in
+    (c.requires.0, c.requires.1.dest, sym (ap F same) ∙ sym says)
 
-pub returns-then-source-g-eq2 : goal.returns-then-source-g-eq2
-returns-then-source-g-eq2 c = let r = c.steps_past_source-then-source-g-eq2.ensures in
+pub returns-then-eq : goal.returns-then-eq
+returns-then-eq c = let r = c.steps_past_source-then-eq.ensures in
     record { is = r.is; kept = record { source = c.requires.1.source; dest = r.kept } }
 
 pub find_inside-requires : goal.find_inside-requires
