@@ -156,6 +156,7 @@ impl Policy<'_> {
             return;
         }
         let s = group_span(self.image, self.groups, g);
+        // by places, as in `any_is`, which a loop over pairs makes slower
         let mut m = s.from;
         let mut left = s.count;
         let mut a = false;

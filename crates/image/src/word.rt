@@ -14,7 +14,8 @@ pub fn word_at(bytes: &[u8], at: usize) -> usize
     }
 }
 
-// The same of two bytes that there are: the check reads by this one, without the tests.
+// The same of two bytes that there are: the check reads by this one, without the tests. As it asks that of its caller it is
+// private, and `decide` has its own.
 #[tactic(auto, unfolding(format::specs::Bytes::word_at))]
 pub(crate) fn word_in(bytes: &[u8], at: usize) -> usize
     requires { at + 1 < length bytes.now }

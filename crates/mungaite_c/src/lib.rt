@@ -1,4 +1,5 @@
-// The C interface: the functions of `mungaite` under their own names, exported to C. include/mungaite.h declares them.
+// The C interface: the functions of `mungaite` under their own names, exported to C. include/mungaite.h declares them. They stand
+// twice, since a crate is a library or a static library.
 #![tactic(auto)]
 
 ghost use Rattle.std.specs.Prelude.{◌≡◌, length};
