@@ -40,7 +40,7 @@ where
     Err(Stop::Stream(Fault::Input(ErrorKind::TimedOut.into())))
 }
 
-// Writes the line of a refused row.
+// Writes the line of a refused row, which is due here alone (sink.rt).
 fn refuse<R, E>(rt: &R, stderr: &mut E, f: RowRefusal) -> Result<(), Fault>
 where
     R: Clock,

@@ -1,4 +1,5 @@
 // Standard output and standard error.
+// `convert` has these two as well, for what is due there: one function for both could ask for neither.
 ghost use Rattle.compile.specs.Inner.Due.{DueOutput, DueErrors};
 
 use std::io::Write;

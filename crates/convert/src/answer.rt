@@ -10,7 +10,7 @@ use std::io::Write;
 use std::time::Clock;
 use streams::{Fault, put_refusal};
 
-// Writes the line of a refused image.
+// Writes the line of a refused image, which is due here alone (sink.rt).
 fn refuse<R, E>(rt: &R, stderr: &mut E, f: Refusal) -> Result<(), Fault>
 where
     R: Clock,

@@ -87,6 +87,7 @@ pub fn run_numbers(image: &[u8], queries: &[u16], answers: &mut [u64]) -> Run
         sections,
     };
     let mut tables = Tables::new();
+    // by number, as in `run`
     let slots = &mut answers[..count];
     for (i, slot) in slots.iter_mut().enumerate() {
         let q = query_of(&rows[i]);

@@ -20,7 +20,8 @@ fn half(image: &[u8], at: usize, many: usize, x: usize) -> usize
     at
 }
 
-// Whether a number is among the members of a part. The library's `binary_search` over their pairs would compare lists of bytes.
+// Whether a number is among the members of a part. The library's `binary_search` asks that a
+// list of pairs is sorted by the pairs' own order, of which the members' order would have to be shown to be that.
 pub(crate) fn is_among(image: &[u8], from: usize, count: usize, x: usize) -> bool
     requires { Part image.now from count }
     ensures { result ≡ is_in x (words_at image.now count from) }

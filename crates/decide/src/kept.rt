@@ -13,7 +13,8 @@ use crate::types::group_span;
 use crate::within::is_within;
 use crate::word::word_in;
 
-// What is kept of a group: whether it passes a test, where that was asked.
+// What is kept of a group: whether it passes a test, where that was asked. It is one byte; an Option is two, and tables of them, which
+// each query clears, made a decision on the sample a tenth longer (`Verdict`).
 #[derive(Clone, Copy, PartialEq, Eq, Debug)]
 pub(crate) enum Kept {
     Unasked,

@@ -7,7 +7,8 @@ ghost use Rattle.decide.specs.Inner.Parts.{Known, TypeAt, Spans, group_set, set_
 use crate::policy::Policy;
 use crate::word::word_in;
 
-// A part of the image that holds basic types, so many from a place on.
+// A part of the image that holds basic types, so many from a place on. It is no slice, since the fastest walks go by places
+// (`any_is`).
 #[derive(Clone, Copy)]
 pub(crate) struct Span {
     pub from: usize,

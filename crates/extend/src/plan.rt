@@ -1,7 +1,5 @@
 // Where a record goes, or why it does not: decided before a byte is written.
 ghost use Rattle.std.specs.Prelude.{◌≡◌, true, ◌≤◌, length, get_or};
-ghost use Rattle.format.specs.Refusals.{refusal};
-ghost use Rattle.format.specs.Causes.{number_of};
 ghost use Rattle.format.specs.Format.{count_place, limit_of, kind_in};
 ghost use Rattle.format.specs.Policy.{policy_of};
 ghost use Rattle.format.specs.Twins.{listed};
@@ -20,12 +18,6 @@ pub(crate) struct Slot {
     pub size: usize,
     pub section: Section,
     pub count: usize,
-}
-
-fn refused(cause: Cause, place: usize) -> Result<Slot, Refusal>
-    ensures { result ≡ Err (refusal (number_of cause) place) }
-{
-    Err(cause.at(place))
 }
 
 // The place of a section's count.
@@ -84,19 +76,19 @@ fn room(buffer: &[u8], part: &[u8], section: Section, at: usize) -> Result<Slot,
     ensures { result ≡ outcome (own_fault buffer.now part.now) (slot_at buffer.now section at) }
 {
     match image::read_record(part, section, word_at(buffer, header::GROUPS_AT)) {
-        Err(Misread::Malformed) => refused(Cause::AddedRecord, 0),
-        Err(Misread::BadField(i)) => refused(Cause::AddedField, i),
+        Err(Misread::Malformed) => Err(Cause::AddedRecord.at(0)),
+        Err(Misread::BadField(i)) => Err(Cause::AddedField.at(i)),
         Ok(_) => {
             if is_twin(buffer, part, section) {
-                return refused(Cause::AddedTwin, 0);
+                return Err(Cause::AddedTwin.at(0));
             }
             let count = word_at(buffer, count_place(section));
             if limit_of(section) <= count {
-                return refused(Cause::SectionFull, 0);
+                return Err(Cause::SectionFull.at(0));
             }
             let size = word_at(buffer, header::LENGTH_AT);
             if buffer.len() - size < part.len() {
-                return refused(Cause::ShortBuffer, 0);
+                return Err(Cause::ShortBuffer.at(0));
             }
             Ok(Slot {
                 at,
@@ -114,11 +106,12 @@ pub(crate) fn own_causes(buffer: &[u8], part: &[u8], sections: Starts) -> Result
     ensures { result ≡ outcome (own_fault buffer.now part.now) (slot_of buffer.now part.now) }
 {
     let [length, kind, ..] = part else {
-        return refused(Cause::AddedRecord, 0);
+        return Err(Cause::AddedRecord.at(0));
     };
     if usize::from(*length) != part.len() {
-        return refused(Cause::AddedRecord, 0);
+        return Err(Cause::AddedRecord.at(0));
     }
+    // a kind is a number in the record, matched by ranges as document 01 names it
     match *kind {
         1 => room(buffer, part, Section::Groups, sections.rules),
         2..=3 => room(buffer, part, Section::Rules, sections.constraints),
@@ -128,7 +121,7 @@ pub(crate) fn own_causes(buffer: &[u8], part: &[u8], sections: Starts) -> Result
             Section::Constraints,
             word_at(buffer, header::LENGTH_AT),
         ),
-        _ => refused(Cause::AddedRecord, 0),
+        _ => Err(Cause::AddedRecord.at(0)),
     }
 }
 

@@ -4,8 +4,6 @@ ghost use Rattle.format.specs.Check.{read_fault, header_fault, check};
 ghost use Rattle.format.specs.Answers.{outcome, starts};
 ghost use Rattle.image.specs.Survey.{Surveys, SurveysOld};
 ghost use Rattle.image.specs.Inner.Walk.{walk_of, ends_of, Ahead, Walks, ChecksBody, Checks};
-ghost use Rattle.format.specs.Refusals.{refusal};
-ghost use Rattle.format.specs.Causes.{number_of};
 
 use crate::reader::read_record;
 use crate::twins::{check_twins, fill_alike};
@@ -78,37 +76,31 @@ fn walk_on(
     walk(image, groups, section, count, from, &mut [])
 }
 
-fn refused(cause: Cause, place: usize) -> Result<(), Refusal>
-    ensures { result ≡ Err (refusal (number_of cause) place) }
-{
-    Err(cause.at(place))
-}
-
 // Refusals 1 to 4.
 fn check_header(image: &[u8]) -> Result<(), Refusal>
     ensures { result ≡ outcome (header_fault eqb image.now) tt }
 {
     if image.len() < header::SIZE {
-        return refused(Cause::ShortImage, 0);
+        return Err(Cause::ShortImage.at(0));
     }
     if image[0] != 1 {
-        return refused(Cause::Version, 0);
+        return Err(Cause::Version.at(0));
     }
     let size = word_in(image, header::LENGTH_AT);
     if size < header::SIZE {
-        return refused(Cause::Length, 0);
+        return Err(Cause::Length.at(0));
     }
     if size != image.len() {
-        return refused(Cause::Length, 0);
+        return Err(Cause::Length.at(0));
     }
     if header::MOST_GROUPS < word_in(image, header::GROUPS_AT) {
-        return refused(Cause::Count, header::GROUPS_AT);
+        return Err(Cause::Count.at(header::GROUPS_AT));
     }
     if header::MOST_RULES < word_in(image, header::RULES_AT) {
-        return refused(Cause::Count, header::RULES_AT);
+        return Err(Cause::Count.at(header::RULES_AT));
     }
     if header::MOST_CONSTRAINTS < word_in(image, header::CONSTRAINTS_AT) {
-        return refused(Cause::Count, header::CONSTRAINTS_AT);
+        return Err(Cause::Count.at(header::CONSTRAINTS_AT));
     }
     Ok(())
 }

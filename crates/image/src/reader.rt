@@ -25,6 +25,7 @@ pub fn read_record(part: &[u8], section: Section, groups: usize) -> Result<usize
         return Err(Misread::Malformed);
     }
     let whole = &part[..length];
+    // a kind is a number in the image, matched as document 01 names it
     match kind {
         1 => group_fields(whole),
         2 => allow_fields(whole, groups),

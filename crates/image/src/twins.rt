@@ -112,6 +112,7 @@ pub(crate) fn fill_alike(image: &[u8], places: &[u16; 256], count: usize, alike:
 {
     let mut heads = [None; 1024];
     let mut before = [None; 256];
+    // k is the number of the group
     for k in 0..count {
         let part = group_at(image, places, k);
         let key = key_of(part);

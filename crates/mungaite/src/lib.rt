@@ -65,7 +65,7 @@ pub fn mungaite_run(queries: &[u16], answers: &mut [u64], image: &[u8]) -> u64
 fn record_in(image: &[u8], section: Section, n: u16) -> u64
     ensures { result ≡ record_in image.now section n }
 {
-    match find(image, section, n as usize) {
+    match find(image, section, usize::from(n)) {
         Ok(e) => parts(1, e.place, e.length),
         Err(f) => refused(f),
     }
@@ -105,7 +105,7 @@ pub fn mungaite_build(text: &[u8], buffer: &mut [u8]) -> u64
 {
     match build(text, buffer) {
         Ok(n) => n as u64,
-        Err(f) => (f.number as usize * 281474976710656 + f.place % 281474976710656) as u64,
+        Err(f) => (usize::from(f.number) * 281474976710656 + f.place % 281474976710656) as u64,
     }
 }
 

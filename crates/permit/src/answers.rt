@@ -6,7 +6,7 @@ ghost use Rattle.lines.specs.Output.{ending};
 ghost use Rattle.streams.specs.Put.{Front};
 
 use crate::line::put_line;
-use format::{Cause, Refusal};
+use format::Cause;
 use streams::put_refusal;
 
 // Puts the lines of the input's whole queries at the front of the output, one behind the other, and tells how many bytes they
@@ -37,9 +37,5 @@ pub(crate) fn put_ending(left: &[u8], output: &mut [u8]) -> usize
     if left.len() % 12 == 0 {
         return 0;
     }
-    let cut = Refusal {
-        number: Cause::BytesLeft as u8,
-        place: 0,
-    };
-    put_refusal(cut, output, 0)
+    put_refusal(Cause::BytesLeft.at(0), output, 0)
 }

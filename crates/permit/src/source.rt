@@ -8,7 +8,8 @@ use std::io::Read;
 use std::time::Clock;
 use streams::{Fault, read_between};
 
-// How many bytes of an image were read: all that it takes, or fewer, since the input ended.
+// How many bytes of an image were read: all that it takes, or fewer, since the input ended, which the contract of `read_image` tells
+// apart.
 #[derive(Clone, Copy)]
 pub(crate) enum Taken {
     Whole(usize),

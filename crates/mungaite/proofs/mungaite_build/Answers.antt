@@ -11,4 +11,4 @@ returns-in-Ok c = let d = c.build in
 pub returns-in-Err : goal.returns-in-Err
 unfolding build_code
 returns-in-Err c = let d = c.build in
-    (ap build_code (sym c.in-Err.is ∙ d.ensures.answer), d.ensures.buffer)
+    rw c.from.ensures (ap build_code (sym c.in-Err.is ∙ d.ensures.answer), d.ensures.buffer)

@@ -6,8 +6,8 @@ use Rattle.mungaite.proofs.record_in.Goals as goal
 
 pub returns-in-Ok : goal.returns-in-Ok
 unfolding record_in
-returns-in-Ok c = c.parts.ensures ∙ ap (code_of extent_code) (sym c.in-Ok.is ∙ c.find.ensures)
+returns-in-Ok c = c.parts.ensures ∙ ap (code_of extent_code) (sym c.in-Ok.is ∙ (rw c.from.ensures at c.find.ensures))
 
 pub returns-in-Err : goal.returns-in-Err
 unfolding record_in
-returns-in-Err c = c.refused.ensures ∙ ap (code_of extent_code) (sym c.in-Err.is ∙ c.find.ensures)
+returns-in-Err c = c.refused.ensures ∙ ap (code_of extent_code) (sym c.in-Err.is ∙ (rw c.from.ensures at c.find.ensures))

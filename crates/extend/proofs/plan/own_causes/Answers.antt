@@ -12,10 +12,10 @@ use Rattle.extend.proofs.PlanLaws.{own_tiny, own_length, own_kind, slot_is, end_
 use Rattle.extend.proofs.plan.own_causes.Goals as goal
 
 pub returns-in_default : goal.returns-in_default
-returns-in_default c = rw (c.refused.ensures, own_tiny c.args.buffer.now c.args.part.now (omega arith))
+returns-in_default c = rw (c.at.ensures, own_tiny c.args.buffer.now c.args.part.now (omega arith))
 
 pub returns-then-from-part : goal.returns-then-from-part
-returns-then-from-part c = rw (c.refused-then-from-part.ensures, own_length _ _ _ c.from.ensures c.if-from-part.true)
+returns-then-from-part c = rw (c.at-then-from-part.ensures, own_length _ _ _ c.from.ensures c.if-from-part.true)
 
 pub room-requires : goal.room-requires
 room-requires c =
@@ -59,4 +59,4 @@ returns-in_default-kind c = let k = get_or c.args.part.now 1 0 in
     let two : k ≡ 2 → ⊥ = omega arith in
     let three : k ≡ 3 → ⊥ = omega arith in
     let four : k ≡ 4 → ⊥ = omega arith in
-    rw (c.refused-in_default-kind.ensures, own_kind c.args.buffer.now c.args.part.now k refl one two three four)
+    rw (c.at-in_default-kind.ensures, own_kind c.args.buffer.now c.args.part.now k refl one two three four)

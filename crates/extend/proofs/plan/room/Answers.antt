@@ -23,7 +23,7 @@ returns-then-is_twin c =
     ap (λ g. read_of a.section g a.part.now) (count_groups _ ∙ sym c.word_at.ensures.0) ∙ sym c.read_record.ensures ∙ e in
     let whole : read_of c.args.section (count_of c.args.buffer.now Groups) c.args.part.now
     ≡ Ok c.in-Ok.field-0 = read _ c.in-Ok.is in
-    rw (c.refused-then-is_twin.ensures, own_twin _ _ _ c.requires.1 c.requires.2 _ whole (sym c.is_twin.ensures ∙ c.if-is_twin.true))
+    rw (c.at-then-is_twin.ensures, own_twin _ _ _ c.requires.1 c.requires.2 _ whole (sym c.is_twin.ensures ∙ c.if-is_twin.true))
 
 pub returns-then-limit_of-count : goal.returns-then-limit_of-count
 returns-then-limit_of-count c =
@@ -36,7 +36,7 @@ returns-then-limit_of-count c =
     let counted : c.word_at-count.result ≡ count_of c.args.buffer.now c.args.section = let a = c.args in
     c.word_at-count.ensures.0 ∙ ap (word_at a.buffer.now) c.count_place.ensures.0 ∙ sym (count_at _ _) in
     rw (
-      c.refused-then-limit_of-count.ensures,
+      c.at-then-limit_of-count.ensures,
       own_full _ _ _ c.requires.1 c.requires.2 _ whole fresh
           (omega (arith, counted, c.limit_of.ensures, c.if-limit_of-count.true)),
     )
@@ -57,7 +57,7 @@ returns-then-buffer-size c =
     c.word_at-count.ensures.0 ∙ ap (word_at a.buffer.now) c.count_place.ensures.0 ∙ sym (count_at _ _) in
     let few : count_of c.args.buffer.now c.args.section < limit_of c.args.section = omega (arith, counted, c.limit_of.ensures) in
     rw (
-      c.refused-then-buffer-size.ensures,
+      c.at-then-buffer-size.ensures,
       own_short _ _ _ c.requires.1 c.requires.2 _ whole fresh few
           (omega (arith, front_fits _ c.requires.0, c.word_at-size.ensures.0, c.if-buffer-size.true)),
     )
@@ -67,14 +67,14 @@ returns-in-Err-Malformed c =
     let read : (w : Read) → c.read_record.result ≡ w
     → read_of c.args.section (count_of c.args.buffer.now Groups) c.args.part.now ≡ w = λ w e. let a = c.args in
     ap (λ g. read_of a.section g a.part.now) (count_groups _ ∙ sym c.word_at.ensures.0) ∙ sym c.read_record.ensures ∙ e in
-    rw (c.refused.ensures, own_malformed _ _ _ c.requires.1 c.requires.2 (read _ c.in-Err-Malformed.is ∙ ap Err c.in-Err-Malformed.field-0-is))
+    rw (c.at.ensures, own_malformed _ _ _ c.requires.1 c.requires.2 (read _ c.in-Err-Malformed.is ∙ ap Err c.in-Err-Malformed.field-0-is))
 
 pub returns-in-Err-BadField : goal.returns-in-Err-BadField
 returns-in-Err-BadField c =
     let read : (w : Read) → c.read_record.result ≡ w
     → read_of c.args.section (count_of c.args.buffer.now Groups) c.args.part.now ≡ w = λ w e. let a = c.args in
     ap (λ g. read_of a.section g a.part.now) (count_groups _ ∙ sym c.word_at.ensures.0) ∙ sym c.read_record.ensures ∙ e in
-    rw (c.refused-in-Err-BadField.ensures, c.in-Err-BadField.field-0-is, own_field _ _ _ c.requires.1 c.requires.2 _ (read _ c.in-Err-BadField.is ∙ ap Err c.in-Err-BadField.field-0-is))
+    rw (c.at-in-Err-BadField.ensures, c.in-Err-BadField.field-0-is, own_field _ _ _ c.requires.1 c.requires.2 _ (read _ c.in-Err-BadField.is ∙ ap Err c.in-Err-BadField.field-0-is))
 
 pub returns-else-buffer-size : goal.returns-else-buffer-size
 returns-else-buffer-size c =

@@ -7,4 +7,4 @@ pub returns-then-left-eq0 : goal.returns-then-left-eq0
 returns-then-left-eq0 c = ending_none _ _ c.if-left-eq0.true
 
 pub returns : goal.returns
-returns c = ending_some _ _ _ c.if-left-eq0.false (front_put (omega arith) c.put_refusal.ensures)
+returns c = ending_some _ _ _ c.if-left-eq0.false (front_put (omega arith) (rw c.at.ensures at c.put_refusal.ensures))
