@@ -25,10 +25,11 @@ pub(crate) struct Turn {
 }
 
 // Makes the lines that are to be written for what a read has brought, behind the bytes that were kept. The whole queries'
-// lines if bytes came, and the bytes past the last whole query are kept; the last line if the input has ended.
+// lines if bytes came, and the bytes past the last whole query are kept; the last line if the input has ended; and none if it
+// could not be read.
 fn take_turn(
     image: &[u8],
-    came: Option<usize>,
+    came: Result<Option<usize>, Fault>,
     input: &mut [u8],
     kept: usize,
     numbers: &mut [u64],
@@ -39,17 +40,18 @@ fn take_turn(
     ensures { Turned came image.now (take (kept + count came) input.old) input.new output.new result }
 {
     match came {
-        Some(n) => {
+        Ok(Some(n)) => {
             let have = kept + n;
             let end = put_answers(image, &input[..have], numbers, output);
             let rest = have % 12;
             keep_rest(input, have - rest, have);
             Turn { kept: rest, end }
         }
-        None => Turn {
+        Ok(None) => Turn {
             kept,
             end: put_ending(&input[..kept], output),
         },
+        Err(_) => Turn { kept, end: 0 },
     }
 }
 
@@ -72,11 +74,11 @@ where
     let mut output = [0; OUTPUT];
     let mut kept: usize = 0;
     for _ in 0..u64::MAX {
-        let came = read_between(rt, stdin, &mut input, kept, INPUT)?;
+        let came = read_between(rt, stdin, &mut input, kept, INPUT);
         let t = take_turn(image, came, &mut input, kept, &mut numbers, &mut output);
         let end = t.end;
         write_due(rt, stdout, &output[..end])?;
-        if came.is_none() {
+        if came?.is_none() {
             break;
         }
         kept = t.kept;
