@@ -8,19 +8,20 @@
 --     said-..           what the code has of what a word says; said_or, said_or_or of the first of two or three that says something
 --     number-..         a number, from what its digits write
 --     letter-.., name-..   a number behind a letter, and the word of a name
-use Prim.Native.Nat.{ℕ, suc, ◌+◌, ◌-◌, ◌*◌, ◌≤◌, ◌<◌}
+use Prim.Native.Nat.{ℕ, zero, suc, min, ◌+◌, ◌-◌, ◌*◌, ◌≤◌, ◌<◌}
 use mathlib.Core.Path.{◌≡◌, refl, sym, ap, ◌∙◌}
 use mathlib.Core.Bool.{Bool, true, false, cond, ◌&&◌, ◌||◌}
 use mathlib.Core.List.{List, [], ◌∷◌}
+use mathlib.Core.Logic.{◌⊎◌, inl, inr}
 use native.Mathlib.Omega.{arith}
 use lib.ListN.{length, get_or, take, drop, length-drop}
 use lib.Seq.{drop-cons, take-length, length-take-le, get_or-take}
 use lib.Dec.{ltb, eqb}
-use borrow.Author.Tests.{le-leb, lt-leb, ltb-false, eq-eqb, ne_eqb}
+use borrow.Author.Tests.{le-leb, lt-leb, ltb-true, ltb-false, eq-eqb, ne_eqb}
 use Rattle.format.specs.Refusals.{◌or_else◌}
 use Rattle.format.proofs.Chain.{or_else_next, or_else_first}
 use Rattle.std.specs.Prelude.{Option, Some, None, MatchOption, unwrap_or}
-use Rattle.std.specs.Bool.{then_some}
+use Rattle.std.proofs.Math.Nat.{min-le_left, min-eq_left, min-eq_right}
 use Rattle.std.specs.List.{position_or_len}
 use Rattle.std.specs.Cmp.Lexicographic.{pointwise}
 use Rattle.std.proofs.lemmas.Bool.Decides.{nat_tests}
@@ -138,7 +139,7 @@ module _ (l : List ℕ) (most i n : ℕ) where
   pub digit_last :
       (t : Bool) → i < length l → n ≤ most → word_size l ≡ i + word_size (drop i l) → digits_from 0 (word_of l) ≡ digits_from n (word_of (drop i l))
       → is_digit (get_or l i 0) ≡ false → t ≡ ends_word (get_or l i 0)
-      → then_some t (record { number = n; size = i }) ≡ said (up_to most (digits_from 0 (word_of l))) l
+      → cond t (Some (record { number = n; size = i })) None ≡ said (up_to most (digits_from 0 (word_of l))) l
   unfolding said
   digit_last true h few width left e q =
       let z = digit_ends l i n h (sym q) in
@@ -275,12 +276,82 @@ module _ (letter base most : ℕ) (high : 32 < letter) where
         let q = said_some _ (drop 1 l) w h in
         (rw (letter_is, q.0, q.1, letter_size), number_most most (word_of (drop 1 l)) w.number q.0, omega (arith, q.1, letter_size, word_most l))
 
--- the word of a name
-module _ (l name : List ℕ) (n size : ℕ) (is : size ≡ word_size l) where
+-- the word of a name, of which only what tells is read: no more bytes than the name has, and one
+cut_short : (l : List ℕ) (m : ℕ) → word_size l ≤ m → word_size (take m l) ≡ word_size l
+unfolding word_size
+cut_short [] zero h = refl
+cut_short [] (suc m) h = refl
+cut_short (c ∷ l) zero h = omega (arith, h)
+cut_short (c ∷ l) (suc m) h = step (ends_word c) h (cut_short l m) where
+  step :
+      (t : Bool) → cond t 0 (suc (word_size l)) ≤ suc m → (word_size l ≤ m → word_size (take m l) ≡ word_size l)
+      → cond t 0 (suc (word_size (take m l))) ≡ cond t 0 (suc (word_size l))
+  step true h g = refl
+  step false h g = ap suc (g (omega arith))
+
+cut_long : (l : List ℕ) (m : ℕ) → m ≤ word_size l → word_size (take m l) ≡ m
+unfolding word_size
+cut_long l zero h = refl
+cut_long [] (suc m) h = absurd (omega (arith, h))
+cut_long (c ∷ l) (suc m) h = step (ends_word c) h (cut_long l m) where
+  step :
+      (t : Bool) → suc m ≤ cond t 0 (suc (word_size l)) → (m ≤ word_size l → word_size (take m l) ≡ m)
+      → cond t 0 (suc (word_size (take m l))) ≡ suc m
+  step true h g = absurd (omega arith)
+  step false h g = ap suc (g (omega arith))
+
+same_long : (a b : List ℕ) → same a b ≡ true → length a ≡ length b
+unfolding same
+same_long [] [] e = refl
+same_long [] (y ∷ b) e = absurd (cc)
+same_long (x ∷ a) [] e = absurd (cc)
+same_long (x ∷ a) (y ∷ b) e = step (eqb x y) (same_long a b) e where
+  step : (t : Bool) → (same a b ≡ true → length a ≡ length b) → (t && same a b) ≡ true → suc (length a) ≡ suc (length b)
+  step true g e = ap suc (g e)
+  step false g e = absurd (cc)
+
+module _ (l name : List ℕ) (n near size : ℕ) (most : near ≡ min (length l) (length name + 1)) (is : size ≡ word_size (take near l)) where
+  pub near_inside : size ≤ length l
+  near_inside = omega (arith, is, word_most (take near l), length-take-le near l (omega (arith, most, min-le_left (length l) (length name + 1))))
+
+  near_or : length l ≤ near ⊎ length name + 1 ≤ near
+  near_or = step (ltb (length l) (length name + 1)) refl where
+    step : (t : Bool) → ltb (length l) (length name + 1) ≡ t → length l ≤ near ⊎ length name + 1 ≤ near
+    step true k = inl (omega (arith, ltb-true _ _ k, most ∙ min-eq_left (omega (arith, ltb-true _ _ k))))
+    step false k = inr (omega (arith, most ∙ min-eq_right (ltb-false _ _ k)))
+
+  -- a word that is no longer than the name is read whole
+  whole : word_size l ≤ length name → size ≡ word_size l
+  whole h = is ∙ cut_short l near (step near_or) where
+    step : length l ≤ near ⊎ length name + 1 ≤ near → word_size l ≤ near
+    step (inl k) = omega (arith, k, word_most l)
+    step (inr k) = omega (arith, k, h)
+
+  -- of a longer one as much as tells
+  longer : length name < word_size l → size ≡ length name + 1
+  longer h =
+      let all : near ≡ length name + 1 = most ∙ min-eq_right (omega (arith, h, word_most l)) in
+      is ∙ cut_long l near (omega (arith, all, h)) ∙ all
+
   pub name_is : pointwise eqb (take size l) name ≡ true → said (named name n (word_of l)) l ≡ Some (record { number = n; size = size })
   unfolding said named word_of
-  name_is e = rw (← is, sym (same_is (take size l) name) ∙ e, is)
+  name_is e =
+      let like : same (take size l) name ≡ true = sym (same_is (take size l) name) ∙ e in
+      let long = same_long _ _ like in
+      let cut = length-take-le size l near_inside in
+      let q = whole (step (ltb (length name) (word_size l)) refl (omega (arith, long, cut))) in
+      rw (← q, like, q) where
+        step : (t : Bool) → ltb (length name) (word_size l) ≡ t → size ≡ length name → word_size l ≤ length name
+        step true k h = absurd (omega (arith, h, longer (ltb-true _ _ k)))
+        step false k h = ltb-false _ _ k
 
   pub name_other : pointwise eqb (take size l) name ≡ false → said (named name n (word_of l)) l ≡ None
   unfolding said named word_of
-  name_other e = rw (← is, sym (same_is (take size l) name) ∙ e)
+  name_other e = step (ltb (length name) (word_size l)) refl where
+    other : (t : Bool) → same (take (word_size l) l) name ≡ t → length name < word_size l → t ≡ false
+    other true e h = absurd (omega (arith, h, same_long _ _ e, length-take-le (word_size l) l (word_most l)))
+    other false e h = refl
+
+    step : (t : Bool) → ltb (length name) (word_size l) ≡ t → said (named name n (word_of l)) l ≡ None
+    step true k = rw (other _ refl (ltb-true _ _ k))
+    step false k = let q = whole (ltb-false _ _ k) in rw (← q, sym (same_is (take size l) name) ∙ e)

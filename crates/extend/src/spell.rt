@@ -40,7 +40,10 @@ fn digits(text: &[u8], most: usize) -> Option<Word>
     let mut number = 0;
     for (size, c) in text.iter().enumerate() {
         if !c.is_ascii_digit() {
-            return ends_word(*c).then_some(Word { number, size });
+            if ends_word(*c) {
+                return Some(Word { number, size });
+            }
+            return None;
         }
         number = number * 10 + usize::from(*c - b'0');
         if most < number {
@@ -86,11 +89,11 @@ fn lettered(letter: u8, base: usize, most: usize, text: &[u8]) -> Option<Word>
     })
 }
 
-// The word of a name, which stands for a number.
+// The word of a name, which stands for a number. A longer word is read only up to where it shows that it is longer.
 fn named(name: &[u8], n: usize, text: &[u8]) -> Option<Word>
     ensures { result ≡ said (named name.now n (word_of text.now)) text.now }
 {
-    let size = word_size(text);
+    let size = word_size(&text[..text.len().min(name.len() + 1)]);
     if &text[..size] == name {
         return Some(Word { number: n, size });
     }

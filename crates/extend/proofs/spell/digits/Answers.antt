@@ -6,14 +6,21 @@ use Rattle.extend.proofs.WordLaws.{digit_last, digits_all, digit_size, digit_nex
 use Rattle.text.proofs.Read.{word_none}
 use Rattle.extend.proofs.spell.digits.Goals as goal
 
+pub returns-then-ends_word : goal.returns-then-ends_word
+unfolding is_digit
+returns-then-ends_word c =
+    let l = c.loop-size in
+    let no_digit : is_digit (get_or c.args.text.now l.size 0) ≡ false = search rules in
+    digit_last c.args.text.now c.args.most l.size l.number true (omega arith) l.invariant.few l.invariant.width l.invariant.left no_digit
+    (sym c.if-ends_word.true ∙ c.ends_word.ensures)
+
 pub returns-then-not-is_ascii_digit : goal.returns-then-not-is_ascii_digit
 unfolding is_digit
 returns-then-not-is_ascii_digit c =
     let l = c.loop-size in
     let no_digit : is_digit (get_or c.args.text.now l.size 0) ≡ false = search rules in
-    c.then_some.ensures
-    ∙ digit_last c.args.text.now c.args.most l.size l.number c.ends_word.result (omega arith) l.invariant.few l.invariant.width l.invariant.left no_digit
-    c.ends_word.ensures
+    digit_last c.args.text.now c.args.most l.size l.number false (omega arith) l.invariant.few l.invariant.width l.invariant.left no_digit
+    (sym c.if-ends_word.false ∙ c.ends_word.ensures)
 
 pub returns-then-most-number : goal.returns-then-most-number
 unfolding said is_digit
