@@ -1,20 +1,24 @@
 -- Laws of line feeds in a buffer. Assumes nothing.
---     feeds_count          line feeds, counted
+--     feed_of              the line feeds of one byte, as a number
 --     last_cut, no_cut     the last line feed stands there; there is none
 use Prim.Native.Nat.{ℕ, zero, suc, ◌+◌, ◌-◌, ◌≤◌, ◌<◌}
 use native.Mathlib.Omega.{arith}
 use mathlib.Core.Path.{◌≡◌, refl, sym, ap, ◌∙◌}
-use mathlib.Core.List.{List}
+use mathlib.Core.Bool.{Bool, true, false}
+use mathlib.Core.List.{List, [], ◌∷◌}
 use lib.ListN.{length, get_or, take}
 use lib.Seq.{take-length}
-use Rattle.std.specs.Prelude.{◌==◌, cond, count_by}
-use Rattle.std.proofs.lemmas.List.Recursion.{is_count_by}
+use Rattle.std.specs.Prelude.{◌==◌, cond}
+use Rattle.std.specs.Int.{from_bool}
 use Rattle.lines.specs.Compiled.{feeds, cut}
 use Rattle.lines.proofs.Feeds.{cut_here, cut_before, cut_none}
 
-pub feeds_count : (l : List ℕ) → feeds l ≡ count_by (λ x. x == 10) l
+pub feed_of : (c : ℕ) → feeds (c ∷ []) ≡ from_bool (c == 10)
 unfolding feeds
-feeds_count l = is_count_by feeds (λ x. x == 10) refl (λ c s. let e : suc (feeds s) ≡ 1 + feeds s = omega arith in ap (λ n. cond (c == 10) n (feeds s)) e) l
+feed_of c = step (c == 10) where
+  step : (t : Bool) → cond t (suc 0) 0 ≡ from_bool t
+  step true = refl
+  step false = refl
 
 module _ (l : List ℕ) where
   -- behind k bytes no line feed stands

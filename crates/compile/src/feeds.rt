@@ -16,5 +16,9 @@ pub(crate) fn rows_end(bytes: &[u8]) -> usize
 pub(crate) fn count_feeds(bytes: &[u8]) -> usize
     ensures { (result ≡ feeds bytes.now) × (result ≤ length bytes.now) }
 {
-    bytes.iter().filter(|byte| **byte == b'\n').count()
+    let mut count = 0;
+    for byte in bytes {
+        count += usize::from(*byte == b'\n');
+    }
+    count
 }
