@@ -8,9 +8,9 @@ use native.Mathlib.Omega.{arith}
 use native.Mathlib.Numerals.{add-one}
 use Rattle.std.proofs.Math.Nat.{add_comm}
 use lib.ListN.{length, get_or, take, drop, length-drop}
-use lib.Seq.{take_all, drop-drop, get_or-take, get_or-drop}
+use lib.Seq.{take_all, length-take-le, drop-drop, get_or-take, get_or-drop}
 use lib.Dec.{ltb}
-use borrow.Author.Tests.{lt-ltb, le-ltb, le-leb, lt-leb, ltb-true}
+use borrow.Author.Tests.{lt-ltb, le-ltb, le-leb, lt-leb, ltb-true, ltb-false}
 use Rattle.std.specs.Prelude.{fold}
 use Rattle.std.specs.List.{zip}
 use Rattle.std.proofs.lemmas.Slice.Zip.{length-zip, get_or-zip}
@@ -164,29 +164,56 @@ fold_each {X} t (x ∷ xs) e k d h = go (fold_each t xs) (t x) refl k h
 abbrev pub pair_below : List ℕ × List ℕ → Bool
 pair_below p = ltb (pair_word p.0) (pair_word p.1)
 
--- members that rise, of which the last is below 1,024
-module _ (p : List ℕ) (pairs : List (List ℕ)) (cut : Pairs p 2 pairs) (even : length p % 2 ≡ 0) (Some : 4 ≤ length p)
-    (basic : word_at p (length p - 2) < 1024)
-    (rise : fold (λ (r : Bool) (p : List ℕ × List ℕ). r && pair_below p) true (zip pairs (take (length pairs - 1) (drop 1 pairs))) ≡ true) where
-  many : 2 + 2 * length pairs ≡ length p
-  many = omega (arith, cut.many, length-drop 2 p)
+-- each member of a group is below the next
+module _ (p : List ℕ) (pairs : List (List ℕ)) (cut : Pairs p 2 pairs) where
+  abbrev pub Rises : Type 0
+  Rises = (k : ℕ) → k + 1 < length pairs → word_at p (2 + 2 * k) < word_at p (2 + 2 * (k + 1))
 
-  next_above : (k : ℕ) → k + 1 < length pairs → word_at p (2 + 2 * k) < word_at p (2 + 2 * (k + 1))
-  next_above k h =
+  -- so said of a pair and of the next
+  next_above : (k : ℕ) → k + 1 < length pairs → pair_word (get_or pairs k []) < pair_word (get_or pairs (k + 1) []) → word_at p (2 + 2 * k) < word_at p (2 + 2 * (k + 1))
+  next_above k h below = omega (arith, below, pairs_word p 2 pairs cut k [] (omega arith), pairs_word p 2 pairs cut (k + 1) [] h)
+
+  -- many at a time
+  pub folded_rise : fold (λ (r : Bool) (p : List ℕ × List ℕ). r && pair_below p) true (zip pairs (take (length pairs - 1) (drop 1 pairs))) ≡ true → Rises
+  folded_rise rise k h =
       let rest : List (List ℕ) = drop 1 pairs in
       let long : length rest ≡ length pairs - 1 = length-drop 1 pairs in
       let all : fold (λ (r : Bool) (p : List ℕ × List ℕ). r && pair_below p) true (zip pairs rest) ≡ true =
       rw (sym (take_all (length pairs - 1) rest (omega arith))) rise in
       let each = fold_each pair_below (zip pairs rest) all k ([], []) (omega (arith, length-zip pairs rest)) in
       let here = ltb-true _ _ (rw (get_or-zip pairs rest k ([], []) (omega arith) (omega arith)) at each) in
-      omega (
-        arith,
-        here,
-        ap pair_word (get_or-drop 1 pairs k []),
-        ap (λ (i : ℕ). pair_word (get_or pairs i [])) (add_comm 1 k),
-        pairs_word p 2 pairs cut k [] (omega arith),
-        pairs_word p 2 pairs cut (k + 1) [] h,
-      )
+      let next = ap pair_word (get_or-drop 1 pairs k []) ∙ ap (λ (i : ℕ). pair_word (get_or pairs i [])) (add_comm 1 k) in
+      next_above k h (omega (arith, here, next))
+
+  -- one after the other: the first, those behind it, and how many these are
+  pub first_word : 0 < length pairs → pair_word (get_or pairs 0 []) ≡ word_at p 2
+  first_word h = pairs_word p 2 pairs cut 0 [] h
+
+  pub next_many : length (take (length pairs - 1) (drop 1 pairs)) ≡ length pairs - 1
+  next_many = length-take-le (length pairs - 1) (drop 1 pairs) (omega (arith, length-drop 1 pairs))
+
+  pub next_word : (k : ℕ) → k + 1 < length pairs → pair_word (get_or (take (length pairs - 1) (drop 1 pairs)) k []) ≡ word_at p (2 + 2 * (k + 1))
+  next_word k h =
+      ap (λ (l : List (List ℕ)). pair_word (get_or l k [])) (take_all (length pairs - 1) (drop 1 pairs) (omega (arith, length-drop 1 pairs)))
+      ∙ ap pair_word (get_or-drop 1 pairs k [])
+      ∙ ap (λ (i : ℕ). pair_word (get_or pairs i [])) (add_comm 1 k)
+      ∙ pairs_word p 2 pairs cut (k + 1) [] h
+
+-- the members up to a place rise, and the next one is above the last of them
+pub rise_more :
+    (p : List ℕ) (i last next : ℕ) → last ≡ word_at p (2 + 2 * i) → next ≡ word_at p (2 + 2 * (i + 1)) → last < next
+    → ((k : ℕ) → k < i → word_at p (2 + 2 * k) < word_at p (2 + 2 * (k + 1)))
+    → (k : ℕ) → k < i + 1 → word_at p (2 + 2 * k) < word_at p (2 + 2 * (k + 1))
+rise_more p i last next here is above rise k h = step (ltb k i) refl where
+  step : (t : Bool) → ltb k i ≡ t → word_at p (2 + 2 * k) < word_at p (2 + 2 * (k + 1))
+  step true e = rise k (ltb-true _ _ e)
+  step false e = let same : k ≡ i = omega (arith, ltb-false _ _ e) in rw same (omega (arith, here, is, above))
+
+-- members that rise, of which the last is below 1,024
+module _ (p : List ℕ) (pairs : List (List ℕ)) (cut : Pairs p 2 pairs) (even : length p % 2 ≡ 0) (Some : 4 ≤ length p)
+    (basic : word_at p (length p - 2) < 1024) (rises : Rises p pairs cut) where
+  many : 2 + 2 * length pairs ≡ length p
+  many = omega (arith, cut.many, length-drop 2 p)
 
   good_from : (t k : ℕ) → t + k + 1 ≡ length pairs → Good p (2 + 2 * k) (word_at p (2 + 2 * k))
   good_from zero k e =
@@ -194,7 +221,7 @@ module _ (p : List ℕ) (pairs : List (List ℕ)) (cut : Pairs p 2 pairs) (even 
       let last : 2 + 2 * k ≡ length p - 2 = omega arith in
       good_last p (2 + 2 * k) _ refl (omega arith) (rw last basic)
   good_from (suc t) k e =
-      good_before p (2 + 2 * (k + 1)) _ (good_from t (k + 1) (omega arith)) (2 + 2 * k) _ (omega arith) refl (next_above k (omega arith))
+      good_before p (2 + 2 * (k + 1)) _ (good_from t (k + 1) (omega arith)) (2 + 2 * k) _ (omega arith) refl (rises k (omega arith))
 
   pub rising_group : bad_group p ≡ None
   rising_group = let m = many in good_group p 2 _ (good_from (length pairs - 1) 0 (omega arith)) refl

@@ -25,14 +25,31 @@ fn all_below(numbers: &[[u8; 2]], others: &[[u8; 2]]) -> bool
         })
 }
 
+// Fewer members than these are compared one after the other, which is faster there than many at a time.
+const MANY: usize = 20;
+
 // Whether members rise strictly and each is a basic type: where they rise, only the last is compared with 1,024. A false
 // tells nothing.
 fn rises(part: &[u8]) -> bool
     requires { (4 ≤ length part.now) × (length part.now % 2 ≡ 0) }
     ensures { result ≡ true → bad_group part.now ≡ None }
 {
+    if 1024 <= word_in(part, part.len() - 2) {
+        return false;
+    }
     let (members, _) = part[2..].as_chunks::<2>();
-    word_in(part, part.len() - 2) < 1024 && all_below(members, &members[1..])
+    if MANY <= members.len() {
+        return all_below(members, &members[1..]);
+    }
+    let mut last = u16::from_be_bytes(members[0]);
+    for member in &members[1..] {
+        let next = u16::from_be_bytes(*member);
+        if next <= last {
+            return false;
+        }
+        last = next;
+    }
+    true
 }
 
 // Members rise strictly, and each is a basic type.
