@@ -84,9 +84,9 @@ for edit in sys.argv[1:]:
         module = "." if module in ("lib", "main") else module
         new = functions(after[file])
         for name, text in functions(before[file]).items():
-            # a method's proof lies with its type, in whichever module that is
             proofs = glob.glob(f"{crate}/proofs/{module}/**/{name}/*.antt", recursive=True)
-            proofs = proofs or glob.glob(f"{crate}/proofs/**/{name}/*.antt", recursive=True)
+            # a method's proof lies with its type, in whichever module that is
+            proofs += glob.glob(f"{crate}/proofs/*/[A-Z]*/{name}/*.antt")
             gone = names(text) - names(new.get(name, ""))
             lost = {part for part in gone for proof in proofs if part.split()[0] in cited(proof)}
             if lost:
