@@ -329,7 +329,8 @@ pub record RunningMet : Type 0 where
       → ((i : ℕ) → i < length qs → Permits l (get_or qs i q)) → (Permits l q → ⊥) → run_of l (qs ++ (q ∷ [])) (length ys) ≡ Ok (Some (length qs))
   pub last_permits : (qs : List Query) (ys : List (Outcome Decision)) → run_of sample (qs ++ (off_rule ∷ [])) (length ys) ≡ Ok None → ⊥
   pub last_said :
-      (l : List ℕ) (qs : List Query) (q : Query) (ys : List (Outcome Decision)) (y : Outcome Decision) → Accepted l → length qs ≤ 63 → length ys ≡ suc (length qs)
+      (l : List ℕ) (qs : List Query) (q : Query) (ys : List (Outcome Decision)) (y : Outcome Decision) → Accepted l
+      → length qs ≤ 63 → length ys ≡ suc (length qs)
       → get_or (answers_after l (qs ++ (q ∷ [])) ys) (length qs) y ≡ answer l q
   -- RunRefused, RunFaults: an image that is refused; none, 65 rows and more, a slot too few, one too many, any other; 64 rows; and nothing
   -- else

@@ -5,7 +5,8 @@
 --     ReadBetween from to l r after   and of one between two places of l: what stands before and behind stays. Where they are
 --                                     not there in this order, it fails and all stays
 --     Writes many r       what is known of a write of so many bytes: one of none is done
-use Rattle.std.specs.Prelude.{ℕ, zero, suc, ◌-◌, ◌≤◌, ◌<◌, min, ◌≡◌, Bool, false, ◌||◌, List, length, take, drop, ℤ, pos, negsuc, eqb, Option, None, Some, Result, Ok, Err, IsOk, IsErr}
+use Rattle.std.specs.Prelude.{ℕ, zero, suc, ◌-◌, ◌≤◌, ◌<◌, min, ◌≡◌, Bool, false, ◌||◌, List, length, take, drop, ℤ, pos, negsuc, eqb}
+use Rattle.std.specs.Prelude.{Option, None, Some, Result, Ok, Err, IsOk, IsErr}
 use Rattle.std.specs.declared.io.Error.{Error}
 use Rattle.streams.specs.declared.fault.Fault.{Fault}
 
